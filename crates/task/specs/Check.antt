@@ -1,0 +1,96 @@
+-- The number that a set of tables gets (01, "Where each number is given"): 0, or the first in order that applies.
+use Prim.Native.Nat.{ℕ, zero, suc, _+_, _-_, _*_}
+use mathlib.Core.Bool.{Bool, true, false, not, _&&_}
+use mathlib.Core.List.{List}
+use lib.ListN.{length, getD}
+use lib.Dec.{leb, ltb, eqb}
+use Rattle.task.specs.declared.Head.{Head}
+use Rattle.task.specs.Bounded.{every}
+use Rattle.task.specs.Table.{Row, Operator, Lent, row-at, operator-at, FormulaKind, false-kind, true-kind, variable-kind, not-kind, and-kind, or-kind, implies-kind, equivalent-kind, unknown-formula, formula-kind, EffectKind, empty-kind, set-kind, clear-kind, both-kind, under-kind, unknown-effect, effect-kind}
+
+-- 6: V 512, F 1 to 4,096, E 4,096, O 256, W at most V − W. Over the integers: with V 0 and W 1, V − W in machine words would wrap and pass.
+unfoldable pub counts-kept : Head → Bool
+counts-kept h =
+    leb (h .variables) 512
+    && (leb (h .twins + h .twins) (h .variables)
+    && (leb 1 (h .formulas) && (leb (h .formulas) 4096 && (leb (h .effects) 4096 && leb (h .operators) 256))))
+
+-- 7
+unfoldable pub goal-kept : Head → Bool
+goal-kept h = ltb (h .goal) (h .formulas)
+
+-- 5
+unfoldable pub long-enough : Lent → Bool
+long-enough l =
+    leb (l .head .variables) (length (l .initial))
+    && (leb (l .head .twins) (length (l .twins))
+    && (leb (3 * l .head .formulas) (length (l .formulas))
+    && (leb (3 * l .head .effects) (length (l .effects)) && leb (3 * l .head .operators) (length (l .operators)))))
+
+-- 8
+unfoldable pub initial-kept : Lent → Bool
+initial-kept l = every (l .head .variables) (λ v. leb (getD (l .initial) v 0) 1)
+
+-- 9: twin row k names a variable below V − W (bound), and none that a twin row before it names. Not only the row just before: 0, 1, 0.
+unfoldable pub twin-kept : ℕ → List ℕ → ℕ → Bool
+twin-kept bound twins k = ltb (getD twins k 0) bound && every k (λ j. not (eqb (getD twins j 0) (getD twins k 0)))
+
+unfoldable pub twins-kept : Lent → Bool
+twins-kept l = every (l .head .twins) (twin-kept (l .head .variables - l .head .twins) (l .twins))
+
+-- 10: row i of formulas over v variables, its kind and its words. Kinds 0 and 1 use no word, 2 names a variable, 3 one formula, 4 to 7 two;
+-- a formula that is named has a lower number: row 3 "not 3" would be its own negation.
+unfoldable pub formula-words-kept : (v i : ℕ) → FormulaKind → (a b : ℕ) → Bool
+formula-words-kept v i false-kind a b = eqb a 0 && eqb b 0
+formula-words-kept v i true-kind a b = eqb a 0 && eqb b 0
+formula-words-kept v i variable-kind a b = ltb a v && eqb b 0
+formula-words-kept v i not-kind a b = ltb a i && eqb b 0
+formula-words-kept v i and-kind a b = ltb a i && ltb b i
+formula-words-kept v i or-kind a b = ltb a i && ltb b i
+formula-words-kept v i implies-kind a b = ltb a i && ltb b i
+formula-words-kept v i equivalent-kind a b = ltb a i && ltb b i
+formula-words-kept v i unknown-formula a b = false
+
+unfoldable pub formula-kept : (v i : ℕ) → Row → Bool
+formula-kept v i r = formula-words-kept v i (formula-kind (r .kind)) (r .a) (r .b)
+
+unfoldable pub formulas-kept : Lent → Bool
+formulas-kept l = every (l .head .formulas) (λ i. formula-kept (l .head .variables) i (row-at (l .formulas) i))
+
+-- 11: row i of effects over v variables and f formulas. Kind 0 uses no word, 1 and 2 name a variable, 3 two effects, 4 a formula and an effect.
+unfoldable pub effect-words-kept : (v f i : ℕ) → EffectKind → (a b : ℕ) → Bool
+effect-words-kept v f i empty-kind a b = eqb a 0 && eqb b 0
+effect-words-kept v f i set-kind a b = ltb a v && eqb b 0
+effect-words-kept v f i clear-kind a b = ltb a v && eqb b 0
+effect-words-kept v f i both-kind a b = ltb a i && ltb b i
+effect-words-kept v f i under-kind a b = ltb a f && ltb b i
+effect-words-kept v f i unknown-effect a b = false
+
+unfoldable pub effect-kept : (v f i : ℕ) → Row → Bool
+effect-kept v f i r = effect-words-kept v f i (effect-kind (r .kind)) (r .a) (r .b)
+
+unfoldable pub effects-kept : Lent → Bool
+effects-kept l =
+    every (l .head .effects) (λ i. effect-kept (l .head .variables) (l .head .formulas) i (row-at (l .effects) i))
+
+-- 12: an operator over f formulas and e effects. With E 0 no operator passes.
+unfoldable pub operator-kept : (f e : ℕ) → Operator → Bool
+operator-kept f e o = ltb (o .precondition) f && ltb (o .effect) e
+
+unfoldable pub operators-kept : Lent → Bool
+operators-kept l =
+    every (l .head .operators) (λ i. operator-kept (l .head .formulas) (l .head .effects) (operator-at (l .operators) i))
+
+-- the number, unless the rule is kept
+abbrev pub unless : Bool → ℕ → ℕ → ℕ
+unless true number rest = rest
+unless false number rest = number
+
+unfoldable pub refusal : Lent → ℕ
+refusal l =
+    unless (counts-kept (l .head)) 6
+    (unless (goal-kept (l .head)) 7
+    (unless (long-enough l) 5
+    (unless (initial-kept l) 8
+    (unless (twins-kept l) 9
+    (unless (formulas-kept l) 10 (unless (effects-kept l) 11 (unless (operators-kept l) 12 0)))))))
