@@ -1,1 +1,5 @@
 pub mod Bounded
+pub mod RowRules
+pub mod Held
+pub mod Passed
+pub mod Kept
