@@ -3,3 +3,4 @@ pub mod RowRules
 pub mod Held
 pub mod Passed
 pub mod Kept
+pub mod Words
