@@ -1,9 +1,9 @@
 -- `refusal` gives 0 exactly if the lent tables are long enough and the task that they hold keeps the rules.
-use Prim.Native.Nat.{ℕ, _-_, _≤_, _<_}
+use Prim.Native.Nat.{ℕ, _-_, _<_}
 use native.Mathlib.Omega.{arith}
 use mathlib.Core.Path.{_≡_, sym, _∙_}
-use lib.ListN.{length, getD}
-use Rattle.task.specs.Table.{Lent, task-of, row-at, operator-at, formula-kind, effect-kind}
+use lib.ListN.{length}
+use Rattle.task.specs.Table.{Lent, task-of}
 use Rattle.task.specs.Check.{refusal}
 use Rattle.task.specs.Rules.{Limits, Rules, LongEnough}
 use Rattle.task.proofs.Held.{length-initial, length-originals, length-formulas, length-effects, length-operators, initial-held, original-held, formula-held, effect-held, operator-held, goal-held}

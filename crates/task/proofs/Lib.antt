@@ -4,3 +4,5 @@ pub mod Held
 pub mod Passed
 pub mod Kept
 pub mod Words
+pub mod Trees
+pub mod Down
