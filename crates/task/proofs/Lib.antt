@@ -6,3 +6,4 @@ pub mod Kept
 pub mod Words
 pub mod Trees
 pub mod Down
+pub mod Values
