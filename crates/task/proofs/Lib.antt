@@ -7,3 +7,4 @@ pub mod Words
 pub mod Trees
 pub mod Down
 pub mod Values
+pub mod Marks
