@@ -1,2 +1,11 @@
 pub mod Bounded
 pub mod Refusals
+pub mod RowRules
+pub mod Held
+pub mod Passed
+pub mod Kept
+pub mod Words
+pub mod Trees
+pub mod Down
+pub mod Values
+pub mod Marks

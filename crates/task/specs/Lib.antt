@@ -7,3 +7,4 @@ pub mod Semantics
 pub mod Tree
 pub mod Run
 pub mod Corresponding
+pub mod Words
