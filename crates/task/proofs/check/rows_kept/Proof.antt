@@ -7,7 +7,7 @@ use borrow.Author.Needs.{needs}
 use Rattle.task.specs.Bounded.{every}
 use Rattle.task.specs.Tables.{row-kept}
 use Rattle.task.proofs.Bounded.{every-none, every-more, every-stops, every-ends}
-use Rattle.task.proofs.Refusals.{row-words}
+use Rattle.task.proofs.Refusals.{row-by-words}
 use Rattle.task.proofs.check.rows_kept.Statement.{statement}
 use Rattle.task.proofs.check.rows_kept.Tie as tie
 use Rattle.task.proofs.check.rows_kept.Reads as reads
@@ -66,7 +66,7 @@ row-kept-requires c κs = search needs
 
 -- src/check.rt:84:13
 returns : tie.Need-returns Inv-loop μ-loop
-returns c = every-stops _ _ _ (c .before .before .before .before .before .loop-test .taken) (sym (row-words (c .before .before .before .before .before .before .before .before .args .table) (c .before .before .before .before .before .before .before .before .args .head) (c .before .before .before .before .before .before .before .before .args .words .now) (c .before .before .before .before .before .before .loop .i)) ∙ sym (c .before .row-kept .ensures) ∙ not-true _ (c .if1 .taken))
+returns c = every-stops _ _ _ (c .before .before .before .before .before .loop-test .taken) (sym (row-by-words (c .before .before .before .before .before .before .before .before .args .table) (c .before .before .before .before .before .before .before .before .args .head) (c .before .before .before .before .before .before .before .before .args .words .now) (c .before .before .before .before .before .before .loop .i)) ∙ sym (c .before .row-kept .ensures) ∙ not-true _ (c .if1 .taken))
 
 -- src/check.rt:86:9
 add-i : tie.Need-add-i Inv-loop μ-loop
@@ -79,7 +79,7 @@ loop-less c = omega arith
 -- src/check.rt:81:5
 loop-again : tie.Need-loop-again Inv-loop μ-loop
 loop-again c =
-    (omega arith, every-more _ _ ((c .before .before .before .before .before .before .loop .inv) .1) (sym (row-words (c .before .before .before .before .before .before .before .before .args .table) (c .before .before .before .before .before .before .before .before .args .head) (c .before .before .before .before .before .before .before .before .args .words .now) (c .before .before .before .before .before .before .loop .i)) ∙ sym (c .before .row-kept .ensures) ∙ not-false _ (c .if1 .left)))
+    (omega arith, every-more _ _ ((c .before .before .before .before .before .before .loop .inv) .1) (sym (row-by-words (c .before .before .before .before .before .before .before .before .args .table) (c .before .before .before .before .before .before .before .before .args .head) (c .before .before .before .before .before .before .before .before .args .words .now) (c .before .before .before .before .before .before .loop .i)) ∙ sym (c .before .row-kept .ensures) ∙ not-false _ (c .if1 .left)))
 
 -- src/check.rt:76:1
 returns-2 : tie.Need-returns-2 Inv-loop μ-loop
