@@ -8,3 +8,5 @@ pub mod Trees
 pub mod Down
 pub mod Values
 pub mod Marks
+pub mod Marking
+pub mod MarkingLoop
