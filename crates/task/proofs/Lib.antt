@@ -10,3 +10,4 @@ pub mod Values
 pub mod Marks
 pub mod Marking
 pub mod MarkingLoop
+pub mod Changes
