@@ -11,3 +11,4 @@ pub mod Marks
 pub mod Marking
 pub mod MarkingLoop
 pub mod Changes
+pub mod Step

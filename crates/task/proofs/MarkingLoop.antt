@@ -108,7 +108,21 @@ module _ (s : List ℕ) (formulas effects : List Row) (root v f : ℕ) (down : E
                     (before .passed-on j m b (looked .above j l q)));
               }
 
-  -- the rows below n are looked at
+  -- a loop may begin above the root, at the last row
+  pub marking-above :
+      (i k : ℕ) (marks : List ℕ)
+      → i ≤ k
+      → Marking s formulas effects root i marks
+      → Marking s formulas effects root k marks
+  marking-above i k marks h before =
+      record {
+        room = before .room;
+        root-marked = before .root-marked;
+        sound = before .sound;
+        passed-on = λ j l. before .passed-on j (omega arith);
+      }
+
+  -- the rows below k are looked at
   pub marking-down :
       (k n : ℕ) (values marks : List ℕ)
       → k ≤ length effects
