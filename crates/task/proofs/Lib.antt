@@ -12,3 +12,4 @@ pub mod Marking
 pub mod MarkingLoop
 pub mod Changes
 pub mod Step
+pub mod KindNumbers
