@@ -13,3 +13,4 @@ pub mod MarkingLoop
 pub mod Changes
 pub mod Step
 pub mod KindNumbers
+pub mod Ways
