@@ -1,1 +1,3 @@
+pub mod Growth
+pub mod Steady
 pub mod Examples

@@ -1,4 +1,5 @@
 pub mod Builder
+pub mod Growth
 pub mod Image
 pub mod Conditions
 pub mod Operators
