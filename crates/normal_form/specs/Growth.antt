@@ -1,7 +1,7 @@
 -- Building only adds: what a state has, every later state has at the same place. Building again finds it there.
 use mathlib.Core.Path.{_≡_}
 use mathlib.Core.List.{List, _++_}
-use Rattle.compiler.specs.Builder.{St, Build}
+use Rattle.normal_form.specs.Builder.{St, Build}
 
 pub record Prefix {A : Type 0} (l m : List A) : Type 0 where
   pub rest : List A

@@ -2,7 +2,7 @@
 -- the code work and changes no result, since building again in a grown state finds every row.
 use Prim.Native.Nat.{ℕ}
 use Rattle.task.specs.Semantics.{Formula, falsum, verum, variable, negation, conjunction, disjunction, implication, equivalence}
-use Rattle.compiler.specs.Builder.{Build, give, pair, variable-row, twin-row, Polarity, plain, negated, opposite, falsity, truth}
+use Rattle.normal_form.specs.Builder.{Build, give, pair, variable-row, twin-row, Polarity, plain, negated, opposite, falsity, truth}
 
 -- The image of a variable is that variable; its negated image is its twin. Were both the twin, v0 = 1 would read as false.
 unfoldable pub literal : ℕ → Polarity → ℕ → Build ℕ

@@ -3,9 +3,9 @@ use Prim.Native.Nat.{ℕ, _-_}
 use mathlib.Core.List.{List, map, _++_}
 use lib.ListN.{length, getD}
 use Rattle.task.specs.Table.{Task}
-use Rattle.compiler.specs.Builder.{Got, start}
-use Rattle.compiler.specs.Operators.{Parts, parts}
-use Rattle.compiler.specs.Assembly.{Assembled, assemble, unassembled}
+use Rattle.normal_form.specs.Builder.{Got, start}
+use Rattle.normal_form.specs.Operators.{Parts, parts}
+use Rattle.normal_form.specs.Assembly.{Assembled, assemble, unassembled}
 
 -- all that is built, formulas and twins, before the first rule
 unfoldable pub built : Task → Got Parts

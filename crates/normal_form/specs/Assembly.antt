@@ -6,8 +6,8 @@ use lib.ListN.{length}
 use lib.Dec.{eqb, ltb}
 use Rattle.task.specs.Table.{Row, Operator}
 use Rattle.task.specs.Semantics.{Atom, sets, clears}
-use Rattle.compiler.specs.Builder.{place}
-use Rattle.compiler.specs.Operators.{Changes, Built}
+use Rattle.normal_form.specs.Builder.{place}
+use Rattle.normal_form.specs.Operators.{Changes, Built}
 
 -- A rule: an atom under the row that is its condition.
 pub record Rule : Type 0 where

@@ -8,9 +8,9 @@ use Rattle.task.specs.Table.{Task}
 use Rattle.task.specs.Semantics.{Effect, sets, clears}
 use Rattle.task.specs.Tree.{formula-of}
 use Rattle.task.specs.Run.{operator-of, effect-of-operator}
-use Rattle.compiler.specs.Builder.{Build, give, bind, each, join, plain, negated}
-use Rattle.compiler.specs.Image.{image}
-use Rattle.compiler.specs.Conditions.{condition}
+use Rattle.normal_form.specs.Builder.{Build, give, bind, each, join, plain, negated}
+use Rattle.normal_form.specs.Image.{image}
+use Rattle.normal_form.specs.Conditions.{condition}
 
 -- Of a variable under an operator: the rows under which it is set and cleared, never both.
 pub record Changes : Type 0 where

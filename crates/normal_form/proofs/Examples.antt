@@ -10,12 +10,12 @@ use Rattle.task.specs.Rules.{no-row}
 use Rattle.task.specs.Tree.{formula-node, formula-within, formula-of, effect-node, effect-within, effect-of}
 use Rattle.task.specs.Semantics.{holds, effcond, value-after, apply}
 use Rattle.task.specs.Run.{operator-of, effect-of-operator}
-use Rattle.compiler.specs.Builder.{give, bind, each, place, kept, same-row, row, twin, variable-row, twin-row, start, choice, joined, join, pair}
-use Rattle.compiler.specs.Image.{literal, image}
-use Rattle.compiler.specs.Conditions.{guarded, condition}
-use Rattle.compiler.specs.Operators.{deletes-of, changes-of, built-operator, parts}
-use Rattle.compiler.specs.Assembly.{rule, with-twin, rules-of, rules, atom-row, rule-rows, write-rule, write-rules, assemble-operator, assemble, unassembled}
-use Rattle.compiler.specs.Finished.{built, assembled, twin-values, finished}
+use Rattle.normal_form.specs.Builder.{give, bind, each, place, kept, same-row, row, twin, variable-row, twin-row, start, choice, joined, join, pair}
+use Rattle.normal_form.specs.Image.{literal, image}
+use Rattle.normal_form.specs.Conditions.{guarded, condition}
+use Rattle.normal_form.specs.Operators.{deletes-of, changes-of, built-operator, parts}
+use Rattle.normal_form.specs.Assembly.{rule, with-twin, rules-of, rules, atom-row, rule-rows, write-rule, write-rules, assemble-operator, assemble, unassembled}
+use Rattle.normal_form.specs.Finished.{built, assembled, twin-values, finished}
 
 abbrev words : ℕ → ℕ → ℕ → Row
 words k a b = record { kind = k; a = a; b = b }

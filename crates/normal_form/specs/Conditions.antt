@@ -3,8 +3,8 @@ use Prim.Native.Nat.{ℕ}
 use mathlib.Core.Bool.{cond}
 use lib.Dec.{eqb}
 use Rattle.task.specs.Semantics.{Formula, Atom, Effect, empty, atomic, both, under, same-atom}
-use Rattle.compiler.specs.Builder.{Build, give, bind, join, pair, Polarity, opposite, falsity, truth}
-use Rattle.compiler.specs.Image.{image}
+use Rattle.normal_form.specs.Builder.{Build, give, bind, join, pair, Polarity, opposite, falsity, truth}
+use Rattle.normal_form.specs.Image.{image}
 
 -- Under formula f, with c built for the inner effect: if c is false (dually true), so is the answer and the formula is not built; else f's
 -- image (dually negated image) and c are joined, in that order. Built all the same, "not v0" over an empty effect would bring v0's twin.

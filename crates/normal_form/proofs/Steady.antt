@@ -6,12 +6,12 @@ use lib.Dec.{eqb}
 use Rattle.task.specs.Table.{Task}
 use Rattle.task.specs.Semantics.{Formula, falsum, verum, variable, negation, conjunction, disjunction, implication, equivalence, Atom, Effect, empty, atomic, both, under, sets, clears}
 use Rattle.task.specs.Run.{effect-of-operator}
-use Rattle.compiler.specs.Builder.{Polarity, plain, negated, opposite, falsity}
-use Rattle.compiler.specs.Growth.{Steady}
-use Rattle.compiler.specs.Image.{literal, image}
-use Rattle.compiler.specs.Conditions.{guarded, condition}
-use Rattle.compiler.specs.Operators.{deletes-of, changes-of, built-operator, parts}
-use Rattle.compiler.proofs.Growth.{steady-give, steady-bind, steady-variable-row, steady-twin-row, steady-join, steady-pair, steady-each, steady-cond}
+use Rattle.normal_form.specs.Builder.{Polarity, plain, negated, opposite, falsity}
+use Rattle.normal_form.specs.Growth.{Steady}
+use Rattle.normal_form.specs.Image.{literal, image}
+use Rattle.normal_form.specs.Conditions.{guarded, condition}
+use Rattle.normal_form.specs.Operators.{deletes-of, changes-of, built-operator, parts}
+use Rattle.normal_form.proofs.Growth.{steady-give, steady-bind, steady-variable-row, steady-twin-row, steady-join, steady-pair, steady-each, steady-cond}
 
 pub steady-literal : (n : ℕ) (p : Polarity) (v : ℕ) → Steady (literal n p v)
 unfolding literal

@@ -6,8 +6,8 @@ use mathlib.Core.List.{List, [], _∷_, _++_, append-nil, append-assoc}
 use lib.Dec.{eqb}
 use borrow.Author.Tests.{eq-eqb}
 use Rattle.task.specs.Table.{Row}
-use Rattle.compiler.specs.Builder.{St, Got, Build, give, bind, each, place, kept, same-row, row, twin, variable-row, twin-row, Polarity, Choice, zeroth, left, right, fresh, choice, joined, join, pair}
-use Rattle.compiler.specs.Growth.{Prefix, Grows, Steady}
+use Rattle.normal_form.specs.Builder.{St, Got, Build, give, bind, each, place, kept, same-row, row, twin, variable-row, twin-row, Polarity, Choice, zeroth, left, right, fresh, choice, joined, join, pair}
+use Rattle.normal_form.specs.Growth.{Prefix, Grows, Steady}
 
 module _ {A : Type 0} where
   pub prefix-refl : (l : List A) → Prefix l l
