@@ -1,3 +1,5 @@
 pub mod Growth
 pub mod Steady
+pub mod Place
+pub mod Fine
 pub mod Examples
