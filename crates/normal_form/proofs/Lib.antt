@@ -2,4 +2,5 @@ pub mod Growth
 pub mod Steady
 pub mod Place
 pub mod Fine
+pub mod Meaning
 pub mod Examples
