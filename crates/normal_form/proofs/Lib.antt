@@ -3,4 +3,5 @@ pub mod Steady
 pub mod Place
 pub mod Fine
 pub mod Meaning
+pub mod MeaningImage
 pub mod Examples

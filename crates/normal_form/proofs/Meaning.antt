@@ -4,7 +4,7 @@ use native.Mathlib.Omega.{arith}
 use mathlib.Core.Path.{_≡_, refl, sym, ap, ap₂, subst, _∙_}
 use mathlib.Core.Bool.{Bool, true, false, cond, not, _&&_, _||_}
 use mathlib.Core.List.{List, [], _∷_, _++_}
-use lib.ListN.{length, getD, length-append}
+use lib.ListN.{length, getD, length-append, List·getD-append}
 use lib.Dec.{eqb}
 use borrow.Author.Tests.{eqb-true}
 use Rattle.task.specs.Table.{Row, formula-kind}
@@ -39,6 +39,9 @@ pub record Good {A : Type 0} (n : ℕ) (P : St → A → Type 0) (g : Got A) : T
 
 pub longer : {A : Type 0} (l m : List A) → Prefix l m → length l ≤ length m
 longer l m p = omega (arith, ap length (p .whole) ∙ length-append l (p .rest))
+
+pub prefix-at : {A : Type 0} (l m : List A) (d : A) (k : ℕ) → Prefix l m → k < length l → getD m k d ≡ getD l k d
+prefix-at l m d k p h = rw (p .whole) (List·getD-append l (p .rest) d k h)
 
 abbrev pub seen-before : {n : ℕ} {s t : St} → Grows s t → Seen n t → Seen n s
 seen-before g w =
