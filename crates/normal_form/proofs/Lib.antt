@@ -4,4 +4,5 @@ pub mod Place
 pub mod Fine
 pub mod Meaning
 pub mod MeaningImage
+pub mod MeaningCondition
 pub mod Examples
