@@ -5,4 +5,5 @@ pub mod Fine
 pub mod Meaning
 pub mod MeaningImage
 pub mod MeaningCondition
+pub mod MeaningParts
 pub mod Examples
