@@ -6,4 +6,5 @@ pub mod Meaning
 pub mod MeaningImage
 pub mod MeaningCondition
 pub mod MeaningParts
+pub mod MeaningWritten
 pub mod Examples
