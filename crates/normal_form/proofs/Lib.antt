@@ -7,4 +7,5 @@ pub mod MeaningImage
 pub mod MeaningCondition
 pub mod MeaningParts
 pub mod MeaningWritten
+pub mod MeaningRules
 pub mod Examples
