@@ -8,4 +8,5 @@ pub mod MeaningCondition
 pub mod MeaningParts
 pub mod MeaningWritten
 pub mod MeaningRules
+pub mod MeaningAssembly
 pub mod Examples

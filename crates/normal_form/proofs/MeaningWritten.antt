@@ -161,7 +161,7 @@ module _ (v : ℕ) (formulas : List Row) (fd : FormulasDown v formulas) where
         → effcond c l (effect-of formulas (after .rows) (after .stands))
         ≡ (effcond c l (effect-of formulas (w .rows) (w .stands)) || acts formulas c l rs)
 
-  effect-empty :
+  pub effect-empty :
       (rows : List Row)
       → EffectsDown v (length formulas) rows
       → 0 < length rows
