@@ -9,4 +9,5 @@ pub mod MeaningParts
 pub mod MeaningWritten
 pub mod MeaningRules
 pub mod MeaningAssembly
+pub mod MeaningFinished
 pub mod Examples
