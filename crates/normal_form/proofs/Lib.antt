@@ -10,4 +10,5 @@ pub mod MeaningWritten
 pub mod MeaningRules
 pub mod MeaningAssembly
 pub mod MeaningFinished
+pub mod Demand
 pub mod Examples
