@@ -10,5 +10,6 @@ pub mod MeaningWritten
 pub mod MeaningRules
 pub mod MeaningAssembly
 pub mod MeaningFinished
+pub mod MeaningStep
 pub mod Demand
 pub mod Examples

@@ -1,28 +1,27 @@
 -- The assembled operators: each has the precondition and cost that were built, and an effect that acts where its own rules do.
-use Prim.Native.Nat.{ℕ, zero, suc, _+_, _<_, _≤_}
+use Prim.Native.Nat.{ℕ, suc, _+_, _<_}
 use native.Mathlib.Nat.{not-suc-le-zero}
 use native.Mathlib.Omega.{arith}
-use native.Mathlib.Decide.{decLt}
-use mathlib.Core.Path.{_≡_, refl, sym, ap, ap₂, subst, _∙_}
-use mathlib.Core.Bool.{Bool, true, false, cond, _&&_, _||_}
-use mathlib.Core.List.{List, [], _∷_, _++_, append-nil, foldl}
+use mathlib.Core.Path.{_≡_, refl, sym, ap, _∙_}
+use mathlib.Core.Bool.{Bool, true, false, cond, _||_}
+use mathlib.Core.List.{List, [], _∷_, _++_, append-nil}
 use lib.ListN.{length, getD, length-append, List·getD-append}
 use lib.Seq.{getD-at, append-snoc}
 use lib.Dec.{eqb, ltb}
 use borrow.Author.Tests.{ltb-true}
 use Rattle.task.specs.Table.{Row, Operator, effect-kind}
 use Rattle.task.specs.Rules.{no-row, no-operator}
-use Rattle.task.specs.Semantics.{Atom, sets, clears, effcond, Effect, empty}
-use Rattle.task.specs.Tree.{formula-of, effect-node, effect-of}
-use Rattle.task.proofs.Trees.{FormulasDown, EffectsDown, effect-unfolds}
+use Rattle.task.specs.Semantics.{Atom, sets, clears, effcond, Effect}
+use Rattle.task.specs.Tree.{effect-of}
+use Rattle.task.proofs.Trees.{FormulasDown, EffectsDown}
 use Rattle.task.proofs.Down.{effects-none, effects-more}
 use Rattle.normal_form.specs.Builder.{place}
 use Rattle.normal_form.specs.Growth.{Prefix}
 use Rattle.normal_form.specs.Operators.{Changes, Built}
 use Rattle.normal_form.specs.Assembly.{Rule, rule, with-twin, rules-of, rules, Written, write-rules, Assembled, assemble-operator, assemble, unassembled}
 use Rattle.normal_form.proofs.Place.{one-more}
-use Rattle.normal_form.proofs.Meaning.{longer, prefix-at}
-use Rattle.normal_form.proofs.MeaningWritten.{atom-variable, RuleKept, RulesKept, WrittenWell, Wrote, wrote-rules, acts, effect-old, effect-empty}
+use Rattle.normal_form.proofs.Meaning.{longer}
+use Rattle.normal_form.proofs.MeaningWritten.{atom-variable, RulesKept, wrote-rules, acts, effect-old, effect-empty}
 
 abbrev pub no-changes : Changes
 no-changes = record { variable = 0; adds = 0; deletes = 0 }

@@ -1,16 +1,16 @@
 -- The effect rows of an operator act where its rules do.
-use Prim.Native.Nat.{ℕ, zero, suc, _+_, _<_, _≤_}
+use Prim.Native.Nat.{ℕ, _+_, _<_}
 use native.Mathlib.Omega.{arith}
-use mathlib.Core.Path.{_≡_, refl, sym, ap, ap₂, subst, _∙_}
+use mathlib.Core.Path.{_≡_, refl, sym, ap, ap₂, _∙_}
 use mathlib.Core.Bool.{Bool, true, false, cond, _&&_, _||_}
-use mathlib.Core.List.{List, [], _∷_, _++_, append-nil, append-assoc, foldl}
+use mathlib.Core.List.{List, [], _∷_, _++_, append-nil, append-assoc}
 use lib.ListN.{length, getD, length-append}
 use lib.Seq.{getD-at, append-snoc}
 use lib.Dec.{eqb}
 use borrow.Author.Tests.{eqb-true}
 use Rattle.task.specs.Table.{Row, effect-kind}
 use Rattle.task.specs.Rules.{no-row}
-use Rattle.task.specs.Semantics.{holds, Atom, sets, clears, Effect, empty, atomic, both, under, same-atom, effcond}
+use Rattle.task.specs.Semantics.{holds, Atom, sets, clears, empty, atomic, both, under, same-atom, effcond}
 use Rattle.task.specs.Tree.{formula-of, effect-node, effect-of}
 use Rattle.task.proofs.Trees.{FormulasDown, EffectKept, EffectsDown, effect-unfolds, effect-grows}
 use Rattle.task.proofs.Down.{effects-more}
