@@ -4,3 +4,7 @@ pub mod Examples
 pub mod ShapeRule
 pub mod ShapeWritten
 pub mod ShapeAssembled
+pub mod ShapeEach
+pub mod ShapeRules
+pub mod ShapeFlat
+pub mod ShapeFinished

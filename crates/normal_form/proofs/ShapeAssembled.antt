@@ -72,6 +72,11 @@ module _ (n : ℕ) (twins : List ℕ) where
         empty-row = prefix-at p 0 no-row (g .down .sound .there) ∙ g .empty-row;
       }
 
+  pub assemble-ground : (w : Assembled) (os : List Built) → Ground w → Ground (assemble n twins w os)
+  unfolding assemble
+  assemble-ground w [] g = g
+  assemble-ground w (b ∷ bs) g = assemble-ground (assemble-operator n twins w b) bs (operator-ground w b g)
+
   -- what is assembled stays
   pub assemble-effects :
       (w : Assembled) (os : List Built) → Prefix (w .effects) (assemble n twins w os .effects)

@@ -5,3 +5,4 @@ pub mod Conditions
 pub mod Operators
 pub mod Assembly
 pub mod Finished
+pub mod Flat

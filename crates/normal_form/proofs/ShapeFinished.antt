@@ -1,0 +1,77 @@
+-- The operators of the finished task: as many as the source has, and the effect of each is the chain of its rules, a flat effect.
+use Prim.Native.Nat.{ℕ, zero, suc, _+_, _<_, _≤_}
+use native.Mathlib.Nat.{not-suc-le-zero}
+use native.Mathlib.Omega.{arith}
+use native.Mathlib.Decide.{decLt}
+use mathlib.Core.Path.{_≡_, refl, sym, ap, subst, _∙_}
+use mathlib.Core.List.{List, [], _∷_, _++_}
+use lib.ListN.{length, getD, List·getD-eq-default}
+use Rattle.task.specs.Table.{Row, Task, Operator, effect-kind}
+use Rattle.task.specs.Rules.{no-row, no-operator}
+use Rattle.task.specs.Semantics.{empty}
+use Rattle.task.specs.Tree.{effect-node, effect-within, effect-of}
+use Rattle.task.specs.Run.{operator-of, effect-of-operator}
+use Rattle.normal_form.specs.Builder.{St, Build, give, bind, each, start}
+use Rattle.normal_form.specs.Operators.{Changes, Built, changes-of, built-operator, parts}
+use Rattle.normal_form.specs.Assembly.{Rule, rules, Assembled, assemble, unassembled}
+use Rattle.normal_form.specs.Finished.{built, assembled, finished}
+use Rattle.normal_form.specs.Flat.{Flat, nothing}
+use Rattle.normal_form.proofs.ShapeWritten.{chain}
+use Rattle.normal_form.proofs.ShapeAssembled.{Ground, ground-unassembled, assemble-ground, assemble-length, Operated, operated-all}
+use Rattle.normal_form.proofs.ShapeEach.{each-length, Upwards, changes-upwards}
+use Rattle.normal_form.proofs.ShapeFlat.{rules-distinct, flat-chain}
+
+-- An operator that no task has: what stands past the end of what is built.
+abbrev pub no-built : Built
+no-built = record { precondition = 0; changes = []; cost = 0 }
+
+-- what was built for operator o
+abbrev pub built-at : Task → ℕ → Built
+built-at t o = getD (built t .value .operators) o no-built
+
+module _ (t : Task) where
+  pub built-operators : length (built t .value .operators) ≡ length (t .operators)
+  unfolding built parts bind give
+  built-operators = each-length (length (t .operators)) (built-operator t) start
+
+  pub finished-operators : length (finished t .operators) ≡ length (t .operators)
+  unfolding finished assembled unassembled
+  finished-operators = ?
+
+  -- operator o of the finished task is what was built for operator o
+  pub finished-operator :
+      (o : ℕ)
+      → o < length (t .operators)
+      → Operated (length (t .initial)) (finished t .originals) (finished t .formulas) (assembled t) o (built-at t o)
+  unfolding finished assembled
+  finished-operator o h =
+      operated-all (length (t .initial)) (built t .st .twins) (built t .st .rows) (built t .value .operators) o no-built
+      (rw built-operators h)
+
+  pub operator-chain :
+      (o : ℕ)
+      → o < length (t .operators)
+      → effect-of-operator (finished t) o
+      ≡ chain (finished t .formulas) (rules (length (t .initial)) (finished t .originals) (built-at t o .changes))
+  unfolding finished effect-of-operator operator-of
+  operator-chain o h = finished-operator o h .tree
+
+  -- a number that is no operator's has the empty effect
+  pub operator-past : (o : ℕ) → length (t .operators) ≤ o → effect-of-operator (finished t) o ≡ empty
+  unfolding finished effect-of-operator operator-of
+  operator-past o h = ?
+
+  -- the changes that were built are those of the source variables, upwards
+  pub built-upwards : (o : ℕ) → o < length (t .operators) → Upwards (length (t .initial)) (built-at t o .changes)
+  built-upwards o h = ?
+
+  pub flat : (o : ℕ) → Flat (effect-of-operator (finished t) o)
+  flat o = go (decLt o (length (t .operators)))
+    where
+      go : Dec (o < length (t .operators)) → Flat (effect-of-operator (finished t) o)
+      go (yes h) =
+          rw (operator-chain o h)
+          (flat-chain (finished t .formulas)
+          (rules (length (t .initial)) (finished t .originals) (built-at t o .changes))
+          (rules-distinct (length (t .initial)) (finished t .originals) (built-upwards o h) (omega arith)))
+      go (no h) = rw (operator-past o (omega arith)) nothing
