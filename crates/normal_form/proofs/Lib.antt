@@ -1,5 +1,11 @@
 pub mod Growth
 pub mod Steady
+pub mod Place
+pub mod Fine
+pub mod Meaning
+pub mod MeaningImage
+pub mod MeaningCondition
+pub mod MeaningParts
 pub mod Examples
 pub mod ShapeRule
 pub mod ShapeWritten
