@@ -18,7 +18,7 @@ use Rattle.normal_form.specs.Finished.{built, assembled, finished}
 use Rattle.normal_form.specs.Flat.{Flat, nothing}
 use Rattle.normal_form.proofs.ShapeWritten.{chain}
 use Rattle.normal_form.proofs.ShapeAssembled.{Ground, ground-unassembled, assemble-ground, assemble-length, Operated, operated-all}
-use Rattle.normal_form.proofs.ShapeEach.{each-length, Upwards, changes-upwards}
+use Rattle.normal_form.proofs.ShapeEach.{each-length, each-values, Upwards, changes-upwards}
 use Rattle.normal_form.proofs.ShapeFlat.{rules-distinct, flat-chain}
 
 -- An operator that no task has: what stands past the end of what is built.
@@ -36,7 +36,9 @@ module _ (t : Task) where
 
   pub finished-operators : length (finished t .operators) ≡ length (t .operators)
   unfolding finished assembled unassembled
-  finished-operators = ?
+  finished-operators =
+      assemble-length (length (t .initial)) (built t .st .twins) unassembled (built t .value .operators)
+      ∙ omega (arith, built-operators)
 
   -- operator o of the finished task is what was built for operator o
   pub finished-operator :
@@ -58,12 +60,21 @@ module _ (t : Task) where
 
   -- a number that is no operator's has the empty effect
   pub operator-past : (o : ℕ) → length (t .operators) ≤ o → effect-of-operator (finished t) o ≡ empty
-  unfolding finished effect-of-operator operator-of
-  operator-past o h = ?
+  unfolding finished effect-of-operator operator-of effect-of effect-within effect-node effect-kind assembled
+  operator-past o h =
+      rw (
+        List·getD-eq-default (finished t .operators) no-operator {n = o} (omega (arith, finished-operators)),
+        assemble-ground (length (t .initial)) (built t .st .twins) unassembled (built t .value .operators) ground-unassembled
+            .empty-row,
+      )
 
   -- the changes that were built are those of the source variables, upwards
   pub built-upwards : (o : ℕ) → o < length (t .operators) → Upwards (length (t .initial)) (built-at t o .changes)
-  built-upwards o h = ?
+  unfolding built parts built-operator bind give
+  built-upwards o h =
+      each-values (λ k b. Upwards (length (t .initial)) (b .changes)) no-built (built-operator t)
+      (λ k s. changes-upwards (length (t .initial)) (length (t .initial)) (effect-of-operator t k) _)
+      (length (t .operators)) start o h
 
   pub flat : (o : ℕ) → Flat (effect-of-operator (finished t) o)
   flat o = go (decLt o (length (t .operators)))

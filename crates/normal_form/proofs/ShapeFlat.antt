@@ -95,11 +95,12 @@ module _ (n : ℕ) (twins : List ℕ) where
       → All (λ r. owner-of r ≡ m) rs
       → Absent l (atoms rs)
   absent-owned l m h none = tt
-  absent-owned l m h (also {x = r} p ps) =
-      (λ e.
-      let q : owner (atom-variable l) ≡ owner-of r = ap (λ (a : Atom). owner (atom-variable a)) e in
-      omega arith,
-      absent-owned l m h ps)
+  absent-owned l m h (also {x = r} p ps) = (
+    λ e.
+        let q : owner (atom-variable l) ≡ owner-of r = ap (λ (a : Atom). owner (atom-variable a)) e in
+        omega arith,
+    absent-owned l m h ps,
+  )
 
   distinct-append :
       (m : ℕ) (rs qs : List Rule)
@@ -140,9 +141,10 @@ module _ (n : ℕ) (twins : List ℕ) where
       go true false false = (tt, tt)
       go false true true = ((set-not-clear v w, tt), (tt, tt))
       go false true false = (tt, tt)
-      go false false true =
-          ((set-not-clear v w, (set-not-clear v v, (sets-differ v w other, tt))),
-          ((clears-differ w v (λ e. other (sym e)), (clear-not-set w w, tt)), ((clear-not-set v w, tt), (tt, tt))))
+      go false false true = (
+        (set-not-clear v w, (set-not-clear v v, (sets-differ v w other, tt))),
+        ((clears-differ w v (λ e. other (sym e)), (clear-not-set w w, tt)), ((clear-not-set v w, tt), (tt, tt))),
+      )
       go false false false = ((set-not-clear v v, tt), (tt, tt))
 
   -- all rules of the variables below m: none is of m
@@ -158,7 +160,7 @@ module _ (n : ℕ) (twins : List ℕ) where
       → Apart (suc m) (rules n twins cs ++ rules-of n twins c)
   apart-next m cs c e h a =
       let own : All (λ r. owner-of r ≡ m) (rules-of n twins c) =
-          all-map (λ r q. q ∙ e) (rules-of-owned c (omega arith))
+      all-map (λ r q. q ∙ e) (rules-of-owned c (omega arith))
       in
       record {
         below = all-append (all-map (λ r q. omega arith) (a .below)) (all-map (λ r q. omega arith) own);
