@@ -14,3 +14,6 @@ pub mod ShapeEach
 pub mod ShapeRules
 pub mod ShapeFlat
 pub mod ShapeFinished
+pub mod ShapeEffects
+pub mod ShapePositive
+pub mod ShapePassed

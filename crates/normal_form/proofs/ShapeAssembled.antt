@@ -3,20 +3,18 @@
 use Prim.Native.Nat.{ℕ, zero, suc, _+_, _<_}
 use native.Mathlib.Nat.{not-suc-le-zero}
 use native.Mathlib.Omega.{arith}
-use mathlib.Core.Path.{_≡_, refl, sym, ap, subst, _∙_}
+use mathlib.Core.Path.{_≡_, refl, ap, subst, _∙_}
 use mathlib.Core.List.{List, [], _∷_, _++_}
 use lib.ListN.{length, getD, length-append, List·getD-append}
 use lib.Seq.{getD-append-seam}
 use Rattle.task.specs.Table.{Row, Operator, effect-kind}
 use Rattle.task.specs.Rules.{no-row, no-operator}
 use Rattle.task.specs.Tree.{effect-of}
-use Rattle.task.proofs.Trees.{EffectsDown}
 use Rattle.task.proofs.Down.{effects-none, effects-more}
 use Rattle.normal_form.specs.Growth.{Prefix}
 use Rattle.normal_form.specs.Operators.{Built}
-use Rattle.normal_form.specs.Assembly.{Rule, rules, Written, write-rules, Assembled, assemble-operator, assemble, unassembled}
+use Rattle.normal_form.specs.Assembly.{rules, Written, write-rules, Assembled, assemble-operator, assemble, unassembled}
 use Rattle.normal_form.proofs.Growth.{prefix-refl, prefix-trans}
-use Rattle.normal_form.proofs.ShapeRule.{Sound}
 use Rattle.normal_form.proofs.ShapeWritten.{chain, Written-down, rules-down, rules-prefix, tree-kept, written-tree}
 
 -- before an operator's first rule: effect row 0, the empty effect, stands
@@ -45,7 +43,7 @@ ground-unassembled =
       empty-row = refl;
     }
 
-prefix-length : {A : Type 0} {l m : List A} → Prefix l m → (i : ℕ) → i < length l → i < length m
+pub prefix-length : {A : Type 0} {l m : List A} → Prefix l m → (i : ℕ) → i < length l → i < length m
 prefix-length {A} {l} {m} p i h = omega (arith, length-append l (p .rest), ap length (p .whole))
 
 prefix-at :

@@ -1,23 +1,22 @@
 -- The operators of the finished task: as many as the source has, and the effect of each is the chain of its rules, a flat effect.
-use Prim.Native.Nat.{ℕ, zero, suc, _+_, _<_, _≤_}
-use native.Mathlib.Nat.{not-suc-le-zero}
+use Prim.Native.Nat.{ℕ, _<_, _≤_}
 use native.Mathlib.Omega.{arith}
 use native.Mathlib.Decide.{decLt}
-use mathlib.Core.Path.{_≡_, refl, sym, ap, subst, _∙_}
-use mathlib.Core.List.{List, [], _∷_, _++_}
+use mathlib.Core.Path.{_≡_, _∙_}
+use mathlib.Core.List.{[]}
 use lib.ListN.{length, getD, List·getD-eq-default}
-use Rattle.task.specs.Table.{Row, Task, Operator, effect-kind}
-use Rattle.task.specs.Rules.{no-row, no-operator}
+use Rattle.task.specs.Table.{Task, effect-kind}
+use Rattle.task.specs.Rules.{no-operator}
 use Rattle.task.specs.Semantics.{empty}
 use Rattle.task.specs.Tree.{effect-node, effect-within, effect-of}
 use Rattle.task.specs.Run.{operator-of, effect-of-operator}
-use Rattle.normal_form.specs.Builder.{St, Build, give, bind, each, start}
-use Rattle.normal_form.specs.Operators.{Changes, Built, changes-of, built-operator, parts}
-use Rattle.normal_form.specs.Assembly.{Rule, rules, Assembled, assemble, unassembled}
+use Rattle.normal_form.specs.Builder.{give, bind, start}
+use Rattle.normal_form.specs.Operators.{Built, built-operator, parts}
+use Rattle.normal_form.specs.Assembly.{rules, unassembled}
 use Rattle.normal_form.specs.Finished.{built, assembled, finished}
 use Rattle.normal_form.specs.Flat.{Flat, nothing}
 use Rattle.normal_form.proofs.ShapeWritten.{chain}
-use Rattle.normal_form.proofs.ShapeAssembled.{Ground, ground-unassembled, assemble-ground, assemble-length, Operated, operated-all}
+use Rattle.normal_form.proofs.ShapeAssembled.{ground-unassembled, assemble-ground, assemble-length, Operated, operated-all}
 use Rattle.normal_form.proofs.ShapeEach.{each-length, each-values, Upwards, changes-upwards}
 use Rattle.normal_form.proofs.ShapeFlat.{rules-distinct, flat-chain}
 

@@ -1,16 +1,14 @@
 -- The rules of an operator name no atom twice, so the chain of them is a flat effect. Assumes nothing.
-use Prim.Native.Nat.{ℕ, zero, suc, _+_, _-_, _<_, _≤_}
-use native.Mathlib.Nat.{not-suc-le-zero}
+use Prim.Native.Nat.{ℕ, suc, _+_, _-_, _<_, _≤_}
 use native.Mathlib.Omega.{arith}
-use native.Mathlib.Decide.{decLt}
-use mathlib.Core.Path.{_≡_, refl, sym, ap, subst, _∙_}
+use mathlib.Core.Path.{_≡_, sym, ap, _∙_}
 use mathlib.Core.Bool.{Bool, true, false, cond}
 use mathlib.Core.List.{List, [], _∷_, _++_, append-nil, append-assoc}
 use lib.ListN.{length, getD}
 use lib.Dec.{eqb, ltb}
 use borrow.Author.Tests.{lt-ltb, le-ltb}
 use Rattle.task.specs.Table.{Row}
-use Rattle.task.specs.Semantics.{Atom, sets, clears, Effect, empty, both}
+use Rattle.task.specs.Semantics.{Atom, sets, clears, Effect, both}
 use Rattle.task.specs.Tree.{formula-of}
 use Rattle.normal_form.specs.Builder.{place}
 use Rattle.normal_form.specs.Operators.{Changes}
