@@ -17,3 +17,5 @@ pub mod ShapeFinished
 pub mod ShapeEffects
 pub mod ShapePositive
 pub mod ShapePassed
+pub mod ShapeSizes
+pub mod ShapeCounts
