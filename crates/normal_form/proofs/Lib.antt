@@ -6,6 +6,10 @@ pub mod Meaning
 pub mod MeaningImage
 pub mod MeaningCondition
 pub mod MeaningParts
+pub mod MeaningWritten
+pub mod MeaningRules
+pub mod MeaningAssembly
+pub mod MeaningFinished
 pub mod Examples
 pub mod ShapeRule
 pub mod ShapeWritten

@@ -9,7 +9,7 @@ use mathlib.Core.List.{List, [], _∷_, _++_}
 use lib.ListN.{length, getD, length-append, List·getD-append}
 use lib.Seq.{getD-at}
 use lib.Dec.{eqb}
-use borrow.Author.Tests.{eqb-true}
+use borrow.Author.Tests.{eqb-true, eq-eqb}
 use Rattle.task.specs.Table.{Row}
 use Rattle.task.proofs.Bounded.{and-left, and-right}
 use Rattle.normal_form.specs.Builder.{place, kept, same-row}
@@ -76,6 +76,21 @@ module _ {A : Type 0} (same : A → A → Bool) (x : A) where
           → getD (cond b (y ∷ ys) (y ∷ kept same x ys)) (cond b 0 (suc (place same x ys))) d ≡ x
       go true e h = alike y e
       go false e h = h
+
+-- a number that a list has stands there where it is looked for
+pub place-found : (x : ℕ) (l : List ℕ) → place eqb x l < length l → getD l (place eqb x l) 0 ≡ x
+place-found x l h = go (placed eqb x l)
+  where
+    go : Placed eqb x l → getD l (place eqb x l) 0 ≡ x
+    go (found b k) = rw k at (place-has eqb x (λ y. eqb-true y x) 0 l)
+    go (added b k f) = absurd (omega arith)
+
+pub place-here : (l : List ℕ) (j : ℕ) → j < length l → place eqb (getD l j 0) l < length l
+place-here l j h = go (placed eqb (getD l j 0) l)
+  where
+    go : Placed eqb (getD l j 0) l → place eqb (getD l j 0) l < length l
+    go (found b k) = b
+    go (added b k f) = absurd (false≢true (sym (f 0 j h) ∙ eq-eqb (getD l j 0) (getD l j 0) refl))
 
 pub same-row-alike : (r q : Row) → same-row r q ≡ true → r ≡ q
 unfolding same-row
