@@ -5,7 +5,7 @@ use native.Mathlib.Nat.{not-suc-le-zero}
 use native.Mathlib.Omega.{arith}
 use mathlib.Core.Path.{_≡_, refl, ap, subst, _∙_}
 use mathlib.Core.List.{List, [], _∷_, _++_}
-use lib.ListN.{length, getD, length-append, List·getD-append}
+use lib.ListN.{length, getD, length-append}
 use lib.Seq.{getD-append-seam}
 use Rattle.task.specs.Table.{Row, Operator, effect-kind}
 use Rattle.task.specs.Rules.{no-row, no-operator}
@@ -14,7 +14,7 @@ use Rattle.task.proofs.Down.{effects-none, effects-more}
 use Rattle.normal_form.specs.Growth.{Prefix}
 use Rattle.normal_form.specs.Operators.{Built}
 use Rattle.normal_form.specs.Assembly.{rules, Written, write-rules, Assembled, assemble-operator, assemble, unassembled}
-use Rattle.normal_form.proofs.Growth.{prefix-refl, prefix-trans}
+use Rattle.normal_form.proofs.Growth.{prefix-refl, prefix-trans, prefix-below, prefix-at}
 use Rattle.normal_form.proofs.ShapeWritten.{chain, Written-down, rules-down, rules-prefix, tree-kept, written-tree}
 
 -- before an operator's first rule: effect row 0, the empty effect, stands
@@ -43,13 +43,6 @@ ground-unassembled =
       empty-row = refl;
     }
 
-pub prefix-length : {A : Type 0} {l m : List A} → Prefix l m → (i : ℕ) → i < length l → i < length m
-prefix-length {A} {l} {m} p i h = omega (arith, length-append l (p .rest), ap length (p .whole))
-
-prefix-at :
-    {A : Type 0} {l m : List A} → Prefix l m → (i : ℕ) (d : A) → i < length l → getD m i d ≡ getD l i d
-prefix-at {A} {l} p i d h = rw (p .whole) (List·getD-append l (p .rest) d i h)
-
 module _ (n : ℕ) (twins : List ℕ) where
   -- the rows of one operator's rules
   abbrev pub written : Assembled → Built → Written
@@ -65,9 +58,9 @@ module _ (n : ℕ) (twins : List ℕ) where
             record {
               variables = d .variables;
               formulas = d .formulas;
-              sound = record { down = d .sound .down; there = prefix-length p 0 (g .down .sound .there) };
+              sound = record { down = d .sound .down; there = prefix-below p 0 (g .down .sound .there) };
             };
-        empty-row = prefix-at p 0 no-row (g .down .sound .there) ∙ g .empty-row;
+        empty-row = prefix-at _ _ no-row 0 p (g .down .sound .there) ∙ g .empty-row;
       }
 
   pub assemble-ground : (w : Assembled) (os : List Built) → Ground w → Ground (assemble n twins w os)
@@ -121,13 +114,13 @@ module _ (n : ℕ) (twins : List ℕ) where
         let d = rules-down (unwritten (w .effects)) (rules n twins (b .changes)) (g .down) in
         let p = assemble-effects next bs in
         let e : getD (assemble n twins next bs .operators) (length (w .operators)) no-operator ≡ o =
-        prefix-at (assemble-operators next bs) (length (w .operators)) no-operator
+        prefix-at _ _ no-operator (length (w .operators)) (assemble-operators next bs)
         (omega (arith, length-append (w .operators) (o ∷ [])))
         ∙ getD-append-seam (w .operators) o [] no-operator in
         record {
           precondition = ap (λ (x : Operator). x .precondition) e;
           cost = ap (λ (x : Operator). x .cost) e;
-          there = rw e (prefix-length p (written w b .stands) (d .sound .there));
+          there = rw e (prefix-below p (written w b .stands) (d .sound .there));
           tree =
               rw e
               (tree-kept formulas (written w b .stands) (d .sound .down) p (d .sound .there)

@@ -5,9 +5,10 @@ use mathlib.Core.List.{List, [], _∷_}
 use lib.ListN.{length, getD}
 use Rattle.normal_form.specs.Operators.{Changes, Built}
 use Rattle.normal_form.specs.Assembly.{Rule, rules-of, rules, Written, write-rule, write-rules, Assembled, assemble-operator, assemble}
+use Rattle.normal_form.proofs.Growth.{prefix-below}
 use Rattle.normal_form.proofs.ShapeRule.{atom-variable, Fits, Sound, write-sound}
 use Rattle.normal_form.proofs.ShapeWritten.{rules-prefix}
-use Rattle.normal_form.proofs.ShapeAssembled.{unwritten, prefix-length}
+use Rattle.normal_form.proofs.ShapeAssembled.{unwritten}
 use Rattle.normal_form.proofs.ShapeRules.{All, none, also, all-map, rules-of-all, rules-all}
 
 -- the same by places
@@ -55,5 +56,5 @@ module _ (v f : ℕ) where
       assemble-sound n twins (assemble-operator n twins w b) bs ps
       (record {
         down = rules-sound (unwritten (w .effects)) rs p s .down;
-        there = prefix-length (rules-prefix (unwritten (w .effects)) rs) 0 (s .there);
+        there = prefix-below (rules-prefix (unwritten (w .effects)) rs) 0 (s .there);
       })

@@ -14,10 +14,11 @@ use Rattle.normal_form.specs.Builder.{place}
 use Rattle.normal_form.specs.Operators.{Changes}
 use Rattle.normal_form.specs.Assembly.{Rule, rule, with-twin, rules-of, rules}
 use Rattle.normal_form.specs.Flat.{Conjuncts, one, more, Absent, Distinct, Flat, nothing, conjunctive}
+use Rattle.normal_form.proofs.Place.{place-found}
 use Rattle.normal_form.proofs.ShapeRule.{conjunct, atom-variable}
 use Rattle.normal_form.proofs.ShapeWritten.{chain-on, chain}
 use Rattle.normal_form.proofs.ShapeEach.{Upwards, start, next}
-use Rattle.normal_form.proofs.ShapeRules.{All, none, also, all-append, all-map, place-found, rules-of-all, rules-snoc}
+use Rattle.normal_form.proofs.ShapeRules.{All, none, also, all-append, all-map, rules-of-all, rules-snoc}
 
 -- the atoms of rules, in their order
 abbrev pub atoms : List Rule → List Atom

@@ -1,13 +1,11 @@
 -- What each rule of an operator is: of a variable or of its twin, under the row that was built for setting it or for clearing it.
-use Prim.Native.Nat.{ℕ, suc, _+_, _<_}
-use native.Mathlib.Nat.{not-suc-le-zero}
-use native.Mathlib.Omega.{arith}
+use Prim.Native.Nat.{ℕ, _+_, _<_}
 use mathlib.Core.Path.{_≡_, refl}
 use mathlib.Core.Bool.{Bool, true, false, cond}
 use mathlib.Core.List.{List, [], _∷_, _++_, append-nil, append-assoc}
-use lib.ListN.{length, getD}
+use lib.ListN.{length}
 use lib.Dec.{eqb, ltb}
-use borrow.Author.Tests.{ltb-true, eqb-true}
+use borrow.Author.Tests.{ltb-true}
 use Rattle.task.specs.Semantics.{Atom, sets, clears}
 use Rattle.normal_form.specs.Builder.{place}
 use Rattle.normal_form.specs.Operators.{Changes}
@@ -25,21 +23,6 @@ all-append (also p ps) q = also p (all-append ps q)
 pub all-map : {A : Type 0} {P Q : A → Type 0} {xs : List A} → ((x : A) → P x → Q x) → All P xs → All Q xs
 all-map f none = none
 all-map f (also {x = x} p ps) = also (f x p) (all-map f ps)
-
--- what is placed inside the list stands there
-pub place-found : (v : ℕ) (l : List ℕ) → place eqb v l < length l → getD l (place eqb v l) 0 ≡ v
-unfolding place
-place-found v [] h = absurd (not-suc-le-zero h)
-place-found v (y ∷ ys) h = go (eqb y v) refl h (place-found v ys)
-  where
-    go :
-        (b : Bool)
-        → eqb y v ≡ b
-        → cond b 0 (suc (place eqb v ys)) < suc (length ys)
-        → (place eqb v ys < length ys → getD ys (place eqb v ys) 0 ≡ v)
-        → getD (y ∷ ys) (cond b 0 (suc (place eqb v ys))) 0 ≡ v
-    go true e h more = eqb-true y v e
-    go false e h more = more (omega arith)
 
 module _ (P : Rule → Type 0) where
   rule-all : (c : ℕ) (l : Atom) → P (record { condition = c; atom = l }) → All P (rule c l)

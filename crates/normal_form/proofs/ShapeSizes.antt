@@ -3,26 +3,22 @@
 use Prim.Native.Nat.{ℕ, zero, suc, _+_, _≤_, _<_}
 use native.Mathlib.Omega.{arith}
 use native.Mathlib.Decide.{decLe}
-use mathlib.Core.Path.{_≡_, ap}
-use mathlib.Core.List.{List}
-use lib.ListN.{length, length-append}
+use mathlib.Core.Path.{_≡_}
+use lib.ListN.{length}
 use Rattle.task.specs.Table.{Task}
 use Rattle.task.specs.Rules.{Limits}
 use Rattle.task.specs.Semantics.{Effect, sets, clears}
 use Rattle.task.specs.Tree.{formula-of}
 use Rattle.task.specs.Run.{operator-of, effect-of-operator}
 use Rattle.normal_form.specs.Builder.{St, Build, give, bind, each, start, plain}
-use Rattle.normal_form.specs.Growth.{Prefix, Grows, Steady}
+use Rattle.normal_form.specs.Growth.{Grows, Steady}
 use Rattle.normal_form.specs.Image.{image}
 use Rattle.normal_form.specs.Conditions.{condition}
 use Rattle.normal_form.specs.Operators.{Changes, changes-of, built-operator, parts}
 use Rattle.normal_form.specs.Finished.{built, finished}
-use Rattle.normal_form.proofs.Growth.{grows-refl, grows-trans, steady-give, steady-bind}
+use Rattle.normal_form.proofs.Growth.{longer, grows-refl, grows-trans, steady-give, steady-bind}
 use Rattle.normal_form.proofs.Steady.{steady-image, steady-condition, steady-deletes, steady-changes, steady-operator}
 use Rattle.normal_form.proofs.ShapePassed.{finished-variables}
-
-pub prefix-shorter : {A : Type 0} {l m : List A} → Prefix l m → length l ≤ length m
-prefix-shorter {A} {l} {m} p = omega (arith, length-append l (p .rest), ap length (p .whole))
 
 -- No more rows and no more twins.
 pub record Fewer (s t : St) : Type 0 where
@@ -30,7 +26,7 @@ pub record Fewer (s t : St) : Type 0 where
   pub twins : length (s .twins) ≤ length (t .twins)
 
 pub grows-fewer : {s t : St} → Grows s t → Fewer s t
-grows-fewer g = record { rows = prefix-shorter (g .rows); twins = prefix-shorter (g .twins) }
+grows-fewer {s} {t} g = record { rows = longer (s .rows) (t .rows) (g .rows); twins = longer (s .twins) (t .twins) (g .twins) }
 
 -- after the first of two steps
 pub bind-grows :
