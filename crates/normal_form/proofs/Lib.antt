@@ -6,9 +6,8 @@ pub mod Meaning
 pub mod MeaningImage
 pub mod MeaningCondition
 pub mod MeaningParts
-pub mod MeaningWritten
+pub mod MeaningActs
 pub mod MeaningRules
-pub mod MeaningAssembly
 pub mod MeaningFinished
 pub mod Examples
 pub mod ShapeRule

@@ -11,7 +11,7 @@ use Rattle.task.specs.Semantics.{empty}
 use Rattle.task.specs.Tree.{effect-node, effect-within, effect-of}
 use Rattle.task.specs.Run.{operator-of, effect-of-operator}
 use Rattle.normal_form.specs.Builder.{give, bind, start}
-use Rattle.normal_form.specs.Operators.{Built, built-operator, parts}
+use Rattle.normal_form.specs.Operators.{Changes, Built, built-operator, parts}
 use Rattle.normal_form.specs.Assembly.{rules, unassembled}
 use Rattle.normal_form.specs.Finished.{built, assembled, finished}
 use Rattle.normal_form.specs.Flat.{Flat, nothing}
@@ -20,7 +20,10 @@ use Rattle.normal_form.proofs.ShapeAssembled.{ground-unassembled, assem
 use Rattle.normal_form.proofs.ShapeEach.{each-length, each-values, Upwards, changes-upwards}
 use Rattle.normal_form.proofs.ShapeFlat.{rules-distinct, flat-chain}
 
--- An operator that no task has: what stands past the end of what is built.
+-- What stands past the end of what is built.
+abbrev pub no-changes : Changes
+no-changes = record { variable = 0; adds = 0; deletes = 0 }
+
 abbrev pub no-built : Built
 no-built = record { precondition = 0; changes = []; cost = 0 }
 

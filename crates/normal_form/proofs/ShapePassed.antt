@@ -23,11 +23,7 @@ use Rattle.normal_form.proofs.ShapeRule.{Fits}
 use Rattle.normal_form.proofs.ShapeRules.{All}
 use Rattle.normal_form.proofs.ShapeEffects.{all-at, ChangesFit, rules-fit, assemble-sound}
 use Rattle.normal_form.proofs.ShapePositive.{positive-task}
-use Rattle.normal_form.proofs.ShapeFinished.{no-built, built-at, built-operators, finished-operators, finished-operator}
-
--- Changes that no operator has: what stands past the end of what is built.
-abbrev no-changes : Changes
-no-changes = record { variable = 0; adds = 0; deletes = 0 }
+use Rattle.normal_form.proofs.ShapeFinished.{no-changes, no-built, built-at, built-operators, finished-operators, finished-operator}
 
 -- a twin's value is 0 or 1
 twin-bit : (initial twins : List ℕ) (k : ℕ) → getD (twin-values initial twins) k 0 ≤ 1
