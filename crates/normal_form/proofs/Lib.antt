@@ -22,3 +22,4 @@ pub mod ShapePositive
 pub mod ShapePassed
 pub mod ShapeSizes
 pub mod ShapeCounts
+pub mod ShapeLimits
