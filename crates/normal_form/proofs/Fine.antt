@@ -7,24 +7,13 @@ use mathlib.Core.List.{[], _∷_, _++_}
 use lib.ListN.{length, getD, length-append, List·getD-append}
 use lib.Dec.{eqb}
 use borrow.Author.Tests.{eqb-false}
-use Rattle.task.specs.Table.{Row, FormulaKind, false-kind, true-kind, variable-kind, not-kind, and-kind, or-kind, implies-kind, equivalent-kind, unknown-formula, formula-kind}
+use Rattle.task.specs.Table.{Row, formula-kind}
 use Rattle.task.specs.Rules.{no-row}
 use Rattle.task.proofs.Trees.{FormulaKept, FormulasDown}
 use Rattle.task.proofs.Down.{formulas-none, formulas-more, formulas-wider}
 use Rattle.normal_form.specs.Builder.{St, kept, same-row, row, twin, start}
+pub use Rattle.normal_form.specs.Positive.{PositiveKind}
 use Rattle.normal_form.proofs.Place.{one-more, Placed, found, added, placed, place-below, place-has, same-row-alike}
-
--- the kinds of a positive table: false, true, variable, and, or
-abbrev pub PositiveKind : FormulaKind → Type 0
-PositiveKind false-kind = Unit
-PositiveKind true-kind = Unit
-PositiveKind variable-kind = Unit
-PositiveKind not-kind = ⊥
-PositiveKind and-kind = Unit
-PositiveKind or-kind = Unit
-PositiveKind implies-kind = ⊥
-PositiveKind equivalent-kind = ⊥
-PositiveKind unknown-formula = ⊥
 
 -- a building state over n source variables
 pub record Fine (n : ℕ) (s : St) : Type 0 where

@@ -1,10 +1,10 @@
 -- What a row that is built means: in corresponding states it holds where the source's formula does. Steps, constants and joins.
-use Prim.Native.Nat.{ℕ, _+_, _<_, _≤_}
+use Prim.Native.Nat.{ℕ, _+_, _<_}
 use native.Mathlib.Omega.{arith}
 use mathlib.Core.Path.{_≡_, refl, sym, ap, ap₂, _∙_}
 use mathlib.Core.Bool.{Bool, true, false, cond, not, _&&_, _||_}
 use mathlib.Core.List.{List}
-use lib.ListN.{length, getD, length-append, List·getD-append}
+use lib.ListN.{length, getD}
 use lib.Dec.{eqb}
 use borrow.Author.Tests.{eqb-true}
 use Rattle.task.specs.Table.{Row, formula-kind}
@@ -15,6 +15,7 @@ use Rattle.task.specs.Corresponding.{Corresponding}
 use Rattle.task.proofs.Trees.{FormulaKept, FormulasDown, formula-unfolds, formula-grows}
 use Rattle.normal_form.specs.Builder.{St, Got, Build, give, bind, row, Polarity, plain, negated, falsity, truth, join-kind, Choice, zeroth, left, right, fresh, choice, joined, join, pair}
 use Rattle.normal_form.specs.Growth.{Prefix, Grows, Steady}
+pub use Rattle.normal_form.proofs.Growth.{longer, prefix-at}
 use Rattle.normal_form.proofs.Growth.{prefix-trans, steady-row}
 use Rattle.normal_form.proofs.Fine.{Fine, PositiveKind, fine-row, row-below, row-has}
 
@@ -36,12 +37,6 @@ pub record Means (n : ℕ) (b : List ℕ → Bool) (s : St) (a : ℕ) : Type 0 w
 pub record Good {A : Type 0} (n : ℕ) (P : St → A → Type 0) (g : Got A) : Type 0 where
   pub fine : Fine n (g .st)
   pub value : P (g .st) (g .value)
-
-pub longer : {A : Type 0} (l m : List A) → Prefix l m → length l ≤ length m
-longer l m p = omega (arith, ap length (p .whole) ∙ length-append l (p .rest))
-
-pub prefix-at : {A : Type 0} (l m : List A) (d : A) (k : ℕ) → Prefix l m → k < length l → getD m k d ≡ getD l k d
-prefix-at l m d k p h = rw (p .whole) (List·getD-append l (p .rest) d k h)
 
 abbrev pub seen-before : {n : ℕ} {s t : St} → Grows s t → Seen n t → Seen n s
 seen-before g w =

@@ -17,14 +17,14 @@ use Rattle.task.specs.Corresponding.{Corresponding}
 use Rattle.normal_form.specs.Builder.{plain}
 use Rattle.normal_form.specs.Operators.{Changes}
 use Rattle.normal_form.specs.Assembly.{rules-of, rules as rules-over}
-use Rattle.normal_form.specs.Finished.{built, assembled, finished}
+use Rattle.normal_form.specs.Finished.{built, finished}
 use Rattle.normal_form.proofs.Growth.{prefix-refl}
 use Rattle.normal_form.proofs.Meaning.{Seen, means-falsity}
 use Rattle.normal_form.proofs.MeaningCondition.{freed, ChangesMean}
 use Rattle.normal_form.proofs.MeaningParts.{good-parts}
-use Rattle.normal_form.proofs.MeaningWritten.{acts}
+use Rattle.normal_form.proofs.MeaningActs.{acts, acts-chain}
 use Rattle.normal_form.proofs.MeaningRules.{twinned, acts-sets, acts-clears, acts-none, acts-one, twinned-not, twinned-itself}
-use Rattle.normal_form.proofs.MeaningAssembly.{no-changes, no-built, BuiltKept, Assembles, assembles}
+use Rattle.normal_form.proofs.ShapeFinished.{no-changes, no-built, finished-operator, operator-chain}
 
 -- the changes of operator o
 abbrev changes : Task → ℕ → List Changes
@@ -49,35 +49,6 @@ added t o x source = effcond source (sets x) (effect-of-operator t o)
 
 abbrev pub deleted : Task → ℕ → ℕ → List ℕ → Bool
 deleted t o x source = freed (effect-of-operator t o) x source
-
--- what is built of an operator names variables of the source and rows that are there
-pub built-kept :
-    (t : Task) (rules : Rules t) (o : ℕ)
-    → o < length (t .operators)
-    → BuiltKept (vars t) (twins t) (rows t) (good-parts t rules .fine .down)
-    (getD (built t .value .operators) o no-built)
-built-kept t rules o h k b =
-    let m = good-parts t rules .value .operators .at no-built o h in
-    let c = m .changes .at no-changes k (omega (arith, m .changes .count)) in
-    record {
-      variable = omega (arith, c .variable, m .changes .count);
-      adds = c .adds .below;
-      deletes = c .deletes .below;
-    }
-
-pub assembles-task :
-    (t : Task) (rules : Rules t)
-    → Assembles (vars t) (twins t) (rows t) (good-parts t rules .fine .down) (assembled t)
-    (built t .value .operators)
-unfolding assembled
-assembles-task t rules =
-    assembles (vars t) (twins t) (rows t) (good-parts t rules .fine .down)
-    (built t .value .operators)
-    (λ o h. built-kept t rules o (omega (arith, good-parts t rules .value .operators .count)))
-
-pub operators-counted : (t : Task) → Rules t → length (finished t .operators) ≡ length (t .operators)
-unfolding finished
-operators-counted t rules = assembles-task t rules .count ∙ good-parts t rules .value .operators .count
 
 -- an atom that none, one or the other of a variable's two rules has
 neither : (a d p q : Bool) → p ≡ false → q ≡ false → ((a && p) || (d && q)) ≡ false
@@ -119,13 +90,13 @@ module _ (t : Task) (rules : Rules t) (source compiled : List ℕ) (width : leng
     unfolding applicable operator-of finished seen
     same-applicable =
         ap (λ (a : ℕ). holds compiled (formula-of (rows t) a))
-        (assembles-task t rules .at o (omega (arith, good-parts t rules .value .operators .count)) .precondition)
+        (finished-operator t o h .precondition)
         ∙ good-parts t rules .value .operators .at no-built o h .precondition .value seen
 
     pub same-cost : operator-of (finished t) o .cost ≡ operator-of t o .cost
     unfolding operator-of finished
     same-cost =
-        assembles-task t rules .at o (omega (arith, good-parts t rules .value .operators .count)) .cost
+        finished-operator t o h .cost
         ∙ good-parts t rules .value .operators .at no-built o h .cost
 
     -- where an atom acts: at one source variable y, or nowhere
@@ -135,7 +106,8 @@ module _ (t : Task) (rules : Rules t) (source compiled : List ℕ) (width : leng
         (changes t o))
     unfolding effect-of-operator operator-of finished
     acts-there l =
-        assembles-task t rules .at o (omega (arith, good-parts t rules .value .operators .count)) .means compiled l
+        ap (effcond compiled l) (operator-chain t o h)
+        ∙ acts-chain (rows t) compiled l (rules-over (vars t) (twins t) (changes t o))
 
     zeroth : holds compiled (formula-of (rows t) 0) ≡ false
     unfolding seen

@@ -16,7 +16,7 @@ use Rattle.normal_form.specs.Builder.{place}
 use Rattle.normal_form.specs.Operators.{Changes}
 use Rattle.normal_form.specs.Assembly.{Rule, rule, with-twin, rules-of, rules}
 use Rattle.normal_form.proofs.Place.{place-found, place-here}
-use Rattle.normal_form.proofs.MeaningWritten.{acts}
+use Rattle.normal_form.proofs.MeaningActs.{acts}
 
 -- variable x is v's twin
 unfoldable pub twinned : ℕ → List ℕ → ℕ → ℕ → Bool

@@ -5,18 +5,17 @@ use native.Mathlib.Decide.{decLt}
 use mathlib.Core.Path.{_≡_, refl, sym, ap, ap₂, _∙_}
 use mathlib.Core.Bool.{Bool, true, false, cond, not, _&&_}
 use mathlib.Core.List.{List}
-use lib.ListN.{length, getD, List·getD-eq-default}
-use Rattle.task.specs.Table.{Task, Operator}
-use Rattle.task.specs.Rules.{no-operator, Rules}
+use lib.ListN.{length, getD}
+use Rattle.task.specs.Table.{Task}
+use Rattle.task.specs.Rules.{Rules}
 use Rattle.task.specs.Semantics.{Effect, empty, sets, clears, effcond, value-after, apply}
-use Rattle.task.specs.Tree.{effect-of}
-use Rattle.task.specs.Run.{operator-of, effect-of-operator}
+use Rattle.task.specs.Run.{effect-of-operator}
 use Rattle.task.specs.Corresponding.{Corresponding}
 use Rattle.task.proofs.Bounded.{length-upto, getD-upto}
-use Rattle.normal_form.specs.Finished.{built, assembled, finished}
+use Rattle.normal_form.specs.Finished.{finished}
 use Rattle.normal_form.proofs.MeaningParts.{good-parts}
-use Rattle.normal_form.proofs.MeaningWritten.{effect-empty}
-use Rattle.normal_form.proofs.MeaningFinished.{assembles-task, operators-counted, sets-none, sets-original, clears-original, sets-twin, clears-twin}
+use Rattle.normal_form.proofs.MeaningFinished.{sets-none, sets-original, clears-original, sets-twin, clears-twin}
+use Rattle.normal_form.proofs.ShapeFinished.{operator-past}
 
 -- One variable, and one twin, after a step: A where it is set, D where it is cleared.
 original-after : (a d : Bool) (x : ℕ) → cond a 1 (cond (d && not a) 0 x) ≡ cond a 1 (cond d 0 x)
@@ -66,17 +65,6 @@ place-of P n w x below twin beyond = go (decLt x n) (decLt x (n + w))
     go (yes h) d = below h
     go (no h) (yes g) = let e : n + (x - n) ≡ x = omega arith in rw e at (twin (x - n) (omega arith))
     go (no h) (no g) = beyond (omega arith)
-
--- a number not below O has the empty effect: row 0
-effect-outside : (t : Task) → Rules t → (o : ℕ) → length (t .operators) ≤ o → effect-of-operator (finished t) o ≡ empty
-unfolding effect-of-operator operator-of finished
-effect-outside t rules o h =
-    let a = assembles-task t rules in
-    let rows = built t .st .rows in
-    ap (λ (q : Operator). effect-of rows (assembled t .effects) (q .effect))
-    (List·getD-eq-default (assembled t .operators) no-operator (omega (arith, operators-counted t rules)))
-    ∙ effect-empty (length (t .initial) + length (built t .st .twins)) rows (good-parts t rules .fine .down)
-    (assembled t .effects) (a .down) (a .first) (a .row-empty)
 
 module _ (t : Task) (rules : Rules t) (s s′ : List ℕ) (width : length s ≡ length (t .initial)) (states : Corresponding (finished t .originals) s s′) where
   module _ (o : ℕ) (h : o < length (t .operators)) where
@@ -175,5 +163,5 @@ module _ (t : Task) (rules : Rules t) (s s′ : List ℕ) (width : length s ≡ 
           ≡ false
       go (yes h) = free-inside o h x
       go (no h) =
-          let none : effect-of-operator (finished t) o ≡ empty = effect-outside t rules o (omega arith) in
+          let none : effect-of-operator (finished t) o ≡ empty = operator-past t o (omega arith) in
           ap (λ (e : Effect). effcond s′ (sets x) e && effcond s′ (clears x) e) none
