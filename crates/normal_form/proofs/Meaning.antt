@@ -1,10 +1,10 @@
 -- What a row that is built means: in corresponding states it holds where the source's formula does. Steps, constants and joins.
-use Prim.Native.Nat.{ℕ, zero, suc, _+_, _<_, _≤_}
+use Prim.Native.Nat.{ℕ, _+_, _<_}
 use native.Mathlib.Omega.{arith}
-use mathlib.Core.Path.{_≡_, refl, sym, ap, ap₂, subst, _∙_}
+use mathlib.Core.Path.{_≡_, refl, sym, ap, ap₂, _∙_}
 use mathlib.Core.Bool.{Bool, true, false, cond, not, _&&_, _||_}
-use mathlib.Core.List.{List, [], _∷_, _++_}
-use lib.ListN.{length, getD, length-append, List·getD-append}
+use mathlib.Core.List.{List}
+use lib.ListN.{length, getD}
 use lib.Dec.{eqb}
 use borrow.Author.Tests.{eqb-true}
 use Rattle.task.specs.Table.{Row, formula-kind}
@@ -13,10 +13,10 @@ use Rattle.task.specs.Semantics.{Formula, holds}
 use Rattle.task.specs.Tree.{formula-node, formula-of}
 use Rattle.task.specs.Corresponding.{Corresponding}
 use Rattle.task.proofs.Trees.{FormulaKept, FormulasDown, formula-unfolds, formula-grows}
-use Rattle.normal_form.specs.Builder.{St, Got, Build, give, bind, row, Polarity, plain, negated, opposite, falsity, truth, join-kind, Choice, zeroth, left, right, fresh, choice, joined, join, pair}
+use Rattle.normal_form.specs.Builder.{St, Got, Build, give, bind, row, Polarity, plain, negated, falsity, truth, join-kind, Choice, zeroth, left, right, fresh, choice, joined, join, pair}
 use Rattle.normal_form.specs.Growth.{Prefix, Grows, Steady}
 pub use Rattle.normal_form.proofs.Growth.{longer, prefix-at}
-use Rattle.normal_form.proofs.Growth.{prefix-trans, grows-trans, steady-row, steady-join}
+use Rattle.normal_form.proofs.Growth.{prefix-trans, steady-row}
 use Rattle.normal_form.proofs.Fine.{Fine, PositiveKind, fine-row, row-below, row-has}
 
 -- A source state of n variables and a compiled state that corresponds to it, once all twins (final) are met.

@@ -1,18 +1,18 @@
 -- An effect condition that is built means 002's, in every pair of corresponding states; and D is free of conflict with A.
 use Prim.Native.Nat.{ℕ}
-use mathlib.Core.Path.{_≡_, refl, sym, ap, _∙_}
+use mathlib.Core.Path.{_≡_, refl}
 use mathlib.Core.Bool.{Bool, true, false, cond, not, _&&_, _||_}
 use mathlib.Core.List.{List}
 use lib.Dec.{eqb}
 use borrow.Author.Tests.{eqb-true}
 use Rattle.task.specs.Semantics.{Formula, holds, Atom, sets, clears, Effect, empty, atomic, both, under, same-atom, effcond}
-use Rattle.normal_form.specs.Builder.{St, Got, Build, give, bind, join, pair, Polarity, plain, negated, opposite, falsity, truth}
+use Rattle.normal_form.specs.Builder.{St, give, bind, join, Polarity, plain, negated, opposite, falsity, truth}
 use Rattle.normal_form.specs.Image.{image}
 use Rattle.normal_form.specs.Conditions.{guarded, condition}
 use Rattle.normal_form.specs.Operators.{Changes, deletes-of, changes-of}
 use Rattle.normal_form.proofs.Steady.{steady-image, steady-condition, steady-deletes}
 use Rattle.normal_form.proofs.Fine.{Fine}
-use Rattle.normal_form.proofs.Meaning.{Seen, Means, Good, means-as, means-later, means-alike, means-falsity, means-truth, good-bind, good-give, good-join, good-pair, sense, meet}
+use Rattle.normal_form.proofs.Meaning.{Means, Good, means-as, means-later, means-alike, means-falsity, means-truth, good-bind, good-give, good-join, good-pair, sense}
 use Rattle.normal_form.proofs.MeaningImage.{Over, good-as, sense-and, sense-or, good-image}
 
 -- an effect whose formulas are over n variables

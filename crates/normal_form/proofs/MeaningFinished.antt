@@ -1,28 +1,27 @@
 -- The finished task in corresponding states: preconditions and goal hold where the source's do; each variable is set and cleared as the source's
 -- operator does it with the clear freed of the set, and its twin the other way round.
-use Prim.Native.Nat.{ℕ, zero, suc, _+_, _<_, _≤_}
+use Prim.Native.Nat.{ℕ, _+_, _<_, _≤_}
 use native.Mathlib.Omega.{arith}
 use mathlib.Core.Path.{_≡_, refl, sym, ap, ap₂, _∙_}
-use mathlib.Core.Bool.{Bool, true, false, not, _&&_, _||_}
-use mathlib.Core.List.{List, [], _∷_, _++_}
+use mathlib.Core.Bool.{Bool, true, false, _&&_, _||_}
+use mathlib.Core.List.{List}
 use lib.ListN.{length, getD}
 use lib.Dec.{eqb}
 use borrow.Author.Tests.{eq-eqb, ne-eqb}
 use Rattle.task.specs.Table.{Row, Task}
-use Rattle.task.specs.Rules.{no-operator, Rules}
-use Rattle.task.specs.Semantics.{holds, Atom, sets, clears, Effect, effcond}
-use Rattle.task.specs.Tree.{formula-of, effect-of}
+use Rattle.task.specs.Rules.{Rules}
+use Rattle.task.specs.Semantics.{holds, Atom, sets, clears, effcond}
+use Rattle.task.specs.Tree.{formula-of}
 use Rattle.task.specs.Run.{operator-of, effect-of-operator, goal-holds, applicable}
 use Rattle.task.specs.Corresponding.{Corresponding}
 use Rattle.normal_form.specs.Builder.{plain}
-use Rattle.normal_form.specs.Operators.{Changes, Built}
+use Rattle.normal_form.specs.Operators.{Changes}
 use Rattle.normal_form.specs.Assembly.{rules-of, rules as rules-over}
-use Rattle.normal_form.specs.Finished.{built, assembled, finished}
+use Rattle.normal_form.specs.Finished.{built, finished}
 use Rattle.normal_form.proofs.Growth.{prefix-refl}
-use Rattle.normal_form.proofs.Fine.{Fine}
-use Rattle.normal_form.proofs.Meaning.{Seen, Means, Good, means-falsity}
+use Rattle.normal_form.proofs.Meaning.{Seen, means-falsity}
 use Rattle.normal_form.proofs.MeaningCondition.{freed, ChangesMean}
-use Rattle.normal_form.proofs.MeaningParts.{Each, BuiltMeans, PartsMean, good-parts}
+use Rattle.normal_form.proofs.MeaningParts.{good-parts}
 use Rattle.normal_form.proofs.MeaningActs.{acts, acts-chain}
 use Rattle.normal_form.proofs.MeaningRules.{twinned, acts-sets, acts-clears, acts-none, acts-one, twinned-not, twinned-itself}
 use Rattle.normal_form.proofs.ShapeFinished.{no-changes, no-built, finished-operator, operator-chain}

@@ -1,24 +1,22 @@
 -- An image means its formula, a negated image the formula's negation, in every pair of corresponding states.
 use Prim.Native.Nat.{ℕ, zero, suc, _+_, _-_, _<_, _≤_}
 use native.Mathlib.Omega.{arith}
-use native.Mathlib.Nat.{not-suc-le-zero}
-use mathlib.Core.Path.{_≡_, refl, sym, ap, _∙_}
-use mathlib.Core.Bool.{Bool, true, false, cond, not, _&&_, _||_, Bool·beq}
-use mathlib.Core.List.{List, [], _∷_, _++_}
-use lib.ListN.{length, getD, List·getD-append, length-append}
+use mathlib.Core.Path.{_≡_, refl, ap, _∙_}
+use mathlib.Core.Bool.{Bool, true, false, not, _&&_, _||_, Bool·beq}
+use mathlib.Core.List.{List}
+use lib.ListN.{length, getD}
 use lib.Dec.{eqb}
 use borrow.Author.Tests.{eqb-true}
 use Rattle.task.specs.Table.{Row, formula-kind}
 use Rattle.task.specs.Semantics.{Formula, falsum, verum, variable, negation, conjunction, disjunction, implication, equivalence, holds}
-use Rattle.task.specs.Tree.{formula-node, formula-of}
-use Rattle.normal_form.specs.Builder.{St, Got, Build, give, bind, place, kept, row, twin, variable-row, twin-row, Polarity, plain, negated, opposite, falsity, truth, pair}
-use Rattle.normal_form.specs.Growth.{Prefix, Grows, Steady}
+use Rattle.task.specs.Tree.{formula-node}
+use Rattle.normal_form.specs.Builder.{St, Got, bind, place, row, twin, variable-row, twin-row, Polarity, plain, negated, opposite, falsity, truth, pair}
 use Rattle.normal_form.specs.Image.{literal, image}
 use Rattle.normal_form.proofs.Growth.{steady-row, steady-pair}
 use Rattle.normal_form.proofs.Steady.{steady-image}
 use Rattle.normal_form.proofs.Place.{place-below, place-has}
 use Rattle.normal_form.proofs.Fine.{Fine, fine-row, fine-twin, row-below, row-has}
-use Rattle.normal_form.proofs.Meaning.{Seen, seen-before, Means, Good, longer, prefix-at, means-as, means-falsity, means-truth, good-bind, good-give, good-pair, sense, meet, row-unfolds}
+use Rattle.normal_form.proofs.Meaning.{Seen, seen-before, Means, Good, longer, prefix-at, means-as, means-falsity, means-truth, good-give, good-pair, sense, meet, row-unfolds}
 
 -- a formula over n variables
 abbrev pub Over : ℕ → Formula → Type 0

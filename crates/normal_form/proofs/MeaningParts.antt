@@ -3,7 +3,7 @@ use Prim.Native.Nat.{ℕ, zero, suc, _<_}
 use native.Mathlib.Omega.{arith}
 use native.Mathlib.Nat.{not-suc-le-zero}
 use native.Mathlib.Numerals.{add-one}
-use mathlib.Core.Path.{_≡_, refl, sym, subst, _∙_}
+use mathlib.Core.Path.{_≡_, refl, _∙_}
 use mathlib.Core.List.{List, [], _∷_, _++_}
 use lib.ListN.{length, getD, length-append}
 use Rattle.task.specs.Table.{Row, Task, FormulaKind, false-kind, true-kind, variable-kind, not-kind, and-kind, or-kind, implies-kind, equivalent-kind, unknown-formula, formula-kind, EffectKind, empty-kind, set-kind, clear-kind, both-kind, under-kind, unknown-effect, effect-kind}
@@ -12,7 +12,7 @@ use Rattle.task.specs.Semantics.{Formula, holds, Effect}
 use Rattle.task.specs.Tree.{formula-node, formula-within, formula-of, effect-node, effect-within, effect-of}
 use Rattle.task.specs.Run.{operator-of, effect-of-operator}
 use Rattle.task.proofs.Trees.{FormulasDown, EffectsDown, rules-formulas, rules-effects}
-use Rattle.normal_form.specs.Builder.{St, Got, Build, give, bind, each, start, plain}
+use Rattle.normal_form.specs.Builder.{St, Build, give, bind, each, start, plain}
 use Rattle.normal_form.specs.Growth.{Grows, Steady}
 use Rattle.normal_form.specs.Image.{image}
 use Rattle.normal_form.specs.Operators.{Changes, Built, Parts, changes-of, built-operator, parts}
@@ -21,7 +21,7 @@ use Rattle.normal_form.proofs.Growth.{steady-each}
 use Rattle.normal_form.proofs.Steady.{steady-image, steady-changes, steady-operator}
 use Rattle.normal_form.proofs.Place.{one-more}
 use Rattle.normal_form.proofs.Fine.{Fine, fine-start}
-use Rattle.normal_form.proofs.Meaning.{Seen, Means, Good, means-later}
+use Rattle.normal_form.proofs.Meaning.{Means, Good, means-later}
 use Rattle.normal_form.proofs.MeaningImage.{Over, good-image}
 use Rattle.normal_form.proofs.MeaningCondition.{EffectOver, ChangesMean, good-changes}
 
