@@ -15,9 +15,9 @@ use Rattle.task.specs.Semantics.{sets, clears, effcond}
 use Rattle.task.specs.Run.{effect-of-operator, applicable, charge, Progress, after-step, Stop, ended, stopped, Run, answer, run-on, plain-run, unstopped, is-plan}
 use Rattle.task.specs.Corresponding.{Corresponding}
 use Rattle.normal_form.specs.Finished.{built, twin-values, finished}
+use Rattle.normal_form.proofs.ShapeFinished.{finished-operators}
 use Rattle.normal_form.proofs.MeaningFinished.{same-goal, same-applicable, same-cost}
 use Rattle.normal_form.proofs.MeaningStep.{length-apply, correspond-after, free-of-conflict}
-use Rattle.normal_form.proofs.ShapeFinished.{finished-operators}
 
 -- Two runs that answer alike, with last states that correspond.
 pub record Alike (originals : List ℕ) (r r′ : Run) : Type 0 where
@@ -204,5 +204,5 @@ stops-at t o h =
     }
 
 -- It is applicable in neither task.
-pub outside : (t : Task) (o : ℕ) → length (t .operators) ≤ o → StopsAt t o × StopsAt (finished t) o
-outside t o h = (stops-at t o h, stops-at (finished t) o (omega (arith, finished-operators t)))
+pub outside : (t : Task) → Rules t → (o : ℕ) → length (t .operators) ≤ o → StopsAt t o × StopsAt (finished t) o
+outside t rules o h = (stops-at t o h, stops-at (finished t) o (omega (arith, finished-operators t)))

@@ -14,8 +14,8 @@ use Rattle.task.specs.Corresponding.{Corresponding}
 use Rattle.task.proofs.Bounded.{length-upto, getD-upto}
 use Rattle.normal_form.specs.Finished.{finished}
 use Rattle.normal_form.proofs.MeaningParts.{good-parts}
-use Rattle.normal_form.proofs.MeaningFinished.{sets-none, sets-original, clears-original, sets-twin, clears-twin}
 use Rattle.normal_form.proofs.ShapeFinished.{operator-past}
+use Rattle.normal_form.proofs.MeaningFinished.{sets-none, sets-original, clears-original, sets-twin, clears-twin}
 
 -- One variable, and one twin, after a step: A where it is set, D where it is cleared.
 original-after : (a d : Bool) (x : ℕ) → cond a 1 (cond (d && not a) 0 x) ≡ cond a 1 (cond d 0 x)
