@@ -1,14 +1,14 @@
 -- The rules of an operator name no atom twice, so the chain of them is a flat effect. Assumes nothing.
 use Prim.Native.Nat.{ℕ, suc, _+_, _-_, _<_, _≤_}
 use native.Mathlib.Omega.{arith}
-use mathlib.Core.Path.{_≡_, sym, ap, _∙_}
+use mathlib.Core.Path.{_≡_, refl, sym, ap, _∙_}
 use mathlib.Core.Bool.{Bool, true, false, cond}
 use mathlib.Core.List.{List, [], _∷_, _++_, append-nil, append-assoc}
 use lib.ListN.{length, getD}
 use lib.Dec.{eqb, ltb}
 use borrow.Author.Tests.{lt-ltb, le-ltb}
 use Rattle.task.specs.Table.{Row}
-use Rattle.task.specs.Semantics.{Atom, sets, clears, Effect, both}
+use Rattle.task.specs.Semantics.{Formula, Atom, sets, clears, Effect, atomic, both, under}
 use Rattle.task.specs.Tree.{formula-of}
 use Rattle.normal_form.specs.Builder.{place}
 use Rattle.normal_form.specs.Operators.{Changes}
@@ -176,3 +176,13 @@ module _ (n : ℕ) (twins : List ℕ) where
 
   pub rules-distinct : {m : ℕ} {cs : List Changes} → Upwards m cs → m ≤ n → Distinct (atoms (rules n twins cs))
   rules-distinct u h = rules-apart u h .once
+
+-- What is not flat: an atom without a condition, and an atom twice.
+bare-conjunct : {l : Atom} {ls : List Atom} → Conjuncts (atomic l) ls → ⊥
+bare-conjunct = elim [ ]
+
+pub bare-atom : (l : Atom) → Flat (atomic l) → ⊥
+bare-atom l (conjunctive c d) = bare-conjunct c
+
+pub twice : (p q : Formula) (l : Atom) → Flat (both (under p (atomic l)) (under q (atomic l))) → ⊥
+twice p q l (conjunctive (more (one p2 l2) (one q2 l3)) d) = d .0 .0 refl
