@@ -3,7 +3,7 @@ use Prim.Native.Nat.{ℕ, zero, suc, _+_, _-_, _<_, _≤_}
 use native.Mathlib.Nat.{not-suc-le-zero}
 use native.Mathlib.Omega.{arith}
 use mathlib.Core.Path.{_≡_, refl, sym, ap, ap₂, _∙_}
-use mathlib.Core.Bool.{Bool, true, false, cond, _&&_}
+use mathlib.Core.Bool.{Bool, true, false, cond}
 use mathlib.Core.List.{List, [], _∷_, map}
 use lib.ListN.{length, getD, length-append, length-map, List·getD-append}
 use lib.Seq.{getD-append-add}
@@ -11,22 +11,13 @@ use lib.Dec.{ltb}
 use borrow.Author.Tests.{ltb-true, le-ltb}
 use Rattle.task.specs.Table.{Task}
 use Rattle.task.specs.Rules.{Rules}
-use Rattle.task.specs.Semantics.{sets, clears, effcond}
 use Rattle.task.specs.Run.{effect-of-operator, applicable, charge, Progress, after-step, Stop, ended, stopped, Run, answer, run-on, plain-run, unstopped, is-plan}
 use Rattle.task.specs.Corresponding.{Corresponding}
 use Rattle.normal_form.specs.Finished.{built, twin-values, finished}
+use Rattle.normal_form.specs.Alike.{Alike, StopsAt}
 use Rattle.normal_form.proofs.ShapeFinished.{finished-operators}
 use Rattle.normal_form.proofs.MeaningFinished.{same-goal, same-applicable, same-cost}
-use Rattle.normal_form.proofs.MeaningStep.{length-apply, correspond-after, free-of-conflict}
-
--- Two runs that answer alike, with last states that correspond.
-pub record Alike (originals : List ℕ) (r r′ : Run) : Type 0 where
-  pub states : Corresponding originals (r .state) (r′ .state)
-  pub steps : r .steps ≡ r′ .steps
-  pub cost : r .cost ≡ r′ .cost
-  pub stop : r .stop ≡ r′ .stop
-  pub goal : r .goal ≡ r′ .goal
-  pub plan : is-plan r ≡ is-plan r′
+use Rattle.normal_form.proofs.MeaningStep.{length-apply, correspond-after}
 
 -- The initial states correspond.
 map-at : (f : ℕ → ℕ) (l : List ℕ) (k : ℕ) → k < length l → getD (map f l) k 0 ≡ f (getD l k 0)
@@ -150,7 +141,8 @@ module _ (t : Task) (rules : Rules t) where
       below false e k =
           rw (run-outside t p o rest e, run-outside (finished t) p′ o rest (count ∙ e)) (alike-answer p p′ (stopped 17) a)
 
--- From corresponding states, whatever the list of operator numbers, the two plain runs are alike: one claim about the whole list.
+-- From corresponding states, whatever the list of operator numbers, the two plain runs are alike: one claim about the whole list. Neither
+-- W 0 nor the limits of the finished task are needed.
 pub alike-from :
     (t : Task)
     → Rules t
@@ -164,36 +156,7 @@ alike-from t rules s s′ width states numbers =
     run-alike t rules numbers (record { state = s; steps = 0; cost = 0 }) (record { state = s′; steps = 0; cost = 0 })
     (record { wide = width; states = states; steps = refl; cost = refl })
 
--- The same of a task that may be compiled: W is 0. Neither this nor the limits of the finished task are needed.
-pub demand-three :
-    (t : Task)
-    → Rules t
-    → length (t .originals) ≡ 0
-    → (s s′ : List ℕ)
-    → length s ≡ length (t .initial)
-    → Corresponding (finished t .originals) s s′
-    → (numbers : List ℕ)
-    → Alike (finished t .originals) (plain-run t s numbers) (plain-run (finished t) s′ numbers)
-demand-three t rules untwinned s s′ width states numbers = alike-from t rules s s′ width states numbers
-
--- In corresponding states no operator sets and clears a variable together, originals and twins, its precondition aside.
-pub no-conflict :
-    (t : Task)
-    → Rules t
-    → (s s′ : List ℕ)
-    → length s ≡ length (t .initial)
-    → Corresponding (finished t .originals) s s′
-    → (o x : ℕ)
-    → (effcond s′ (sets x) (effect-of-operator (finished t) o)
-    && effcond s′ (clears x) (effect-of-operator (finished t) o))
-    ≡ false
-no-conflict t rules s s′ width states o x = free-of-conflict t rules s s′ width states o x
-
--- A number not below O stops a run with 17 where it is met: state, steps and cost stay, and the rest is not read.
-pub record StopsAt (t : Task) (o : ℕ) : Type 0 where
-  pub met : (p : Progress) (rest : List ℕ) → run-on t p (o ∷ rest) ≡ answer t p (stopped 17)
-  pub first : (s rest : List ℕ) → plain-run t s (o ∷ rest) .stop ≡ stopped 17
-
+-- A number not below O stops a run with 17 where it is met.
 stops-at : (t : Task) (o : ℕ) → length (t .operators) ≤ o → StopsAt t o
 unfolding plain-run answer
 stops-at t o h =

@@ -1,0 +1,52 @@
+-- What the demands claim, as records: a field for each sentence.
+use Prim.Native.Nat.{ℕ, _≤_}
+use mathlib.Core.Path.{_≡_}
+use mathlib.Core.Bool.{false}
+use mathlib.Core.List.{List}
+use lib.ListN.{length}
+use Rattle.task.specs.Table.{Task, task-of}
+use Rattle.task.specs.Check.{refusal}
+use Rattle.task.specs.Words.{lent-of}
+use Rattle.task.specs.Rules.{Limits, Rules}
+use Rattle.task.specs.Run.{effect-of-operator, plain-run}
+use Rattle.task.specs.Corresponding.{Corresponding}
+use Rattle.normal_form.specs.Finished.{finished}
+use Rattle.normal_form.specs.Positive.{Positive, PositiveTask}
+use Rattle.normal_form.specs.Flat.{Flat}
+use Rattle.normal_form.specs.Alike.{Alike, StopsAt, together}
+
+-- A task compiles if its tables pass, W is 0 and the finished task keeps the limits, whatever is lent (01, "Stepping and running").
+pub record Compiles (t : Task) : Type 0 where
+  pub rules : Rules t
+  pub untwinned : length (t .originals) ≡ 0
+  pub room : Limits (finished t)
+
+-- Demand 2, of a compiled task: its tables pass the check, and are read as that task; no row of its formula table has a negation symbol, so
+-- none is in its goal, preconditions and effect conditions; every operator's effect is flat.
+pub record NormalForm (t : Task) : Type 0 where
+  pub passes : refusal (lent-of t) ≡ 0
+  pub lent : task-of (lent-of t) ≡ t
+  pub positive-rows : Positive t
+  pub positive : PositiveTask t
+  pub flat : (o : ℕ) → Flat (effect-of-operator t o)
+
+-- Demand 3, of a source task and its compiled task.
+pub record RunsAlike (source compiled : Task) : Type 0 where
+  -- For every list of operator numbers, of any length, and every pair of corresponding states, the two plain runs are alike: in steps, cost,
+  -- stop, goal, in being a plan, and their last states correspond.
+  pub runs :
+      (s s′ numbers : List ℕ)
+      → length s ≡ length (source .initial)
+      → Corresponding (compiled .originals) s s′
+      → Alike (compiled .originals) (plain-run source s numbers) (plain-run compiled s′ numbers)
+  -- The two initial states correspond.
+  pub initially : Corresponding (compiled .originals) (source .initial) (compiled .initial)
+  -- In corresponding states no compiled operator sets and clears a variable together, an original or a twin, whatever its precondition says.
+  pub free :
+      (s s′ : List ℕ)
+      → length s ≡ length (source .initial)
+      → Corresponding (compiled .originals) s s′
+      → (o x : ℕ)
+      → together compiled s′ o x ≡ false
+  -- A number outside the task is applicable in neither: both runs stop at it with 17.
+  pub outside : (o : ℕ) → length (source .operators) ≤ o → StopsAt source o × StopsAt compiled o
