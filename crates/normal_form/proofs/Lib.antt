@@ -25,3 +25,4 @@ pub mod ShapeSizes
 pub mod ShapeCounts
 pub mod ShapeLimits
 pub mod Examples
+pub mod Compiled

@@ -8,3 +8,4 @@ pub mod Finished
 pub mod Positive
 pub mod Flat
 pub mod Alike
+pub mod Compiled
