@@ -3,14 +3,17 @@ use Prim.Native.Nat.{ℕ}
 use mathlib.Core.Path.{_≡_, refl, ap}
 use mathlib.Core.List.{List}
 use lib.ListN.{length, take}
+use Rattle.task.specs.declared.Head.{Head}
 use Rattle.task.specs.Table.{Lent, Task, task-of}
 use Rattle.task.specs.Check.{refusal}
 use Rattle.task.specs.Rules.{Limits}
 use Rattle.task.specs.Run.{plain-run, is-plan}
 use Rattle.task.proofs.Kept.{kept-rules}
 use Rattle.normal_form.specs.Finished.{finished}
+use Rattle.normal_form.specs.Compiled.{Room, compiled-head, compiling, given}
 use Rattle.normal_form.proofs.MeaningStep.{free-of-conflict}
 use Rattle.normal_form.proofs.Demand.{alike-from, initial-correspond, outside}
+use Rattle.normal_form.proofs.Compiled.{given-compiles, given-task}
 use Rattle.claims.specs.Statements.{Compiles, RunsAlike}
 
 -- Demand 3, whole: one claim about every list of operator numbers and all answers.
@@ -39,6 +42,15 @@ pub demand-three-of-tables :
     → Limits (finished (task-of l))
     → RunsAlike (task-of l) (finished (task-of l))
 demand-three-of-tables l passed untwinned room = demand-three (task-of l) (tables-compile l passed untwinned room)
+
+-- The same of a compiling that succeeds: the source's tables and the tables that it gave.
+pub given-runs-alike :
+    (l : Lent) (room : Room) (h : Head)
+    → compiling l room .answer ≡ compiled-head h
+    → RunsAlike (task-of l) (task-of (given h (compiling l room)))
+given-runs-alike l room h success =
+    let c = given-compiles l room h success in
+    rw (given-task l room h success) (demand-three-of-tables l (c .passes) (c .untwinned) (c .fits .limits))
 
 -- What the users read off it: from the initial states the two tasks have the same plans, and each costs the same in both.
 pub same-plans :

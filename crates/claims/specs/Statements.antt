@@ -4,9 +4,8 @@ use mathlib.Core.Path.{_≡_}
 use mathlib.Core.Bool.{false}
 use mathlib.Core.List.{List}
 use lib.ListN.{length}
-use Rattle.task.specs.Table.{Task, task-of}
+use Rattle.task.specs.Table.{Lent, Task, task-of}
 use Rattle.task.specs.Check.{refusal}
-use Rattle.task.specs.Words.{lent-of}
 use Rattle.task.specs.Rules.{Limits, Rules}
 use Rattle.task.specs.Run.{effect-of-operator, plain-run}
 use Rattle.task.specs.Corresponding.{Corresponding}
@@ -21,14 +20,13 @@ pub record Compiles (t : Task) : Type 0 where
   pub untwinned : length (t .originals) ≡ 0
   pub room : Limits (finished t)
 
--- Demand 2, of a compiled task: its tables pass the check, and are read as that task; no row of its formula table has a negation symbol, so
--- none is in its goal, preconditions and effect conditions; every operator's effect is flat.
-pub record NormalForm (t : Task) : Type 0 where
-  pub passes : refusal (lent-of t) ≡ 0
-  pub lent : task-of (lent-of t) ≡ t
-  pub positive-rows : Positive t
-  pub positive : PositiveTask t
-  pub flat : (o : ℕ) → Flat (effect-of-operator t o)
+-- Demand 2, of a compiled task's tables: they pass the check; no row of the formula table has a negation symbol, so none is in the goal, the
+-- preconditions and the effect conditions; every operator's effect is flat.
+pub record NormalForm (l : Lent) : Type 0 where
+  pub passes : refusal l ≡ 0
+  pub positive-rows : Positive (task-of l)
+  pub positive : PositiveTask (task-of l)
+  pub flat : (o : ℕ) → Flat (effect-of-operator (task-of l) o)
 
 -- Demand 3, of a source task and its compiled task.
 pub record RunsAlike (source compiled : Task) : Type 0 where
