@@ -1,7 +1,6 @@
 -- The worked examples hold: one theorem computes the whole table.
 use mathlib.Core.Path.{_≡_, refl}
 use mathlib.Core.List.{map}
-use lib.ListN.{length, replicate}
 use Rattle.task.specs.Bounded.{every, upto}
 use Rattle.task.specs.Table.{formula-kind, effect-kind, row-at, operator-at, task-of}
 use Rattle.task.specs.Check.{counts-kept, goal-kept, long-enough, initial-kept, twin-kept, twins-kept, formula-words-kept, formula-kept, formulas-kept, effect-words-kept, effect-kept, effects-kept, operator-kept, operators-kept, refusal}
@@ -15,6 +14,7 @@ use Rattle.normal_form.specs.Conditions.{guarded, condition}
 use Rattle.normal_form.specs.Operators.{deletes-of, changes-of, built-operator, parts}
 use Rattle.normal_form.specs.Assembly.{rule, with-twin, rules-of, rules, atom-row, rule-rows, write-rule, write-rules, assemble-operator, assemble, unassembled}
 use Rattle.normal_form.specs.Finished.{built, assembled, twin-values, finished}
+use Rattle.normal_form.specs.Compiled.{scratch-kept, has-room, fits, compile-refusal, padded, nothing-given, task-given, outcome-by, compiling}
 use Rattle.claims.specs.Examples.{outcome, Example, table}
 
 -- every entry of the table is told as it stands there
@@ -27,4 +27,5 @@ unfolding
     plain-run unstopped is-plan give bind each place kept same-row row twin variable-row twin-row start choice joined join pair literal image
     guarded condition deletes-of changes-of built-operator parts rule with-twin rules-of rules atom-row rule-rows write-rule write-rules
     assemble-operator assemble unassembled built assembled twin-values finished
+    scratch-kept has-room fits compile-refusal padded nothing-given task-given outcome-by compiling
 table-holds = refl

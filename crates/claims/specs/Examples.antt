@@ -8,13 +8,13 @@ use Rattle.task.specs.Table.{Row, Operator, Lent, Task, task-of}
 use Rattle.task.specs.Check.{refusal}
 use Rattle.task.specs.Words.{lent-of}
 use Rattle.task.specs.Run.{Run, ended, plain-run, is-plan}
-use Rattle.normal_form.specs.Finished.{finished}
+use Rattle.normal_form.specs.Compiled.{Room, Answer, compiled-head, refused, Outcome, compiling, given}
 
--- What is asked: the check of tables; a run on tables, from a state; the compiling of tables.
+-- What is asked: the check of tables; a run on tables, from a state; the compiling of tables into what is lent.
 pub data Asked : Type 0 where
   check : Lent → Asked
   run : Lent → (state numbers : List ℕ) → Asked
-  compile : Lent → Asked
+  compile : Lent → Room → Asked
 
 -- What is told: a number; the answers of a run, and whether it is a plan; the compiled task.
 pub data Told : Type 0 where
@@ -22,13 +22,20 @@ pub data Told : Type 0 where
   answers : Run → (plan : Bool) → Told
   compiled : Task → Told
 
--- the definitions that the calls are held to
+-- what a compiling told: the task in the tables that it gave, or its number
+abbrev pub gave : Answer → Outcome → Told
+gave (compiled-head h) o = compiled (task-of (given h o))
+gave (refused n) o = number n
+
+-- by the definitions that the calls are held to
 unfoldable pub outcome : Asked → Told
 outcome (check l) = number (refusal l)
 outcome (run l s numbers) =
     let r = plain-run (task-of l) s numbers in
     answers r (is-plan r)
-outcome (compile l) = compiled (finished (task-of l))
+outcome (compile l room) =
+    let o = compiling l room in
+    gave (o .answer) o
 
 pub record Example : Type 0 where
   pub asked : Asked
@@ -92,6 +99,10 @@ whole =
     (operator 2 3 3 ∷ [])
     4
 
+-- room that the whole example just fills
+abbrev pub room : Room
+room = record { initial = 4; twins = 2; formulas = 21; effects = 36; operators = 3; scratch = 18 }
+
 abbrev pub table : List Example
 table =
     -- F 0 gives 6
@@ -121,7 +132,7 @@ table =
     }
     -- .. and no clear rule is built
     ∷ record {
-      asked = compile set-and-clear;
+      asked = compile set-and-clear room;
       told =
           compiled
           (record {
@@ -135,7 +146,7 @@ table =
     }
     -- v0 sets v1, v1 always cleared: the clear's condition (effect row 4) is v0's twin, formula row 3
     ∷ record {
-      asked = compile set-overrules;
+      asked = compile set-overrules room;
       told =
           compiled
           (record {
@@ -149,7 +160,7 @@ table =
     }
     -- set v under not v, clear v under v: the clear's condition (effect row 7) is the row "v and v", formula row 4
     ∷ record {
-      asked = compile flip;
+      asked = compile flip room;
       told =
           compiled
           (record {
@@ -176,7 +187,7 @@ table =
     }
     -- a formula over an empty effect builds nothing
     ∷ record {
-      asked = compile over-empty;
+      asked = compile over-empty room;
       told =
           compiled
           (record {
@@ -190,7 +201,7 @@ table =
     }
     -- the whole example
     ∷ record {
-      asked = compile whole;
+      asked = compile whole room;
       told =
           compiled
           (record {
