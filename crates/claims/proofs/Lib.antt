@@ -1,4 +1,4 @@
 pub mod DemandOne
-pub mod DemandTwo
+pub mod DemandTwoCompiled
 pub mod DemandThree
 pub mod Examples

@@ -1,4 +1,4 @@
--- Demand 2: what is built is what the scope says, positive and flat, within its limits; and what is built once is found again.
+-- Demand 2, of compiling: what is built is what the scope says, positive and flat, within its limits; and what is built once is found again.
 use Prim.Native.Nat.{ℕ, _+_, _*_, _≤_}
 use mathlib.Core.Path.{_≡_, ap, _∙_}
 use mathlib.Core.Logic.{_↔_}
