@@ -1,0 +1,4 @@
+// Stepping and running plans.
+mod outcome;
+
+pub use outcome::{StepOutcome, RunOutcome, End};
