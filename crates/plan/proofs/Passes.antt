@@ -8,20 +8,20 @@ use lib.ListN.{length, getD, set, length-set}
 use lib.Dec.{eqb}
 use borrow.Author.Tests.{eq-eqb, ne-eqb}
 use Rattle.task.specs.Table.{row-at}
-use Rattle.plan.specs.Marks.{acts, changed, Changeable}
+use Rattle.plan.specs.Marks.{on, acts, changed, Changeable}
 
 pub acts-not-marked : (words : List ℕ) (kind : ℕ) (scratch : List ℕ) (at k : ℕ)
     → getD scratch (at + k) 0 ≡ 0 → acts words kind scratch at k ≡ false
-unfolding acts
+unfolding acts on
 acts-not-marked words kind scratch at k e = rw (eq-eqb (getD scratch (at + k) 0) 0 e)
 
 module _ (words : List ℕ) (kind : ℕ) (scratch : List ℕ) (at k : ℕ) (m : getD scratch (at + k) 0 ≡ 0 → ⊥) where
   pub acts-other-kind : (row-at words k .kind ≡ kind → ⊥) → acts words kind scratch at k ≡ false
-  unfolding acts
+  unfolding acts on
   acts-other-kind d = rw (ne-eqb (getD scratch (at + k) 0) 0 m, ne-eqb (row-at words k .kind) kind d)
 
   pub acts-marked : row-at words k .kind ≡ kind → acts words kind scratch at k ≡ true
-  unfolding acts
+  unfolding acts on
   acts-marked e = rw (ne-eqb (getD scratch (at + k) 0) 0 m, eq-eqb (row-at words k .kind) kind e)
 
 -- what a pass has done before row n

@@ -1,15 +1,24 @@
--- A state changed by the marked rows of an effect table: what the passes over the marks leave.
+-- What the passes over scratch leave: the values of the formulas stand from 0 on, the marks of the effects behind them, from `at` on.
+-- Only the contracts of private helpers cite this file.
 use Prim.Native.Nat.{ℕ, zero, suc, _+_, _*_, _≤_, _<_}
 use mathlib.Core.Path.{_≡_}
-use mathlib.Core.Bool.{Bool, true, cond, not, _&&_}
+use mathlib.Core.Bool.{Bool, true, false, cond, not, _&&_}
 use mathlib.Core.List.{List}
 use lib.ListN.{length, getD, set}
 use lib.Dec.{eqb}
-use Rattle.task.specs.Table.{row-at}
+use Rattle.task.specs.Table.{Row, row-at, EffectKind, empty-kind, set-kind, clear-kind, both-kind, under-kind, unknown-effect, effect-kind}
+use Rattle.task.specs.Rules.{EffectRule}
 
--- row k is marked, the marks standing in scratch from `at` on, and is of this kind
+-- byte i of scratch is not 0: formula i holds; and, for i = at + k, effect row k is marked
+unfoldable pub on : List ℕ → ℕ → Bool
+on scratch i = not (eqb (getD scratch i 0) 0)
+
+abbrev pub marked : (scratch : List ℕ) (at k : ℕ) → Bool
+marked scratch at k = on scratch (at + k)
+
+-- row k is marked and of this kind
 unfoldable pub acts : (words : List ℕ) (kind : ℕ) (scratch : List ℕ) (at k : ℕ) → Bool
-acts words kind scratch at k = not (eqb (getD scratch (at + k) 0) 0) && eqb (row-at words k .kind) kind
+acts words kind scratch at k = marked scratch at k && eqb (row-at words k .kind) kind
 
 -- the value goes to each variable that one of the rows 0 .. n - 1 names that acts
 unfoldable pub changed : (words : List ℕ) (kind value : ℕ) (scratch : List ℕ) (at n : ℕ) → List ℕ → List ℕ
@@ -23,3 +32,56 @@ pub record Changeable (words : List ℕ) (kind : ℕ) (scratch : List ℕ) (at n
   pub rows : 3 * n ≤ length words
   pub marks : at + n ≤ length scratch
   pub named : (k : ℕ) → k < n → acts words kind scratch at k ≡ true → row-at words k .a < v
+
+-- a row that is carried out hands on: "both" to its two effects, "under" to its effect if the formula holds
+abbrev pub Hands : (holding : ℕ → Bool) (reached : ℕ → Bool) → EffectKind → (a b : ℕ) → Type 0
+Hands holding reached empty-kind a b = Unit
+Hands holding reached set-kind a b = Unit
+Hands holding reached clear-kind a b = Unit
+Hands holding reached both-kind a b = (reached a ≡ true) × (reached b ≡ true)
+Hands holding reached under-kind a b = holding a ≡ true → reached b ≡ true
+Hands holding reached unknown-effect a b = Unit
+
+-- row k of the words hands on to rows that are reached too
+abbrev pub HandsOn : (words : List ℕ) (holding reached : ℕ → Bool) → ℕ → Type 0
+HandsOn words holding reached k =
+    let r = row-at words k in
+    Hands holding reached (effect-kind (r .kind)) (r .a) (r .b)
+
+-- what marking from row `root` down asks: v variables, the rows and their marks are there, and the rows keep their rule
+pub record Markable (words : List ℕ) (v at root : ℕ) (scratch : List ℕ) : Type 0 where
+  pub rows : 3 * root + 3 ≤ length words
+  pub marks : at + root < length scratch
+  pub rule :
+      (k : ℕ)
+      → k ≤ root
+      → EffectRule v at k (effect-kind (row-at words k .kind)) (row-at words k .a) (row-at words k .b)
+
+-- what it leaves: the marked rows are the least that hold the root and hand on to their own
+pub record Marked (words : List ℕ) (at root : ℕ) (before after : List ℕ) : Type 0 where
+  pub same : length after ≡ length before
+  pub values : (i : ℕ) → i < at → getD after i 0 ≡ getD before i 0
+  pub root-marked : marked after at root ≡ true
+  pub closed : (k : ℕ) → k ≤ root → marked after at k ≡ true → HandsOn words (on before) (marked after at) k
+  pub least :
+      (p : ℕ → Bool)
+      → p root ≡ true
+      → ((k : ℕ) → k ≤ root → p k ≡ true → HandsOn words (on before) p k)
+      → (k : ℕ)
+      → k ≤ root
+      → marked after at k ≡ true
+      → p k ≡ true
+
+-- what handing on from row k leaves: its marks are added
+pub record HandedOn (words : List ℕ) (at k : ℕ) (before after : List ℕ) : Type 0 where
+  pub same : length after ≡ length before
+  pub values : (i : ℕ) → i < at → getD after i 0 ≡ getD before i 0
+  pub more : (j : ℕ) → marked before at j ≡ true → marked after at j ≡ true
+  pub hands : HandsOn words (on before) (marked after at) k
+  pub least :
+      (p : ℕ → Bool)
+      → HandsOn words (on before) p k
+      → ((j : ℕ) → marked before at j ≡ true → p j ≡ true)
+      → (j : ℕ)
+      → marked after at j ≡ true
+      → p j ≡ true

@@ -1,10 +1,8 @@
 // Carrying out an effect: the rows that act are marked, then the state is changed in place.
 ghost use Prim.Native.Nat.{ℕ, _+_, _*_, _≤_, _<_};
 ghost use mathlib.Core.Path.{_≡_};
-ghost use mathlib.Core.Bool.{true};
 ghost use lib.ListN.{length};
-ghost use Rattle.task.specs.Table.{row-at};
-ghost use Rattle.plan.specs.Marks.{acts, changed, Changeable};
+ghost use Rattle.plan.specs.Marks.{changed, Changeable, Markable, Marked, HandedOn};
 
 // The value goes to each variable that a marked row of this kind names, among the rows below `rows`. Linear in `rows`.
 fn change(effects: &[u16], rows: usize, kind: u16, value: u8, state: &mut [u8], scratch: &[u8], at: usize)
@@ -20,6 +18,24 @@ fn change(effects: &[u16], rows: usize, kind: u16, value: u8, state: &mut [u8], 
                 let v = effects[3 * i + 1] as usize;
                 state[v] = value;
             }
+        }
+    }
+}
+
+// Row i hands on: "both" marks its two effects, "under" its effect if the formula holds. Constant time.
+fn hand_on(effects: &[u16], i: usize, variables: usize, scratch: &mut [u8], at: usize)
+    requires { ⌜ Markable (now effects) variables at i (now scratch) ⌝ }
+    ensures { λ _. ⌜ HandedOn (now (effects .entry)) at i (now (scratch .entry)) (now (scratch .exit)) ⌝ }
+{
+    let kind = effects[3 * i];
+    let a = effects[3 * i + 1] as usize;
+    let b = effects[3 * i + 2] as usize;
+    if kind == 3 {
+        scratch[at + a] = 1;
+        scratch[at + b] = 1;
+    } else if kind == 4 {
+        if scratch[a] != 0 {
+            scratch[at + b] = 1;
         }
     }
 }
