@@ -87,7 +87,7 @@ module _ (words : List ℕ) (v at k : ℕ) (s : List ℕ) (m : Markable words v 
         values = λ i l. second .values i l ∙ first .values i l;
         more = λ j q. second .more j (first .more j q);
         hands = rw e (second .more (row-at words k .a) (first .here), second .here);
-        least = λ p hp old j. closing p (rw e at hp) old j;
+        least = λ p hp. closing p (rw e at hp);
       }
     where
       refs : (row-at words k .a < k) × (row-at words k .b < k)
@@ -101,11 +101,11 @@ module _ (words : List ℕ) (v at k : ℕ) (s : List ℕ) (m : Markable words v 
       closing :
           (p : ℕ → Bool)
           → (p (row-at words k .a) ≡ true) × (p (row-at words k .b) ≡ true)
-          → ((j : ℕ) → marked s at j ≡ true → p j ≡ true)
           → (j : ℕ)
+          → (marked s at j ≡ true → p j ≡ true)
           → marked (set (set s (at + row-at words k .a) 1) (at + row-at words k .b) 1) at j ≡ true
           → p j ≡ true
-      closing p hp old j q = second .least p j (hp .1) (first .least p j (hp .0) (old j)) q
+      closing p hp j old q = second .least p j (hp .1) (first .least p j (hp .0) old) q
 
   pub handed-under :
       row-at words k .kind ≡ 4
@@ -118,7 +118,7 @@ module _ (words : List ℕ) (v at k : ℕ) (s : List ℕ) (m : Markable words v 
         values = one .values;
         more = one .more;
         hands = rw e (λ t. one .here);
-        least = λ p hp old j. closing p (rw e at hp) old j;
+        least = λ p hp. closing p (rw e at hp);
       }
     where
       refs : (row-at words k .a < at) × (row-at words k .b < k)
@@ -128,16 +128,16 @@ module _ (words : List ℕ) (v at k : ℕ) (s : List ℕ) (m : Markable words v 
       closing :
           (p : ℕ → Bool)
           → (on s (row-at words k .a) ≡ true → p (row-at words k .b) ≡ true)
-          → ((j : ℕ) → marked s at j ≡ true → p j ≡ true)
           → (j : ℕ)
+          → (marked s at j ≡ true → p j ≡ true)
           → marked (set s (at + row-at words k .b) 1) at j ≡ true
           → p j ≡ true
-      closing p hp old j q = one .least p j (hp (not-zero-on s (row-at words k .a) holding)) (old j) q
+      closing p hp j old q = one .least p j (hp (not-zero-on s (row-at words k .a) holding)) old q
 
   -- nothing is handed on
   idle : HandsOn words (on s) (marked s at) k → HandedOn words at k s s
   idle h =
-      record { same = refl; values = λ i l. refl; more = λ j q. q; hands = h; least = λ p hp old j q. old j q }
+      record { same = refl; values = λ i l. refl; more = λ j q. q; hands = h; least = λ p hp j old q. old q }
 
   pub handed-shut : row-at words k .kind ≡ 4 → getD s (row-at words k .a) 0 ≡ 0 → HandedOn words at k s s
   unfolding effect-kind

@@ -1,3 +1,4 @@
 pub mod Passes
 pub mod Handing
 pub mod Valuing
+pub mod Marking

@@ -81,7 +81,14 @@ pub record HandedOn (words : List ℕ) (at k : ℕ) (before after : List ℕ) : 
   pub least :
       (p : ℕ → Bool)
       → HandsOn words (on before) p k
-      → ((j : ℕ) → marked before at j ≡ true → p j ≡ true)
       → (j : ℕ)
+      → (marked before at j ≡ true → p j ≡ true)
       → marked after at j ≡ true
       → p j ≡ true
+
+-- the first mark: only the root, among the rows up to it
+pub record Begun (at root : ℕ) (before after : List ℕ) : Type 0 where
+  pub same : length after ≡ length before
+  pub values : (i : ℕ) → i < at → getD after i 0 ≡ getD before i 0
+  pub root-marked : marked after at root ≡ true
+  pub only : (k : ℕ) → k < root → marked after at k ≡ false

@@ -2,7 +2,7 @@
 ghost use Prim.Native.Nat.{ℕ, _+_, _*_, _≤_, _<_};
 ghost use mathlib.Core.Path.{_≡_};
 ghost use lib.ListN.{length};
-ghost use Rattle.plan.specs.Marks.{changed, Changeable, Markable, Marked, HandedOn};
+ghost use Rattle.plan.specs.Marks.{changed, Changeable, Markable, Marked, HandedOn, Begun};
 
 // The value goes to each variable that a marked row of this kind names, among the rows below `rows`. Linear in `rows`.
 fn change(effects: &[u16], rows: usize, kind: u16, value: u8, state: &mut [u8], scratch: &[u8], at: usize)
@@ -36,6 +36,31 @@ fn hand_on(effects: &[u16], i: usize, variables: usize, scratch: &mut [u8], at: 
     } else if kind == 4 {
         if scratch[a] != 0 {
             scratch[at + b] = 1;
+        }
+    }
+}
+
+// The root alone is marked, among the rows up to it. Linear in `root`.
+fn begin_marks(scratch: &mut [u8], at: usize, root: usize)
+    requires { ⌜ at + root < length (now scratch) ⌝ }
+    ensures { λ _. ⌜ Begun at root (now (scratch .entry)) (now (scratch .exit)) ⌝ }
+{
+    let end = at + root;
+    crate::buffers::clear(&mut scratch[at..end]);
+    scratch[end] = 1;
+}
+
+// The rows that act when row `root` is carried out are marked, from the root down. Linear in `root`.
+fn mark(effects: &[u16], root: usize, variables: usize, scratch: &mut [u8], at: usize)
+    requires { ⌜ Markable (now effects) variables at root (now scratch) ⌝ }
+    ensures { λ _. ⌜ Marked (now (effects .entry)) at root (now (scratch .entry)) (now (scratch .exit)) ⌝ }
+{
+    begin_marks(scratch, at, root);
+    let mut left = root + 1;
+    while 0 < left {
+        left -= 1;
+        if scratch[at + left] != 0 {
+            hand_on(effects, left, variables, scratch, at);
         }
     }
 }
