@@ -6,3 +6,9 @@ pub mod Kept
 pub mod Words
 pub mod Trees
 pub mod Down
+pub mod Values
+pub mod Marks
+pub mod Marking
+pub mod MarkingLoop
+pub mod Changes
+pub mod Step
