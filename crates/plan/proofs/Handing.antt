@@ -6,13 +6,13 @@ use native.Mathlib.Omega.{arith}
 use mathlib.Core.Path.{_≡_, refl, sym, ap, _∙_}
 use mathlib.Core.Bool.{Bool, true, false, not, false≢true}
 use mathlib.Core.List.{List}
+use mathlib.Core.Logic.{_⊎_, inl, inr, ⊎-elim}
 use lib.ListN.{length, getD, set, length-set}
 use lib.Seq.{getD-set-same, getD-set-other}
 use lib.Dec.{eqb}
 use borrow.Author.Tests.{eq-eqb, ne-eqb}
 use Rattle.task.specs.Table.{Row, row-at, EffectKind, empty-kind, set-kind, clear-kind, both-kind, under-kind, unknown-effect, effect-kind}
-use Rattle.task.specs.Rules.{EffectRule}
-use Rattle.plan.specs.Marks.{on, marked, Hands, HandsOn, Markable, HandedOn}
+use Rattle.plan.specs.Marks.{on, marked, HandsTo, to-left, to-right, to-inner, Markable, HandedOn}
 
 pub on-same : (s t : List ℕ) (i : ℕ) → getD t i 0 ≡ getD s i 0 → on t i ≡ on s i
 unfolding on
@@ -24,7 +24,7 @@ record Added (at j : ℕ) (before after : List ℕ) : Type 0 where
   values : (i : ℕ) → i < at → getD after i 0 ≡ getD before i 0
   more : (i : ℕ) → marked before at i ≡ true → marked after at i ≡ true
   here : marked after at j ≡ true
-  least : (P : ℕ → Bool) (i : ℕ) → P j ≡ true → (marked before at i ≡ true → P i ≡ true) → marked after at i ≡ true → P i ≡ true
+  new : (i : ℕ) → marked after at i ≡ true → (marked before at i ≡ true) ⊎ (i ≡ j)
 
 add : (at j : ℕ) (s : List ℕ) → at + j < length s → Added at j s (set s (at + j) 1)
 unfolding on
@@ -34,7 +34,7 @@ add at j s h =
       values = λ i l. getD-set-other s (at + j) i 1 0 (omega arith);
       more = λ i m. by-place i (λ q. rw q stored) (λ d. rw (getD-set-other s (at + j) (at + i) 1 0 d) m);
       here = stored;
-      least = λ P i p rest m. by-place i (λ q. let e : i ≡ j = omega arith in rw e p) (λ d. rest (rw (getD-set-other s (at + j) (at + i) 1 0 d) at m));
+      new = λ i m. by-place i (λ q. inr (omega arith)) (λ d. inl (rw (getD-set-other s (at + j) (at + i) 1 0 d) at m));
     }
   where
     stored : not (eqb (getD (set s (at + j) 1) (at + j) 0) 0) ≡ true
@@ -54,20 +54,41 @@ pub zero-off : (s : List ℕ) (i : ℕ) → getD s i 0 ≡ 0 → on s i ≡ fals
 unfolding on
 zero-off s i z = rw (eq-eqb (getD s i 0) 0 z)
 
-other-kind :
-    (holding reached : ℕ → Bool) (a b n : ℕ)
-    → (n ≡ 3 → ⊥)
-    → (n ≡ 4 → ⊥)
-    → Hands holding reached (effect-kind n) a b
-unfolding effect-kind
-other-kind holding reached a b zero d e = tt
-other-kind holding reached a b (suc zero) d e = tt
-other-kind holding reached a b (suc (suc zero)) d e = tt
-other-kind holding reached a b (suc (suc (suc zero))) d e = absurd (d refl)
-other-kind holding reached a b (suc (suc (suc (suc zero)))) d e = absurd (e refl)
-other-kind holding reached a b (suc (suc (suc (suc (suc n))))) d e = tt
+-- a kind has one number
+number : EffectKind → ℕ
+number empty-kind = 0
+number set-kind = 1
+number clear-kind = 2
+number both-kind = 3
+number under-kind = 4
+number unknown-effect = 5
 
--- by the kind of row k, what is asked of it and what it hands on
+known-kind : (n : ℕ) → number (effect-kind n) < 5 → n ≡ number (effect-kind n)
+unfolding effect-kind number
+known-kind zero h = refl
+known-kind (suc zero) h = refl
+known-kind (suc (suc zero)) h = refl
+known-kind (suc (suc (suc zero))) h = refl
+known-kind (suc (suc (suc (suc zero)))) h = refl
+known-kind (suc (suc (suc (suc (suc n))))) h = absurd (omega arith)
+
+both-number : (n : ℕ) → effect-kind n ≡ both-kind → n ≡ 3
+unfolding number
+both-number n e = let q : number (effect-kind n) ≡ 3 = ap number e in known-kind n (omega arith) ∙ q
+
+both-kind-of : {n : ℕ} → n ≡ 3 → effect-kind n ≡ both-kind
+unfolding effect-kind
+both-kind-of e = rw e
+
+under-kind-of : {n : ℕ} → n ≡ 4 → effect-kind n ≡ under-kind
+unfolding effect-kind
+under-kind-of e = rw e
+
+under-number : (n : ℕ) → effect-kind n ≡ under-kind → n ≡ 4
+unfolding number
+under-number n e = let q : number (effect-kind n) ≡ 4 = ap number e in known-kind n (omega arith) ∙ q
+
+-- by the number of row k's kind: what is asked of it, and what handing on leaves
 module _ (words : List ℕ) (v at k : ℕ) (s : List ℕ) (m : Markable words v at k s) where
   pub both-refs : row-at words k .kind ≡ 3 → (row-at words k .a < k) × (row-at words k .b < k)
   unfolding effect-kind
@@ -80,69 +101,81 @@ module _ (words : List ℕ) (v at k : ℕ) (s : List ℕ) (m : Markable words v 
   pub handed-both :
       row-at words k .kind ≡ 3
       → HandedOn words at k s (set (set s (at + row-at words k .a) 1) (at + row-at words k .b) 1)
-  unfolding effect-kind
   handed-both e =
       record {
         same = second .same ∙ first .same;
         values = λ i l. second .values i l ∙ first .values i l;
         more = λ j q. second .more j (first .more j q);
-        hands = rw e (second .more (row-at words k .a) (first .here), second .here);
-        least = λ p hp. closing p (rw e at hp);
+        hands = reaches;
+        new =
+          λ j q.
+            ⊎-elim (λ p. ⊎-elim inl (λ z. inr (rw z (to-left kind))) (first .new j p)) (λ z. inr (rw z (to-right kind)))
+            (second .new j q);
       }
     where
+      kind : effect-kind (row-at words k .kind) ≡ both-kind
+      kind = both-kind-of e
       refs : (row-at words k .a < k) × (row-at words k .b < k)
       refs = both-refs e
-      half : List ℕ
-      half = set s (at + row-at words k .a) 1
       first : Added at (row-at words k .a) s (set s (at + row-at words k .a) 1)
       first = add at (row-at words k .a) s (omega (arith, m .marks, refs))
       second : Added at (row-at words k .b) (set s (at + row-at words k .a) 1) (set (set s (at + row-at words k .a) 1) (at + row-at words k .b) 1)
       second = add at (row-at words k .b) (set s (at + row-at words k .a) 1) (omega (arith, m .marks, refs, first .same))
-      closing :
-          (p : ℕ → Bool)
-          → (p (row-at words k .a) ≡ true) × (p (row-at words k .b) ≡ true)
-          → (j : ℕ)
-          → (marked s at j ≡ true → p j ≡ true)
+      reaches :
+          (j : ℕ)
+          → HandsTo words (on s) k j
           → marked (set (set s (at + row-at words k .a) 1) (at + row-at words k .b) 1) at j ≡ true
-          → p j ≡ true
-      closing p hp j old q = second .least p j (hp .1) (first .least p j (hp .0) old) q
+      reaches j (to-left q) = second .more (row-at words k .a) (first .here)
+      reaches j (to-right q) = second .here
+      reaches j (to-inner q h) = absurd (omega (arith, under-number (row-at words k .kind) q))
 
   pub handed-under :
       row-at words k .kind ≡ 4
       → (getD s (row-at words k .a) 0 ≡ 0 → ⊥)
       → HandedOn words at k s (set s (at + row-at words k .b) 1)
-  unfolding effect-kind
   handed-under e holding =
       record {
         same = one .same;
         values = one .values;
         more = one .more;
-        hands = rw e (λ t. one .here);
-        least = λ p hp. closing p (rw e at hp);
+        hands = reaches;
+        new = λ j q. ⊎-elim inl (λ z. inr (rw z (to-inner kind (not-zero-on s (row-at words k .a) holding)))) (one .new j q);
       }
     where
+      kind : effect-kind (row-at words k .kind) ≡ under-kind
+      kind = under-kind-of e
       refs : (row-at words k .a < at) × (row-at words k .b < k)
       refs = under-refs e
       one : Added at (row-at words k .b) s (set s (at + row-at words k .b) 1)
       one = add at (row-at words k .b) s (omega (arith, m .marks, refs))
-      closing :
-          (p : ℕ → Bool)
-          → (on s (row-at words k .a) ≡ true → p (row-at words k .b) ≡ true)
-          → (j : ℕ)
-          → (marked s at j ≡ true → p j ≡ true)
-          → marked (set s (at + row-at words k .b) 1) at j ≡ true
-          → p j ≡ true
-      closing p hp j old q = one .least p j (hp (not-zero-on s (row-at words k .a) holding)) old q
+      reaches : (j : ℕ) → HandsTo words (on s) k j → marked (set s (at + row-at words k .b) 1) at j ≡ true
+      reaches j (to-left q) = absurd (omega (arith, both-number (row-at words k .kind) q))
+      reaches j (to-right q) = absurd (omega (arith, both-number (row-at words k .kind) q))
+      reaches j (to-inner q h) = one .here
 
   -- nothing is handed on
-  idle : HandsOn words (on s) (marked s at) k → HandedOn words at k s s
-  idle h =
-      record { same = refl; values = λ i l. refl; more = λ j q. q; hands = h; least = λ p hp j old q. old q }
+  idle : ((j : ℕ) → HandsTo words (on s) k j → ⊥) → HandedOn words at k s s
+  idle none =
+      record {
+        same = refl;
+        values = λ i l. refl;
+        more = λ j q. q;
+        hands = λ j h. absurd (none j h);
+        new = λ j q. inl q;
+      }
 
   pub handed-shut : row-at words k .kind ≡ 4 → getD s (row-at words k .a) 0 ≡ 0 → HandedOn words at k s s
-  unfolding effect-kind
-  handed-shut e z = idle (rw e (λ t. absurd (false≢true (sym (zero-off s (row-at words k .a) z) ∙ t))))
+  handed-shut e z = idle none
+    where
+      none : (j : ℕ) → HandsTo words (on s) k j → ⊥
+      none j (to-left q) = omega (arith, both-number (row-at words k .kind) q)
+      none j (to-right q) = omega (arith, both-number (row-at words k .kind) q)
+      none j (to-inner q h) = false≢true (sym (zero-off s (row-at words k .a) z) ∙ h)
 
   pub handed-none : (row-at words k .kind ≡ 3 → ⊥) → (row-at words k .kind ≡ 4 → ⊥) → HandedOn words at k s s
-  handed-none d e =
-      idle (other-kind (on s) (marked s at) (row-at words k .a) (row-at words k .b) (row-at words k .kind) d e)
+  handed-none d e = idle none
+    where
+      none : (j : ℕ) → HandsTo words (on s) k j → ⊥
+      none j (to-left q) = d (both-number (row-at words k .kind) q)
+      none j (to-right q) = d (both-number (row-at words k .kind) q)
+      none j (to-inner q h) = e (under-number (row-at words k .kind) q)

@@ -2,17 +2,16 @@
 use Prim.Native.Nat.{ℕ, zero, suc, _+_, _-_, _*_, _≤_, _<_}
 use native.Mathlib.Omega.{arith}
 use native.Mathlib.Decide.{decLt}
-use mathlib.Core.Path.{_≡_, refl, sym, ap, _∙_}
-use mathlib.Core.Bool.{Bool, true, false, not, _||_, false≢true}
+use mathlib.Core.Path.{_≡_, refl, sym, ap, subst, _∙_}
+use mathlib.Core.Logic.{⊎-elim}
+use mathlib.Core.Bool.{Bool, true, false, false≢true}
 use mathlib.Core.List.{List, _++_}
 use lib.ListN.{length, getD, set, take, drop, replicate, length-set, length-append, length-drop, length-replicate, getD-replicate, List·getD-append}
 use lib.Seq.{getD-set-same, getD-set-other, getD-take, getD-append-add, length-take-le}
-use lib.Dec.{ltb}
-use borrow.Author.Tests.{lt-ltb, le-ltb}
 use borrow.Rule.Slice.PartMut.{midOf, putMid, same-len-mid}
 use Rattle.task.specs.Table.{Row, row-at, EffectKind, empty-kind, set-kind, clear-kind, both-kind, under-kind, unknown-effect, effect-kind}
 use Rattle.task.specs.Rules.{EffectRule}
-use Rattle.plan.specs.Marks.{on, marked, Hands, HandsOn, Markable, Marked, HandedOn, Begun}
+use Rattle.plan.specs.Marks.{on, marked, HandsTo, to-left, to-right, to-inner, Reached, at-root, handed, Markable, Marked, HandedOn, Begun}
 use Rattle.plan.proofs.Handing.{on-same, not-zero-on, zero-off}
 
 module _ (at root : ℕ) (s ys : List ℕ) (room : at + root < length s) where
@@ -57,70 +56,42 @@ module _ (at root : ℕ) (s ys : List ℕ) (room : at + root < length s) where
           ∙ List·getD-append ys (drop (at + root - at) (drop at s)) 0 k (omega (arith, many))
           ∙ rw e (getD-replicate (length (midOf at (at + root - at) s)) k 0 0 (omega (arith, mid-length)))
 
--- handing on, with other truth values that agree below the bound, and to more rows
-hands-same :
-    (v at k : ℕ) (h g p : ℕ → Bool) (kind : EffectKind) (a b : ℕ)
-    → EffectRule v at k kind a b
-    → ((i : ℕ) → i < at → h i ≡ g i)
-    → Hands h p kind a b
-    → Hands g p kind a b
-hands-same v at k h g p empty-kind a b rule same hands = tt
-hands-same v at k h g p set-kind a b rule same hands = tt
-hands-same v at k h g p clear-kind a b rule same hands = tt
-hands-same v at k h g p both-kind a b rule same hands = hands
-hands-same v at k h g p under-kind a b rule same hands = λ t. hands (same a (rule .0) ∙ t)
-hands-same v at k h g p unknown-effect a b rule same hands = tt
+-- the rows that a row hands on to are lower, and with other truth values that agree below the bound they are the same
+module _ (words : List ℕ) (v at k : ℕ) (rule : EffectRule v at k (effect-kind (row-at words k .kind)) (row-at words k .a) (row-at words k .b)) where
+  rule-as : (kind : EffectKind) → effect-kind (row-at words k .kind) ≡ kind → EffectRule v at k kind (row-at words k .a) (row-at words k .b)
+  rule-as kind e = subst (λ (x : EffectKind). EffectRule v at k x (row-at words k .a) (row-at words k .b)) e rule
 
-hands-more :
-    (h p q : ℕ → Bool) (kind : EffectKind) (a b : ℕ)
-    → ((i : ℕ) → p i ≡ true → q i ≡ true)
-    → Hands h p kind a b
-    → Hands h q kind a b
-hands-more h p q empty-kind a b more hands = tt
-hands-more h p q set-kind a b more hands = tt
-hands-more h p q clear-kind a b more hands = tt
-hands-more h p q both-kind a b more hands = (more a (hands .0), more b (hands .1))
-hands-more h p q under-kind a b more hands = λ t. more b (hands t)
-hands-more h p q unknown-effect a b more hands = tt
+  hands-below : (h : ℕ → Bool) (j : ℕ) → HandsTo words h k j → j < k
+  hands-below h j (to-left e) = rule-as both-kind e .0
+  hands-below h j (to-right e) = rule-as both-kind e .1
+  hands-below h j (to-inner e t) = rule-as under-kind e .1
 
-hands-low :
-    (v at k : ℕ) (h p : ℕ → Bool) (kind : EffectKind) (a b : ℕ)
-    → EffectRule v at k kind a b
-    → ((i : ℕ) → i < k → p i ≡ true)
-    → Hands h p kind a b
-hands-low v at k h p empty-kind a b rule low = tt
-hands-low v at k h p set-kind a b rule low = tt
-hands-low v at k h p clear-kind a b rule low = tt
-hands-low v at k h p both-kind a b rule low = (low a (rule .0), low b (rule .1))
-hands-low v at k h p under-kind a b rule low = λ t. low b (rule .1)
-hands-low v at k h p unknown-effect a b rule low = tt
+  hands-same : (h g : ℕ → Bool) → ((i : ℕ) → i < at → h i ≡ g i) → (j : ℕ) → HandsTo words h k j → HandsTo words g k j
+  hands-same h g same j (to-left e) = to-left e
+  hands-same h g same j (to-right e) = to-right e
+  hands-same h g same j (to-inner e t) = to-inner e (sym (same (row-at words k .a) (rule-as under-kind e .0)) ∙ t)
 
-or-left : (a b : Bool) → a ≡ true → (a || b) ≡ true
-or-left a b e = rw e
+-- what is reached is no higher than the root
+module _ (words : List ℕ) (v at root : ℕ) (s : List ℕ) (m : Markable words v at root s) where
+  pub reached-below : (h : ℕ → Bool) (k : ℕ) → Reached words h root k → k ≤ root
+  reached-below h k at-root = omega arith
+  reached-below h k (handed i j r t) =
+      let l : i ≤ root = reached-below h i r in
+      omega (arith, hands-below words v at i (m .rule i l) h k t)
 
-or-second : (a b : Bool) → b ≡ true → (a || b) ≡ true
-or-second true b e = refl
-or-second false b e = e
-
-or-right : (a b : Bool) → a ≡ false → (a || b) ≡ true → b ≡ true
-or-right true b e h = absurd (false≢true (sym e))
-or-right false b e h = h
+  reached-same : (h g : ℕ → Bool) → ((i : ℕ) → i < at → h i ≡ g i) → (k : ℕ) → Reached words h root k → Reached words g root k
+  reached-same h g same k at-root = at-root
+  reached-same h g same k (handed i j r t) =
+      handed i j (reached-same h g same i r) (hands-same words v at i (m .rule i (reached-below h i r)) h g same k t)
 
 -- the loop: the rows from `left` on have handed on
 pub record Going (words : List ℕ) (at root : ℕ) (before : List ℕ) (left : ℕ) (after : List ℕ) : Type 0 where
   pub same : length after ≡ length before
   pub values : (i : ℕ) → i < at → getD after i 0 ≡ getD before i 0
   pub root-marked : marked after at root ≡ true
-  pub closed :
-      (k : ℕ) → left ≤ k → k ≤ root → marked after at k ≡ true → HandsOn words (on before) (marked after at) k
-  pub least :
-      (p : ℕ → Bool)
-      → p root ≡ true
-      → ((k : ℕ) → k ≤ root → p k ≡ true → HandsOn words (on before) p k)
-      → (k : ℕ)
-      → k ≤ root
-      → marked after at k ≡ true
-      → p k ≡ true
+  pub sound : (k : ℕ) → k ≤ root → marked after at k ≡ true → Reached words (on before) root k
+  pub passed :
+      (k j : ℕ) → left ≤ k → k ≤ root → marked after at k ≡ true → HandsTo words (on before) k j → marked after at j ≡ true
 
 pub starts : (words : List ℕ) (at root : ℕ) (before after : List ℕ) → Begun at root before after → Going words at root after (root + 1) after
 starts words at root before after g =
@@ -128,13 +99,13 @@ starts words at root before after g =
       same = refl;
       values = λ i l. refl;
       root-marked = g .root-marked;
-      closed = λ k l h. absurd (omega arith);
-      least = λ p q closed k l m. only-root k l p q m (decLt k root);
+      sound = λ k l m. only-root k l m (decLt k root);
+      passed = λ k j l h. absurd (omega arith);
     }
   where
-    only-root : (k : ℕ) → k ≤ root → (p : ℕ → Bool) → p root ≡ true → marked after at k ≡ true → Dec (k < root) → p k ≡ true
-    only-root k l p q m (yes h) = absurd (false≢true (sym (g .only k h) ∙ m))
-    only-root k l p q m (no h) = let e : k ≡ root = omega arith in rw e q
+    only-root : (k : ℕ) → k ≤ root → marked after at k ≡ true → Dec (k < root) → Reached words (on after) root k
+    only-root k l m (yes h) = absurd (false≢true (sym (g .only k h) ∙ m))
+    only-root k l m (no h) = let e : k ≡ root = omega arith in rw e at-root
 
 pub first-markable :
     (words : List ℕ) (v at root : ℕ) (before after : List ℕ)
@@ -163,15 +134,15 @@ module _
         same = g .same;
         values = g .values;
         root-marked = g .root-marked;
-        closed = λ k l h q. by-row k l h q (decLt k left);
-        least = g .least;
+        sound = g .sound;
+        passed = λ k j l h q t. by-row k j l h q t (decLt k left);
       }
     where
-      by-row : (k : ℕ) → left - 1 ≤ k → k ≤ root → marked s at k ≡ true → Dec (k < left) → HandsOn words (on before) (marked s at) k
-      by-row k l h q (yes b) =
+      by-row : (k j : ℕ) → left - 1 ≤ k → k ≤ root → marked s at k ≡ true → HandsTo words (on before) k j → Dec (k < left) → marked s at j ≡ true
+      by-row k j l h q t (yes b) =
           let e : k ≡ left - 1 = omega arith in
           absurd (false≢true (sym (zero-off s (at + (left - 1)) z) ∙ (rw e at q)))
-      by-row k l h q (no b) = g .closed k (omega arith) h q
+      by-row k j l h q t (no b) = g .passed k j (omega arith) h q t
 
   -- the row is marked, and has handed on
   pub hands-on :
@@ -184,41 +155,26 @@ module _
         same = w .same ∙ g .same;
         values = λ i l. w .values i l ∙ g .values i l;
         root-marked = w .more root (g .root-marked);
-        closed = λ k l h q. by-row k l h q (decLt k left);
-        least =
-          λ p q closed k l r.
-            w .least p (here-holding p (closed (left - 1) (omega arith) (g .least p q closed (left - 1) (omega arith) on-here))) k
-            (λ old. g .least p q closed k l old) r;
+        sound = λ k l q. ⊎-elim (g .sound k l) (λ h. handed (left - 1) k here (from-now k h)) (w .new k q);
+        passed = λ k j l h q r. by-row k j l h q r (decLt k left);
       }
     where
       rule : EffectRule v at (left - 1) (effect-kind (row-at words (left - 1) .kind)) (row-at words (left - 1) .a) (row-at words (left - 1) .b)
       rule = m .rule (left - 1) (omega arith)
-      on-here : marked s at (left - 1) ≡ true
-      on-here = not-zero-on s (at + (left - 1)) d
-      here-holding : (p : ℕ → Bool) → HandsOn words (on before) p (left - 1) → HandsOn words (on s) p (left - 1)
-      here-holding p =
-          hands-same v at (left - 1) (on before) (on s) p (effect-kind (row-at words (left - 1) .kind)) (row-at words (left - 1) .a)
-          (row-at words (left - 1) .b) rule (λ i l. sym (on-same before s i (g .values i l)))
-      before-holding : (p : ℕ → Bool) → HandsOn words (on s) p (left - 1) → HandsOn words (on before) p (left - 1)
-      before-holding p =
-          hands-same v at (left - 1) (on s) (on before) p (effect-kind (row-at words (left - 1) .kind)) (row-at words (left - 1) .a)
-          (row-at words (left - 1) .b) rule (λ i l. on-same before s i (g .values i l))
-      -- what is marked from `left` on was marked before
-      old-mark : (k : ℕ) → left ≤ k → marked t at k ≡ true → marked s at k ≡ true
-      old-mark k l q =
-          or-right (ltb k (left - 1)) (marked s at k) (le-ltb k (left - 1) (omega arith))
-          (w .least (λ j. ltb j (left - 1) || marked s at j)
-          (hands-low v at (left - 1) (on s) (λ j. ltb j (left - 1) || marked s at j) (effect-kind (row-at words (left - 1) .kind))
-          (row-at words (left - 1) .a) (row-at words (left - 1) .b) rule
-          (λ i b. or-left (ltb i (left - 1)) (marked s at i) (lt-ltb i (left - 1) b)))
-          k (λ old. or-second (ltb k (left - 1)) (marked s at k) old) q)
-      by-row : (k : ℕ) → left - 1 ≤ k → k ≤ root → marked t at k ≡ true → Dec (k < left) → HandsOn words (on before) (marked t at) k
-      by-row k l h q (yes b) =
+      here : Reached words (on before) root (left - 1)
+      here = g .sound (left - 1) (omega arith) (not-zero-on s (at + (left - 1)) d)
+      from-now : (j : ℕ) → HandsTo words (on s) (left - 1) j → HandsTo words (on before) (left - 1) j
+      from-now = hands-same words v at (left - 1) rule (on s) (on before) (λ i l. on-same before s i (g .values i l))
+      to-now : (j : ℕ) → HandsTo words (on before) (left - 1) j → HandsTo words (on s) (left - 1) j
+      to-now = hands-same words v at (left - 1) rule (on before) (on s) (λ i l. sym (on-same before s i (g .values i l)))
+      by-row : (k j : ℕ) → left - 1 ≤ k → k ≤ root → marked t at k ≡ true → HandsTo words (on before) k j → Dec (k < left) → marked t at j ≡ true
+      by-row k j l h q r (yes b) =
           let e : k ≡ left - 1 = omega arith in
-          rw e (before-holding (marked t at) (w .hands))
-      by-row k l h q (no b) =
-          hands-more (on before) (marked s at) (marked t at) (effect-kind (row-at words k .kind)) (row-at words k .a)
-          (row-at words k .b) (w .more) (g .closed k (omega arith) h (old-mark k (omega arith) q))
+          w .hands j (to-now j (rw e at r))
+      by-row k j l h q r (no b) =
+          ⊎-elim (λ old. w .more j (g .passed k j (omega arith) h old r))
+          (λ x. absurd (omega (arith, hands-below words v at (left - 1) rule (on s) k x)))
+          (w .new k q)
 
 -- what the loop comes to, from the first mark on
 pub finished :
@@ -231,16 +187,15 @@ finished words v at root before first after m b g =
     record {
       same = g .same ∙ b .same;
       values = λ i l. g .values i l ∙ b .values i l;
-      root-marked = g .root-marked;
-      closed = λ k l q. from-first (marked after at) k l (g .closed k (omega arith) l q);
-      least = λ p q closed k l r. g .least p q (λ j h w. to-first p j h (closed j h w)) k l r;
+      acting =
+        λ k l.
+          (λ q.
+          reached-same words v at root before m (on first) (on before) (λ i h. on-same before first i (b .values i h)) k
+          (g .sound k l q),
+          λ r.
+          all k (reached-same words v at root before m (on before) (on first) (λ i h. sym (on-same before first i (b .values i h))) k r));
     }
   where
-    from-first : (p : ℕ → Bool) (k : ℕ) → k ≤ root → HandsOn words (on first) p k → HandsOn words (on before) p k
-    from-first p k l =
-        hands-same v at k (on first) (on before) p (effect-kind (row-at words k .kind)) (row-at words k .a) (row-at words k .b)
-        (m .rule k l) (λ i h. on-same before first i (b .values i h))
-    to-first : (p : ℕ → Bool) (k : ℕ) → k ≤ root → HandsOn words (on before) p k → HandsOn words (on first) p k
-    to-first p k l =
-        hands-same v at k (on before) (on first) p (effect-kind (row-at words k .kind)) (row-at words k .a) (row-at words k .b)
-        (m .rule k l) (λ i h. sym (on-same before first i (b .values i h)))
+    all : (k : ℕ) → Reached words (on first) root k → marked after at k ≡ true
+    all k at-root = g .root-marked
+    all k (handed i j r t) = g .passed i k (omega arith) (reached-below words v at root before m (on first) i r) (all i r) t

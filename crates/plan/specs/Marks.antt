@@ -3,6 +3,7 @@
 use Prim.Native.Nat.{ℕ, zero, suc, _+_, _*_, _≤_, _<_}
 use mathlib.Core.Path.{_≡_}
 use mathlib.Core.Bool.{Bool, true, false, cond, not, _&&_}
+use mathlib.Core.Logic.{_↔_, _⊎_}
 use mathlib.Core.List.{List}
 use lib.ListN.{length, getD, set}
 use lib.Dec.{eqb}
@@ -33,20 +34,19 @@ pub record Changeable (words : List ℕ) (kind : ℕ) (scratch : List ℕ) (at n
   pub marks : at + n ≤ length scratch
   pub named : (k : ℕ) → k < n → acts words kind scratch at k ≡ true → row-at words k .a < v
 
--- a row that is carried out hands on: "both" to its two effects, "under" to its effect if the formula holds
-abbrev pub Hands : (holding : ℕ → Bool) (reached : ℕ → Bool) → EffectKind → (a b : ℕ) → Type 0
-Hands holding reached empty-kind a b = Unit
-Hands holding reached set-kind a b = Unit
-Hands holding reached clear-kind a b = Unit
-Hands holding reached both-kind a b = (reached a ≡ true) × (reached b ≡ true)
-Hands holding reached under-kind a b = holding a ≡ true → reached b ≡ true
-Hands holding reached unknown-effect a b = Unit
+-- row k hands on to row j: "both" to its two effects, "under" to its effect if the formula holds
+pub data HandsTo (words : List ℕ) (holding : ℕ → Bool) (k : ℕ) : ℕ → Type 0 where
+  to-left : effect-kind (row-at words k .kind) ≡ both-kind → HandsTo words holding k (row-at words k .a)
+  to-right : effect-kind (row-at words k .kind) ≡ both-kind → HandsTo words holding k (row-at words k .b)
+  to-inner :
+      effect-kind (row-at words k .kind) ≡ under-kind
+      → holding (row-at words k .a) ≡ true
+      → HandsTo words holding k (row-at words k .b)
 
--- row k of the words hands on to rows that are reached too
-abbrev pub HandsOn : (words : List ℕ) (holding reached : ℕ → Bool) → ℕ → Type 0
-HandsOn words holding reached k =
-    let r = row-at words k in
-    Hands holding reached (effect-kind (r .kind)) (r .a) (r .b)
+-- the rows that act when the root is carried out
+pub data Reached (words : List ℕ) (holding : ℕ → Bool) (root : ℕ) : ℕ → Type 0 where
+  at-root : Reached words holding root root
+  handed : (k j : ℕ) → Reached words holding root k → HandsTo words holding k j → Reached words holding root j
 
 -- what marking from row `root` down asks: v variables, the rows and their marks are there, and the rows keep their rule
 pub record Markable (words : List ℕ) (v at root : ℕ) (scratch : List ℕ) : Type 0 where
@@ -57,34 +57,19 @@ pub record Markable (words : List ℕ) (v at root : ℕ) (scratch : List ℕ) : 
       → k ≤ root
       → EffectRule v at k (effect-kind (row-at words k .kind)) (row-at words k .a) (row-at words k .b)
 
--- what it leaves: the marked rows are the least that hold the root and hand on to their own
+-- what it leaves: of the rows up to the root, those that act are marked
 pub record Marked (words : List ℕ) (at root : ℕ) (before after : List ℕ) : Type 0 where
   pub same : length after ≡ length before
   pub values : (i : ℕ) → i < at → getD after i 0 ≡ getD before i 0
-  pub root-marked : marked after at root ≡ true
-  pub closed : (k : ℕ) → k ≤ root → marked after at k ≡ true → HandsOn words (on before) (marked after at) k
-  pub least :
-      (p : ℕ → Bool)
-      → p root ≡ true
-      → ((k : ℕ) → k ≤ root → p k ≡ true → HandsOn words (on before) p k)
-      → (k : ℕ)
-      → k ≤ root
-      → marked after at k ≡ true
-      → p k ≡ true
+  pub acting : (k : ℕ) → k ≤ root → marked after at k ≡ true ↔ Reached words (on before) root k
 
--- what handing on from row k leaves: its marks are added
+-- what handing on from row k leaves: marks are added for the rows that it hands on to
 pub record HandedOn (words : List ℕ) (at k : ℕ) (before after : List ℕ) : Type 0 where
   pub same : length after ≡ length before
   pub values : (i : ℕ) → i < at → getD after i 0 ≡ getD before i 0
   pub more : (j : ℕ) → marked before at j ≡ true → marked after at j ≡ true
-  pub hands : HandsOn words (on before) (marked after at) k
-  pub least :
-      (p : ℕ → Bool)
-      → HandsOn words (on before) p k
-      → (j : ℕ)
-      → (marked before at j ≡ true → p j ≡ true)
-      → marked after at j ≡ true
-      → p j ≡ true
+  pub hands : (j : ℕ) → HandsTo words (on before) k j → marked after at j ≡ true
+  pub new : (j : ℕ) → marked after at j ≡ true → (marked before at j ≡ true) ⊎ HandsTo words (on before) k j
 
 -- the first mark: only the root, among the rows up to it
 pub record Begun (at root : ℕ) (before after : List ℕ) : Type 0 where
