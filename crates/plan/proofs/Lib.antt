@@ -2,3 +2,4 @@ pub mod Passes
 pub mod Handing
 pub mod Valuing
 pub mod Marking
+pub mod Applying

@@ -61,6 +61,9 @@ module _ (words : List ℕ) (v at k : ℕ) (rule : EffectRule v at k (effect-kin
   rule-as : (kind : EffectKind) → effect-kind (row-at words k .kind) ≡ kind → EffectRule v at k kind (row-at words k .a) (row-at words k .b)
   rule-as kind e = subst (λ (x : EffectKind). EffectRule v at k x (row-at words k .a) (row-at words k .b)) e rule
 
+  pub inner-below : effect-kind (row-at words k .kind) ≡ under-kind → row-at words k .a < at
+  inner-below e = rule-as under-kind e .0
+
   hands-below : (h : ℕ → Bool) (j : ℕ) → HandsTo words h k j → j < k
   hands-below h j (to-left e) = rule-as both-kind e .0
   hands-below h j (to-right e) = rule-as both-kind e .1
@@ -69,7 +72,7 @@ module _ (words : List ℕ) (v at k : ℕ) (rule : EffectRule v at k (effect-kin
   hands-same : (h g : ℕ → Bool) → ((i : ℕ) → i < at → h i ≡ g i) → (j : ℕ) → HandsTo words h k j → HandsTo words g k j
   hands-same h g same j (to-left e) = to-left e
   hands-same h g same j (to-right e) = to-right e
-  hands-same h g same j (to-inner e t) = to-inner e (sym (same (row-at words k .a) (rule-as under-kind e .0)) ∙ t)
+  hands-same h g same j (to-inner e t) = to-inner e (sym (same (row-at words k .a) (inner-below e)) ∙ t)
 
 -- what is reached is no higher than the root
 module _ (words : List ℕ) (v at root : ℕ) (s : List ℕ) (m : Markable words v at root s) where
