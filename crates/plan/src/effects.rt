@@ -3,6 +3,7 @@ ghost use Prim.Native.Nat.{ℕ, _+_, _*_, _≤_, _<_};
 ghost use mathlib.Core.Path.{_≡_};
 ghost use lib.ListN.{length};
 ghost use Rattle.plan.specs.Marks.{changed, Changeable, Markable, Marked, HandedOn, Begun};
+ghost use Rattle.plan.specs.Steps.{Carried};
 
 // The value goes to each variable that a marked row of this kind names, among the rows below `rows`. Linear in `rows`.
 fn change(effects: &[u16], rows: usize, kind: u16, value: u8, state: &mut [u8], scratch: &[u8], at: usize)
@@ -63,4 +64,16 @@ fn mark(effects: &[u16], root: usize, variables: usize, scratch: &mut [u8], at: 
             hand_on(effects, left, variables, scratch, at);
         }
     }
+}
+
+// The effect of row `root` is carried out: all of its conditions count in the state before, and a set wins. Linear in `root`.
+pub fn carry_out(effects: &[u16], root: usize, state: &mut [u8], scratch: &mut [u8], at: usize)
+    requires { ⌜ Markable (now effects) (length (now state)) at root (now scratch) ⌝ }
+    ensures { λ _. ⌜ Carried (now (effects .entry)) at root (now (state .entry)) (now (state .exit)) (now (scratch .entry)) (now (scratch .exit)) ⌝ }
+{
+    let variables = state.len();
+    mark(effects, root, variables, scratch, at);
+    let rows = root + 1;
+    change(effects, rows, 2, 0, state, scratch, at);
+    change(effects, rows, 1, 1, state, scratch, at);
 }

@@ -3,5 +3,6 @@ mod buffers;
 mod effects;
 mod formulas;
 mod outcome;
+mod steps;
 
 pub use outcome::{StepOutcome, RunOutcome, End};
