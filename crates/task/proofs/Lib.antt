@@ -1,4 +1,6 @@
 pub mod Bounded
+pub mod Refusals
+pub mod Order
 pub mod RowRules
 pub mod Held
 pub mod Passed
@@ -12,3 +14,5 @@ pub mod Marking
 pub mod MarkingLoop
 pub mod Changes
 pub mod Step
+pub mod KindNumbers
+pub mod Ways
