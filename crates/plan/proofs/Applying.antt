@@ -16,6 +16,7 @@ use Rattle.task.specs.Rules.{no-row}
 use Rattle.task.specs.Semantics.{holds, apply}
 use Rattle.task.specs.Tree.{formula-of, effect-of}
 use Rattle.task.proofs.Bounded.{and-left, and-right, and-both, length-upto, getD-upto}
+use Rattle.task.proofs.KindNumbers.{by-effect-kind}
 use Rattle.task.proofs.Trees.{EffectsDown}
 use Rattle.task.proofs.Values.{bit, told, told-bit, Values}
 use Rattle.task.proofs.Marks as Marks
@@ -35,19 +36,13 @@ number-of true = 1
 number-of false = 2
 
 kind-acts-number : (p : Bool) (n : ℕ) → kind-acts p (effect-kind n) ≡ eqb n (number-of p)
-unfolding kind-acts effect-kind number-of
-kind-acts-number true zero = refl
-kind-acts-number true (suc zero) = refl
-kind-acts-number true (suc (suc zero)) = refl
-kind-acts-number true (suc (suc (suc zero))) = refl
-kind-acts-number true (suc (suc (suc (suc zero)))) = refl
-kind-acts-number true (suc (suc (suc (suc (suc n))))) = sym (ne-eqb (suc (suc (suc (suc (suc n))))) 1 (omega arith))
-kind-acts-number false zero = refl
-kind-acts-number false (suc zero) = refl
-kind-acts-number false (suc (suc zero)) = refl
-kind-acts-number false (suc (suc (suc zero))) = refl
-kind-acts-number false (suc (suc (suc (suc zero)))) = refl
-kind-acts-number false (suc (suc (suc (suc (suc n))))) = sym (ne-eqb (suc (suc (suc (suc (suc n))))) 2 (omega arith))
+unfolding kind-acts number-of
+kind-acts-number true n =
+    by-effect-kind (λ k. kind-acts true k ≡ eqb n 1) n (λ e. rw e) (λ e. rw e) (λ e. rw e) (λ e. rw e) (λ e. rw e)
+    (λ h. sym (ne-eqb n 1 (omega arith)))
+kind-acts-number false n =
+    by-effect-kind (λ k. kind-acts false k ≡ eqb n 2) n (λ e. rw e) (λ e. rw e) (λ e. rw e) (λ e. rw e) (λ e. rw e)
+    (λ h. sym (ne-eqb n 2 (omega arith)))
 
 module _
     (words : List ℕ) (e v at root : ℕ) (s : List ℕ) (formulas : List Row) (before after : List ℕ)

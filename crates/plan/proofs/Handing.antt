@@ -3,7 +3,7 @@
 use Prim.Native.Nat.{ℕ, zero, suc, _+_, _*_, _≤_, _<_}
 use native.Mathlib.Decide.{ℕ-discrete}
 use native.Mathlib.Omega.{arith}
-use mathlib.Core.Path.{_≡_, refl, sym, ap, _∙_}
+use mathlib.Core.Path.{_≡_, refl, sym, subst, _∙_}
 use mathlib.Core.Bool.{Bool, true, false, not, false≢true}
 use mathlib.Core.List.{List}
 use mathlib.Core.Logic.{_⊎_, inl, inr, ⊎-elim}
@@ -11,7 +11,8 @@ use lib.ListN.{length, getD, set, length-set}
 use lib.Seq.{getD-set-same, getD-set-other}
 use lib.Dec.{eqb}
 use borrow.Author.Tests.{eq-eqb, ne-eqb}
-use Rattle.task.specs.Table.{Row, row-at, EffectKind, empty-kind, set-kind, clear-kind, both-kind, under-kind, unknown-effect, effect-kind}
+use Rattle.task.specs.Table.{row-at, both-kind, under-kind, effect-kind}
+use Rattle.task.proofs.KindNumbers.{HasEffectNumber, effect-number}
 use Rattle.plan.specs.Marks.{on, marked, HandsTo, to-left, to-right, to-inner, Markable, HandedOn}
 
 pub on-same : (s t : List ℕ) (i : ℕ) → getD t i 0 ≡ getD s i 0 → on t i ≡ on s i
@@ -54,27 +55,12 @@ pub zero-off : (s : List ℕ) (i : ℕ) → getD s i 0 ≡ 0 → on s i ≡ fals
 unfolding on
 zero-off s i z = rw (eq-eqb (getD s i 0) 0 z)
 
--- a kind has one number
-number : EffectKind → ℕ
-number empty-kind = 0
-number set-kind = 1
-number clear-kind = 2
-number both-kind = 3
-number under-kind = 4
-number unknown-effect = 5
-
-known-kind : (n : ℕ) → number (effect-kind n) < 5 → n ≡ number (effect-kind n)
-unfolding effect-kind number
-known-kind zero h = refl
-known-kind (suc zero) h = refl
-known-kind (suc (suc zero)) h = refl
-known-kind (suc (suc (suc zero))) h = refl
-known-kind (suc (suc (suc (suc zero)))) h = refl
-known-kind (suc (suc (suc (suc (suc n))))) h = absurd (omega arith)
-
+-- the numbers of the two kinds that hand on
 both-number : (n : ℕ) → effect-kind n ≡ both-kind → n ≡ 3
-unfolding number
-both-number n e = let q : number (effect-kind n) ≡ 3 = ap number e in known-kind n (omega arith) ∙ q
+both-number n e = subst (HasEffectNumber n) e (effect-number n)
+
+under-number : (n : ℕ) → effect-kind n ≡ under-kind → n ≡ 4
+under-number n e = subst (HasEffectNumber n) e (effect-number n)
 
 both-kind-of : {n : ℕ} → n ≡ 3 → effect-kind n ≡ both-kind
 unfolding effect-kind
@@ -83,10 +69,6 @@ both-kind-of e = rw e
 under-kind-of : {n : ℕ} → n ≡ 4 → effect-kind n ≡ under-kind
 unfolding effect-kind
 under-kind-of e = rw e
-
-under-number : (n : ℕ) → effect-kind n ≡ under-kind → n ≡ 4
-unfolding number
-under-number n e = let q : number (effect-kind n) ≡ 4 = ap number e in known-kind n (omega arith) ∙ q
 
 -- by the number of row k's kind: what is asked of it, and what handing on leaves
 module _ (words : List ℕ) (v at k : ℕ) (s : List ℕ) (m : Markable words v at k s) where
