@@ -108,14 +108,15 @@ module _
 
   agrees : (j : ℕ) → j < length (rows-of e words) → getD marks j 0 ≡ 1 ↔ Marks.Marked s formulas (rows-of e words) root j
   unfolding mark-of
-  agrees j h =
-      (λ q.
-      let both : mark-of j ≡ true = sym (mark-told j here) ∙ eq-eqb (getD marks j 0) 1 q in
-      let low : j ≤ root = leb-true j root (and-left (leb j root) (marked after at j) both) in
-      to-law j (marking .acting j low .0 (and-right (leb j root) (marked after at j) both)),
-      λ m.
-      eqb-true (getD marks j 0) 1
-      (mark-told j here ∙ and-both (le-leb j root (below j m)) (marking .acting j (below j m) .1 (from-law j m))))
+  agrees j h = (
+    λ q.
+        let both : mark-of j ≡ true = sym (mark-told j here) ∙ eq-eqb (getD marks j 0) 1 q in
+        let low : j ≤ root = leb-true j root (and-left (leb j root) (marked after at j) both) in
+        to-law j (marking .acting j low .0 (and-right (leb j root) (marked after at j) both)),
+    λ m.
+        eqb-true (getD marks j 0) 1
+        (mark-told j here ∙ and-both (le-leb j root (below j m)) (marking .acting j (below j m) .1 (from-law j m))),
+  )
     where
       here : j < e
       here = rw (length-upto e (row-at words)) at h

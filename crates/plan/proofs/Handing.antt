@@ -40,6 +40,7 @@ add at j s h =
   where
     stored : not (eqb (getD (set s (at + j) 1) (at + j) 0) 0) ≡ true
     stored = rw (getD-set-same s (at + j) 1 0 h)
+
     by-place : {A : Type 0} (i : ℕ) → (at + i ≡ at + j → A) → ((at + i ≡ at + j → ⊥) → A) → A
     by-place {A} i same other = go (ℕ-discrete (at + i) (at + j))
       where
@@ -90,19 +91,23 @@ module _ (words : List ℕ) (v at k : ℕ) (s : List ℕ) (m : Markable words v 
         more = λ j q. second .more j (first .more j q);
         hands = reaches;
         new =
-          λ j q.
+            λ j q.
             ⊎-elim (λ p. ⊎-elim inl (λ z. inr (rw z (to-left kind))) (first .new j p)) (λ z. inr (rw z (to-right kind)))
             (second .new j q);
       }
     where
       kind : effect-kind (row-at words k .kind) ≡ both-kind
       kind = both-kind-of e
+
       refs : (row-at words k .a < k) × (row-at words k .b < k)
       refs = both-refs e
+
       first : Added at (row-at words k .a) s (set s (at + row-at words k .a) 1)
       first = add at (row-at words k .a) s (omega (arith, m .marks, refs))
+
       second : Added at (row-at words k .b) (set s (at + row-at words k .a) 1) (set (set s (at + row-at words k .a) 1) (at + row-at words k .b) 1)
       second = add at (row-at words k .b) (set s (at + row-at words k .a) 1) (omega (arith, m .marks, refs, first .same))
+
       reaches :
           (j : ℕ)
           → HandsTo words (on s) k j
@@ -126,10 +131,13 @@ module _ (words : List ℕ) (v at k : ℕ) (s : List ℕ) (m : Markable words v 
     where
       kind : effect-kind (row-at words k .kind) ≡ under-kind
       kind = under-kind-of e
+
       refs : (row-at words k .a < at) × (row-at words k .b < k)
       refs = under-refs e
+
       one : Added at (row-at words k .b) s (set s (at + row-at words k .b) 1)
       one = add at (row-at words k .b) s (omega (arith, m .marks, refs))
+
       reaches : (j : ℕ) → HandsTo words (on s) k j → marked (set s (at + row-at words k .b) 1) at j ≡ true
       reaches j (to-left q) = absurd (omega (arith, both-number (row-at words k .kind) q))
       reaches j (to-right q) = absurd (omega (arith, both-number (row-at words k .kind) q))

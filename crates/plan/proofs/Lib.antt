@@ -3,3 +3,4 @@ pub mod Handing
 pub mod Valuing
 pub mod Marking
 pub mod Applying
+pub mod Taking

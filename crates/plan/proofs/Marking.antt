@@ -26,29 +26,34 @@ module _ (at root : ℕ) (s ys : List ℕ) (room : at + root < length s) where
       record {
         same = length-set whole (at + root) 1 ∙ long;
         values =
-          λ i l.
+            λ i l.
             getD-set-other whole (at + root) i 1 0 (omega arith)
             ∙ List·getD-append (take at s) rest 0 i (omega (arith, front))
             ∙ getD-take at s i 0 l;
         root-marked =
-          not-zero-on (set whole (at + root) 1) (at + root)
-          (λ z. let one : _≡_ {A = ℕ} 1 0 = sym (getD-set-same whole (at + root) 1 0 (omega (arith, long))) ∙ z in omega arith);
+            not-zero-on (set whole (at + root) 1) (at + root)
+            (λ z. let one : _≡_ {A = ℕ} 1 0 = sym (getD-set-same whole (at + root) 1 0 (omega (arith, long))) ∙ z in omega arith);
         only =
-          λ k l.
+            λ k l.
             zero-off (set whole (at + root) 1) (at + k)
             (getD-set-other whole (at + root) (at + k) 1 0 (omega arith) ∙ inside k l);
       }
     where
       rest : List ℕ
       rest = ys ++ drop (at + root - at) (drop at s)
+
       whole : List ℕ
       whole = putMid at (at + root - at) s ys
+
       front : length (take at s) ≡ at
       front = length-take-le at s (omega arith)
+
       long : length whole ≡ length s
       long = same-len-mid at (at + root - at) s ys (ap length e ∙ length-replicate (length (midOf at (at + root - at) s)) 0)
+
       many : length ys ≡ root
       many = ap length e ∙ length-replicate (length (midOf at (at + root - at) s)) 0 ∙ mid-length
+
       inside : (k : ℕ) → k < root → getD whole (at + k) 0 ≡ 0
       inside k l =
           ap (λ (n : ℕ). getD whole (n + k) 0) (sym front)
@@ -164,12 +169,16 @@ module _
     where
       rule : EffectRule v at (left - 1) (effect-kind (row-at words (left - 1) .kind)) (row-at words (left - 1) .a) (row-at words (left - 1) .b)
       rule = m .rule (left - 1) (omega arith)
+
       here : Reached words (on before) root (left - 1)
       here = g .sound (left - 1) (omega arith) (not-zero-on s (at + (left - 1)) d)
+
       from-now : (j : ℕ) → HandsTo words (on s) (left - 1) j → HandsTo words (on before) (left - 1) j
       from-now = hands-same words v at (left - 1) rule (on s) (on before) (λ i l. on-same before s i (g .values i l))
+
       to-now : (j : ℕ) → HandsTo words (on before) (left - 1) j → HandsTo words (on s) (left - 1) j
       to-now = hands-same words v at (left - 1) rule (on before) (on s) (λ i l. sym (on-same before s i (g .values i l)))
+
       by-row : (k j : ℕ) → left - 1 ≤ k → k ≤ root → marked t at k ≡ true → HandsTo words (on before) k j → Dec (k < left) → marked t at j ≡ true
       by-row k j l h q r (yes b) =
           let e : k ≡ left - 1 = omega arith in
@@ -191,12 +200,13 @@ finished words v at root before first after m b g =
       same = g .same ∙ b .same;
       values = λ i l. g .values i l ∙ b .values i l;
       acting =
-        λ k l.
-          (λ q.
-          reached-same words v at root before m (on first) (on before) (λ i h. on-same before first i (b .values i h)) k
-          (g .sound k l q),
-          λ r.
-          all k (reached-same words v at root before m (on before) (on first) (λ i h. sym (on-same before first i (b .values i h))) k r));
+          λ k l. (
+            λ q.
+                reached-same words v at root before m (on first) (on before) (λ i h. on-same before first i (b .values i h)) k
+                (g .sound k l q),
+            λ r.
+                all k (reached-same words v at root before m (on before) (on first) (λ i h. sym (on-same before first i (b .values i h))) k r),
+          );
     }
   where
     all : (k : ℕ) → Reached words (on first) root k → marked after at k ≡ true

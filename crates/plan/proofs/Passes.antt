@@ -73,7 +73,7 @@ changeable words v at root kind w before after m d which same =
       rows = omega (arith, m .rows);
       marks = omega (arith, m .marks, d .same);
       named =
-        λ k l q.
+          λ k l q.
           let e : row-at words k .kind ≡ kind =
           eqb-true (row-at words k .kind) kind (and-right (marked after at k) (eqb (row-at words k .kind) kind) q) in
           rw same

@@ -158,7 +158,7 @@ module _ (words : List ℕ) (n : ℕ) (s scratch : List ℕ) (able : Valuable wo
   down =
       record {
         row =
-          λ i h.
+            λ i h.
             let l : i < n = rw (length-upto n (row-at words)) at h in
             rw (getD-upto n (row-at words) i no-row l) (able .rule i l);
       }

@@ -56,3 +56,8 @@ took t s o =
     (record { answer = record { stop = 0; charge = charge t s o }; state = apply s (effect-of-operator t o) })
     (record { answer = record { stop = 18; charge = 0 }; state = s }))
     (record { answer = record { stop = 17; charge = 0 }; state = s })
+
+-- what `take` leaves
+pub record Takes (t : Task) (s : List ℕ) (o : ℕ) (r : Taken) (after : List ℕ) : Type 0 where
+  pub answer : r ≡ took t s o .answer
+  pub state : after ≡ took t s o .state

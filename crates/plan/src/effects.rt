@@ -6,7 +6,15 @@ ghost use Rattle.plan.specs.Marks.{changed, Changeable, Markable, Marked
 ghost use Rattle.plan.specs.Steps.{Carried};
 
 // The value goes to each variable that a marked row of this kind names, among the rows below `rows`. Linear in `rows`.
-fn change(effects: &[u16], rows: usize, kind: u16, value: u8, state: &mut [u8], scratch: &[u8], at: usize)
+fn change(
+    effects: &[u16],
+    rows: usize,
+    kind: u16,
+    value: u8,
+    state: &mut [u8],
+    scratch: &[u8],
+    at: usize,
+)
     requires { ⌜ Changeable (now effects) kind (now scratch) at rows (length (now state)) ⌝ }
     ensures { λ _. ⌜ now (state .exit) ≡ changed (now (effects .entry)) kind value (now (scratch .entry)) at rows (now (state .entry)) ⌝ }
 {

@@ -5,4 +5,6 @@ mod formulas;
 mod outcome;
 mod steps;
 
-pub use outcome::{StepOutcome, RunOutcome, End};
+pub use outcome::End;
+pub use outcome::RunOutcome;
+pub use outcome::StepOutcome;

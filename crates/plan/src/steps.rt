@@ -4,7 +4,7 @@ ghost use mathlib.Core.Path.{_≡_};
 ghost use Rattle.task.specs.Semantics.{holds};
 ghost use Rattle.task.specs.Tree.{formula-of};
 ghost use Rattle.plan.specs.Values.{rows-of, Valuable};
-ghost use Rattle.plan.specs.Steps.{running, Ready, took};
+ghost use Rattle.plan.specs.Steps.{running, Ready, Takes};
 use task::Head;
 
 // What a step gives: 0 and what it is charged, or 17 or 18.
@@ -14,11 +14,54 @@ pub struct Taken {
 }
 
 // Whether a formula holds in the state. Linear in the formulas.
-pub fn holds(formulas: &[u16], count: usize, formula: usize, state: &[u8], scratch: &mut [u8]) -> bool
+pub fn holds(
+    formulas: &[u16],
+    count: usize,
+    formula: usize,
+    state: &[u8],
+    scratch: &mut [u8],
+) -> bool
     requires { ⌜ Valuable (now formulas) count (now state) (now scratch) ⌝ }
     requires { ⌜ formula < count ⌝ }
     ensures { λ r. ⌜ r ≡ holds (now (state .entry)) (formula-of (rows-of count (now (formulas .entry))) formula) ⌝ }
 {
     crate::formulas::evaluate(formulas, count, state, scratch);
     scratch[formula] == 1
+}
+
+// Operator `number` is carried out if it is there and applicable: 17, then 18. Linear in the formulas and the effects.
+pub fn take(
+    head: Head,
+    formulas: &[u16],
+    effects: &[u16],
+    operators: &[u16],
+    state: &mut [u8],
+    number: u16,
+    scratch: &mut [u8],
+) -> Taken
+    requires { ⌜ Ready head (now formulas) (now effects) (now operators) (now state) (now scratch) ⌝ }
+    ensures { λ r. ⌜ Takes (running head (now (formulas .entry)) (now (effects .entry)) (now (operators .entry))) (now (state .entry)) number r (now (state .exit)) ⌝ }
+{
+    if head.operators <= number {
+        return Taken {
+            stop: 17,
+            charge: 0,
+        };
+    }
+    let row = 3 * (number as usize);
+    let precondition = operators[row] as usize;
+    let effect = operators[row + 1] as usize;
+    let count = head.formulas as usize;
+    crate::formulas::evaluate(formulas, count, state, scratch);
+    if scratch[precondition] == 0 {
+        return Taken {
+            stop: 18,
+            charge: 0,
+        };
+    }
+    crate::effects::carry_out(effects, effect, state, scratch, count);
+    Taken {
+        stop: 0,
+        charge: operators[row + 2] as u64,
+    }
 }
