@@ -4,3 +4,4 @@ pub mod Valuing
 pub mod Marking
 pub mod Applying
 pub mod Taking
+pub mod Running

@@ -18,7 +18,7 @@ use Rattle.task.proofs.Trees.{EffectsDown}
 use Rattle.task.proofs.Values.{told, bit-small, Values, value-told}
 use Rattle.plan.specs.Values.{rows-of, Valuable}
 use Rattle.plan.specs.Marks.{changed, Markable}
-use Rattle.plan.specs.Steps.{running, Ready, Carried, Took, took, Takes}
+use Rattle.plan.specs.Steps.{running, StateReady, Ready, Carried, Took, took, Takes}
 use Rattle.plan.proofs.Applying.{applied}
 
 -- the three ways of a step
@@ -41,8 +41,13 @@ module _ (t : Task) (s : List ℕ) (n : ℕ) where
     unfolding took
     took-done q = rw (lt-ltb n (length (t .operators)) there, q)
 
-takes : (t : Task) (s : List ℕ) (n : ℕ) (w : Took) → took t s n ≡ w → Takes t s n (w .answer) (w .state)
-takes t s n w q = record { answer = sym (ap (λ (x : Took). x .answer) q); state = sym (ap (λ (x : Took). x .state) q) }
+takes : (t : Task) (s : List ℕ) (n : ℕ) (w : Took) → took t s n ≡ w → w .answer .charge ≤ 65535 → Takes t s n (w .answer) (w .state)
+takes t s n w q small =
+    record {
+      answer = sym (ap (λ (x : Took). x .answer) q);
+      state = sym (ap (λ (x : Took). x .state) q);
+      small = small;
+    }
 
 module _ (h : Head) (f e o s scratch : List ℕ) (ready : Ready h f e o s scratch) where
   pub valuable : Valuable f (h .formulas) s scratch
@@ -68,7 +73,7 @@ module _ (h : Head) (f e o s scratch : List ℕ) (ready : Ready h f e o s scratc
     unfolding task-of
     not-there b =
         takes (running h f e o) s n (record { answer = record { stop = 17; charge = 0 }; state = s })
-        (took-outside (running h f e o) s n (rw (length-upto (h .operators) (operator-at o)) b))
+        (took-outside (running h f e o) s n (rw (length-upto (h .operators) (operator-at o)) b)) (omega arith)
 
     module _ (there : n < h .operators) where
       pub precondition-below : operator-at o n .precondition < h .formulas
@@ -112,6 +117,7 @@ module _ (h : Head) (f e o s scratch : List ℕ) (ready : Ready h f e o s scratc
           takes (running h f e o) s n (record { answer = record { stop = 18; charge = 0 }; state = s })
           (took-not (running h f e o) s n inside
           (sym (applicable-same values known) ∙ ne-eqb (getD values (operator-at o n .precondition) 0) 1 (omega arith)))
+          (omega arith)
 
       pub carried-out :
           (values marks after : List ℕ)
@@ -119,12 +125,14 @@ module _ (h : Head) (f e o s scratch : List ℕ) (ready : Ready h f e o s scratc
           → (getD values (operator-at o n .precondition) 0 ≡ 0 → ⊥)
           → length values ≡ length scratch
           → Carried e (h .formulas) (operator-at o n .effect) s after values marks
+          → operator-at o n .cost ≤ 65535
           → Takes (running h f e o) s n (record { stop = 0; charge = operator-at o n .cost }) after
       unfolding charge effect-of-operator task-of
-      carried-out values marks after known d same done =
+      carried-out values marks after known d same done low =
           rw (done .state ∙ law)
           (takes (running h f e o) s n (by-row (operator-at o n))
-          (took-done (running h f e o) s n inside holding ∙ ap by-row operator-same))
+          (took-done (running h f e o) s n inside holding ∙ ap by-row operator-same)
+          low)
         where
           by-row : Operator → Took
           by-row r =
@@ -149,3 +157,13 @@ module _ (h : Head) (f e o s scratch : List ℕ) (ready : Ready h f e o s scratc
           law =
               applied e (h .effects) (length s) (h .formulas) (operator-at o n .effect) s (rows-of (h .formulas) f) values marks
               (ready .tables .operator n there .changes) effects-down (markable values same) known (done .marking)
+
+-- the tables stay ready when the state and scratch change
+pub ready-again :
+    (h : Head) (f e o s scratch now rest : List ℕ)
+    → Ready h f e o s scratch
+    → StateReady h now
+    → length rest ≡ length scratch
+    → Ready h f e o now rest
+ready-again h f e o s scratch now rest ready state same =
+    record { tables = ready .tables; state = state; room = omega (arith, ready .room) }

@@ -89,13 +89,11 @@ end-of ended steps goal = Ended goal
 end-of (stopped number) steps goal = Stopped number steps
 
 -- a run tells what the plain run answers; a stop's goal too
+unfoldable pub run-answer : Run → RunOutcome
+run-answer r = record { steps = r .steps; cost = r .cost; goal = r .goal; end = end-of (r .stop) (r .steps) (r .goal) }
+
 unfoldable pub run-told : Run → List ℕ → Ran
-run-told r scratch =
-    record {
-      answer = record { steps = r .steps; cost = r .cost; goal = r .goal; end = end-of (r .stop) (r .steps) (r .goal) };
-      state = r .state;
-      scratch = cleared scratch;
-    }
+run-told r scratch = record { answer = run-answer r; state = r .state; scratch = cleared scratch }
 
 -- the outcome of `step`, by its early refusal
 unfoldable pub step-by : ℕ → Lent → (state : List ℕ) → ℕ → (scratch : List ℕ) → Stepped

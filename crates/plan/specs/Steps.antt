@@ -2,17 +2,20 @@
 use Prim.Native.Nat.{ℕ, _+_, _*_, _≤_, _<_}
 use mathlib.Core.Path.{_≡_}
 use mathlib.Core.Bool.{Bool, cond}
-use mathlib.Core.List.{List, []}
+use mathlib.Core.List.{List, [], _∷_}
 use lib.ListN.{length, getD}
 use lib.Dec.{ltb}
 use Rattle.task.specs.declared.Head.{Head}
 use Rattle.task.specs.Table.{Task, row-at, operator-at, task-of}
 use Rattle.task.specs.Rules.{OperatorRule}
 use Rattle.task.specs.Semantics.{apply}
-use Rattle.task.specs.Run.{effect-of-operator, applicable, charge}
+use Rattle.task.specs.Run.{effect-of-operator, applicable, charge, plain-run}
 use Rattle.task.proofs.Trees.{FormulaKept, EffectKept}
 use Rattle.plan.specs.declared.steps.Taken.{Taken}
+use Rattle.plan.specs.declared.outcome.StepOutcome.{StepOutcome}
+use Rattle.plan.specs.declared.outcome.RunOutcome.{RunOutcome}
 use Rattle.plan.specs.Marks.{changed, Marked}
+use Rattle.plan.specs.Outcome.{run-answer, step-told}
 
 -- the task of a run: its initial state and its twins play no part
 abbrev pub running : Head → (formulas effects operators : List ℕ) → Task
@@ -61,3 +64,13 @@ took t s o =
 pub record Takes (t : Task) (s : List ℕ) (o : ℕ) (r : Taken) (after : List ℕ) : Type 0 where
   pub answer : r ≡ took t s o .answer
   pub state : after ≡ took t s o .state
+  pub small : r .charge ≤ 65535
+
+-- what a step and a run leave where nothing refuses them: the plain run's answers and its state
+pub record StepDone (t : Task) (s : List ℕ) (o : ℕ) (r : StepOutcome) (after : List ℕ) : Type 0 where
+  pub answer : let w = plain-run t s (o ∷ []) in r ≡ step-told (w .stop) w s [] .answer
+  pub state : let w = plain-run t s (o ∷ []) in after ≡ step-told (w .stop) w s [] .state
+
+pub record RunDone (t : Task) (s numbers : List ℕ) (r : RunOutcome) (after : List ℕ) : Type 0 where
+  pub answer : r ≡ run-answer (plain-run t s numbers)
+  pub state : after ≡ plain-run t s numbers .state

@@ -3,6 +3,7 @@ mod buffers;
 mod effects;
 mod formulas;
 mod outcome;
+mod runs;
 mod steps;
 
 pub use outcome::End;
