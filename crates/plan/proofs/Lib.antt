@@ -5,3 +5,5 @@ pub mod Marking
 pub mod Applying
 pub mod Taking
 pub mod Running
+pub mod Refusing
+pub mod Calls

@@ -76,7 +76,7 @@ module _ (h : Head) (t : Task) (s : List ℕ) (ready : StateReady h s) (o : ℕ)
       record {
         size = length-upto (length s) (value-after s e) ∙ ready .size;
         bits =
-          λ v l.
+            λ v l.
             let b : v < length s = rw (length-upto (length s) (value-after s e)) at l in
             rw (getD-upto (length s) (value-after s e) v 0 b)
             (value-bit (effcond s (sets v) e) (effcond s (clears v) e) (getD s v 0) (ready .bits v b));
@@ -93,6 +93,13 @@ module _ (h : Head) (t : Task) (s : List ℕ) (ready : StateReady h s) (o : ℕ)
       go true true = applied-ready
       go true false = ready
       go false c = ready
+
+pub taken-ready :
+    (h : Head) (t : Task) (s : List ℕ) (o : ℕ) (r : Taken) (after : List ℕ)
+    → Takes t s o r after
+    → StateReady h s
+    → StateReady h after
+taken-ready h t s o r after taken ready = rw (taken .state) (took-ready h t s ready o)
 
 -- the loop: what is left of the plain run stands before the numbers that are left
 pub record Goes (h : Head) (t : Task) (s numbers : List ℕ) (steps cost : ℕ) (now : List ℕ) : Type 0 where
@@ -119,16 +126,16 @@ module _ (h : Head) (t : Task) (s numbers : List ℕ) where
         ∙ ap (run-on t (record { state = now; steps = steps; cost = cost })) (drop-cons numbers steps 0 l)
 
     pub after-ready : StateReady h after
-    after-ready = rw (taken .state) (took-ready h t now (g .state) (getD numbers steps 0))
+    after-ready = taken-ready h t now (getD numbers steps 0) r after taken (g .state)
 
     pub one-more : r .stop ≡ 0 → Goes h t s numbers (steps + 1) (cost + r .charge) after
     one-more e =
         record {
           rest =
-            here
-            ∙ goes-on t (record { state = now; steps = steps; cost = cost }) (getD numbers steps 0) (drop (suc steps) numbers)
-            (sym (ap (λ (x : Taken). x .stop) (taken .answer)) ∙ e)
-            ∙ rw (taken .answer, taken .state, add-one steps);
+              here
+              ∙ goes-on t (record { state = now; steps = steps; cost = cost }) (getD numbers steps 0) (drop (suc steps) numbers)
+              (sym (ap (λ (x : Taken). x .stop) (taken .answer)) ∙ e)
+              ∙ rw (taken .answer, taken .state, add-one steps);
           state = after-ready;
           costs = omega (arith, g .costs, taken .small);
         }

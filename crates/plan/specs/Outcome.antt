@@ -1,6 +1,7 @@
 -- What a step and a run give, refusals too (01, "Stepping and running" and "Where each number is given"): the answer, and the state and
 -- the scratch at exit, from the inputs alone.
 use Prim.Native.Nat.{ℕ, zero, suc, _+_}
+use mathlib.Core.Path.{_≡_}
 use mathlib.Core.Bool.{Bool, true, false, _&&_}
 use mathlib.Core.List.{List, [], _∷_}
 use lib.ListN.{length, getD, replicate}
@@ -112,3 +113,14 @@ run-by (suc n) l s numbers scratch = run-refused (suc n) s scratch
 
 unfoldable pub ran : Lent → (state numbers scratch : List ℕ) → Ran
 ran l s numbers scratch = run-by (run-refusal l s numbers scratch) l s numbers scratch
+
+-- What the contracts of `step` and `run` say: the answer, the state and the scratch at exit are the definition's.
+pub record StepGives (w : Stepped) (r : StepOutcome) (after rest : List ℕ) : Type 0 where
+  pub answer : r ≡ w .answer
+  pub state : after ≡ w .state
+  pub scratch : rest ≡ w .scratch
+
+pub record RunGives (w : Ran) (r : RunOutcome) (after rest : List ℕ) : Type 0 where
+  pub answer : r ≡ w .answer
+  pub state : after ≡ w .state
+  pub scratch : rest ≡ w .scratch
