@@ -7,7 +7,7 @@ use Rattle.task.specs.Check.{counts-kept, goal-kept, long-enough, initial-kept,
 use Rattle.task.specs.Words.{joined as words-joined, row-words, operator-row-words, words-of, operator-words, head-of, lent-of}
 use Rattle.task.specs.Semantics.{holds, effcond, value-after, apply}
 use Rattle.task.specs.Tree.{formula-node, formula-within, formula-of, effect-node, effect-within, effect-of}
-use Rattle.task.specs.Run.{operator-of, effect-of-operator, goal-holds, applicable, charge, after-step, answer, run-on, plain-run, unstopped, is-plan}
+use Rattle.task.specs.Run.{operator-of, effect-of-operator, goal-holds, applicable, charge, after-step, answer, run-on, plain-run}
 use Rattle.normal_form.specs.Builder.{give, bind, each, place, kept, same-row, row, twin, variable-row, twin-row, start, choice, joined, join, pair}
 use Rattle.normal_form.specs.Image.{literal, image}
 use Rattle.normal_form.specs.Conditions.{guarded, condition}
@@ -15,6 +15,7 @@ use Rattle.normal_form.specs.Operators.{deletes-of, changes-of, built-operator,
 use Rattle.normal_form.specs.Assembly.{rule, with-twin, rules-of, rules, atom-row, rule-rows, write-rule, write-rules, assemble-operator, assemble, unassembled}
 use Rattle.normal_form.specs.Finished.{built, assembled, twin-values, finished}
 use Rattle.normal_form.specs.Compiled.{scratch-kept, has-room, fits, compile-refusal, padded, nothing-given, task-given, outcome-by, compiling}
+use Rattle.plan.specs.Outcome.{state-kept, scratch-kept as run-scratch-kept, sequence-kept, early-refusal, run-refusal, run-refused, end-of, run-answer, run-told, run-by, ran}
 use Rattle.claims.specs.Examples.{outcome, Example, table}
 
 -- every entry of the table is told as it stands there
@@ -24,8 +25,9 @@ unfolding
     formula-words-kept formula-kept formulas-kept effect-words-kept effect-kept effects-kept operator-kept operators-kept refusal
     words-joined row-words operator-row-words words-of operator-words head-of lent-of holds effcond value-after apply formula-node formula-within
     formula-of effect-node effect-within effect-of operator-of effect-of-operator goal-holds applicable charge after-step answer run-on
-    plain-run unstopped is-plan give bind each place kept same-row row twin variable-row twin-row start choice joined join pair literal image
+    plain-run give bind each place kept same-row row twin variable-row twin-row start choice joined join pair literal image
     guarded condition deletes-of changes-of built-operator parts rule with-twin rules-of rules atom-row rule-rows write-rule write-rules
     assemble-operator assemble unassembled built assembled twin-values finished
     scratch-kept has-room fits compile-refusal padded nothing-given task-given outcome-by compiling
+    state-kept run-scratch-kept sequence-kept early-refusal run-refusal run-refused end-of run-answer run-told run-by ran
 table-holds = refl

@@ -1,4 +1,6 @@
 pub mod DemandOne
+pub mod DemandTwoRuns
 pub mod DemandTwoCompiled
 pub mod DemandThree
+pub mod DemandThreeCalls
 pub mod Examples

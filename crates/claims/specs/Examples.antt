@@ -1,25 +1,27 @@
 -- The worked examples: every entry that 01 marks P in "Sheets to try", as one table of what is asked and what is told.
 -- proofs/Examples.antt has the one theorem that computes the table.
 use Prim.Native.Nat.{ℕ}
-use mathlib.Core.Bool.{Bool, true, false}
+use mathlib.Core.Bool.{true}
 use mathlib.Core.List.{List, [], _∷_}
 use lib.ListN.{replicate}
 use Rattle.task.specs.Table.{Row, Operator, Lent, Task, task-of}
 use Rattle.task.specs.Check.{refusal}
 use Rattle.task.specs.Words.{lent-of}
-use Rattle.task.specs.Run.{Run, ended, plain-run, is-plan}
+use Rattle.plan.specs.declared.outcome.RunOutcome.{RunOutcome}
+use Rattle.plan.specs.declared.outcome.End.the-variants.{Ended}
+use Rattle.plan.specs.Outcome.{ran}
 use Rattle.normal_form.specs.Compiled.{Room, Answer, compiled-head, refused, Outcome, compiling, given}
 
 -- What is asked: the check of tables; a run on tables, from a state; the compiling of tables into what is lent.
 pub data Asked : Type 0 where
   check : Lent → Asked
-  run : Lent → (state numbers : List ℕ) → Asked
+  run : Lent → (state numbers scratch : List ℕ) → Asked
   compile : Lent → Room → Asked
 
--- What is told: a number; the answers of a run, and whether it is a plan; the compiled task.
+-- What is told: a number; the outcome of a run and the state that it left; the compiled task.
 pub data Told : Type 0 where
   number : ℕ → Told
-  answers : Run → (plan : Bool) → Told
+  answers : RunOutcome → (state : List ℕ) → Told
   compiled : Task → Told
 
 -- what a compiling told: the task in the tables that it gave, or its number
@@ -27,15 +29,18 @@ abbrev pub gave : Answer → Outcome → Told
 gave (compiled-head h) o = compiled (task-of (given h o))
 gave (refused n) o = number n
 
+abbrev pub compile-told : Lent → Room → Told
+compile-told l room =
+    let o = compiling l room in
+    gave (o .answer) o
+
 -- by the definitions that the calls are held to
 unfoldable pub outcome : Asked → Told
 outcome (check l) = number (refusal l)
-outcome (run l s numbers) =
-    let r = plain-run (task-of l) s numbers in
-    answers r (is-plan r)
-outcome (compile l room) =
-    let o = compiling l room in
-    gave (o .answer) o
+outcome (run l s numbers scratch) =
+    let r = ran l s numbers scratch in
+    answers (r .answer) (r .state)
+outcome (compile l room) = compile-told l room
 
 pub record Example : Type 0 where
   pub asked : Asked
@@ -99,6 +104,39 @@ whole =
     (operator 2 3 3 ∷ [])
     4
 
+-- what 01 prints for it
+abbrev pub whole-compiled : Task
+whole-compiled =
+    record {
+      initial = 0 ∷ 1 ∷ 1 ∷ 0 ∷ [];
+      originals = 0 ∷ 1 ∷ [];
+      formulas =
+          row 0 0 0
+          ∷ row 1 0 0
+          ∷ row 2 2 0
+          ∷ row 2 1 0
+          ∷ row 2 0 0
+          ∷ row 2 3 0
+          ∷ row 4 4 5
+          ∷ [];
+      effects =
+          row 0 0 0
+          ∷ row 1 0 0
+          ∷ row 4 1 1
+          ∷ row 2 2 0
+          ∷ row 4 1 3
+          ∷ row 3 2 4
+          ∷ row 2 1 0
+          ∷ row 4 3 6
+          ∷ row 3 5 7
+          ∷ row 1 3 0
+          ∷ row 4 3 9
+          ∷ row 3 8 10
+          ∷ [];
+      operators = operator 2 11 3 ∷ [];
+      goal = 6;
+    }
+
 -- room that the whole example just fills
 abbrev pub room : Room
 room = record { initial = 4; twins = 2; formulas = 21; effects = 36; operators = 3; scratch = 18 }
@@ -116,19 +154,19 @@ table =
     -- row 3 "not 3" gives 10, "not 2" passes
     ∷ record { asked = check (not-in-row-three 3); told = number 10 }
     ∷ record { asked = check (not-in-row-three 2); told = number 0 }
-    -- O 0, goal true: the empty run is a plan of cost 0
+    -- O 0, goal true: the empty run is a plan (it ended with the goal true) of cost 0
     ∷ record {
-      asked = run (variables 0) [] [];
-      told = answers (record { state = []; steps = 0; cost = 0; stop = ended; goal = true }) true;
+      asked = run (variables 0) [] [] (0 ∷ []);
+      told = answers (record { steps = 0; cost = 0; goal = true; end = Ended true }) [];
     }
     -- set and clear v together: v becomes 1, whichever it was ..
     ∷ record {
-      asked = run set-and-clear (0 ∷ []) (0 ∷ []);
-      told = answers (record { state = 1 ∷ []; steps = 1; cost = 0; stop = ended; goal = true }) true;
+      asked = run set-and-clear (0 ∷ []) (0 ∷ []) (replicate 4 0);
+      told = answers (record { steps = 1; cost = 0; goal = true; end = Ended true }) (1 ∷ []);
     }
     ∷ record {
-      asked = run set-and-clear (1 ∷ []) (0 ∷ []);
-      told = answers (record { state = 1 ∷ []; steps = 1; cost = 0; stop = ended; goal = true }) true;
+      asked = run set-and-clear (1 ∷ []) (0 ∷ []) (replicate 4 0);
+      told = answers (record { steps = 1; cost = 0; goal = true; end = Ended true }) (1 ∷ []);
     }
     -- .. and no clear rule is built
     ∷ record {
@@ -200,38 +238,5 @@ table =
           });
     }
     -- the whole example
-    ∷ record {
-      asked = compile whole room;
-      told =
-          compiled
-          (record {
-            initial = 0 ∷ 1 ∷ 1 ∷ 0 ∷ [];
-            originals = 0 ∷ 1 ∷ [];
-            formulas =
-                row 0 0 0
-                ∷ row 1 0 0
-                ∷ row 2 2 0
-                ∷ row 2 1 0
-                ∷ row 2 0 0
-                ∷ row 2 3 0
-                ∷ row 4 4 5
-                ∷ [];
-            effects =
-                row 0 0 0
-                ∷ row 1 0 0
-                ∷ row 4 1 1
-                ∷ row 2 2 0
-                ∷ row 4 1 3
-                ∷ row 3 2 4
-                ∷ row 2 1 0
-                ∷ row 4 3 6
-                ∷ row 3 5 7
-                ∷ row 1 3 0
-                ∷ row 4 3 9
-                ∷ row 3 8 10
-                ∷ [];
-            operators = operator 2 11 3 ∷ [];
-            goal = 6;
-          });
-    }
+    ∷ record { asked = compile whole room; told = compiled whole-compiled }
     ∷ []
