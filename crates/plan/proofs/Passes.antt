@@ -1,9 +1,9 @@
 -- Laws of a pass over the marked rows of an effect table: what each turn of the loop leaves. Assumes nothing.
-use Prim.Native.Nat.{ℕ, zero, suc, _+_, _≤_, _<_}
+use Prim.Native.Nat.{ℕ, _+_, _<_}
 use native.Mathlib.Numerals.{add-one}
 use native.Mathlib.Omega.{arith}
-use mathlib.Core.Path.{_≡_, refl, sym, ap, _∙_}
-use mathlib.Core.Bool.{Bool, true, false, cond, not, _&&_}
+use mathlib.Core.Path.{_≡_, refl, ap, _∙_}
+use mathlib.Core.Bool.{true, false}
 use mathlib.Core.Logic.{_⊎_, inl, inr}
 use mathlib.Core.List.{List}
 use lib.ListN.{length, getD, set, length-set}
@@ -33,12 +33,12 @@ pub record Passing (words : List ℕ) (kind value : ℕ) (scratch : List ℕ) (a
   pub same : length t ≡ length s
   pub done : t ≡ changed words kind value scratch at n s
 
-module _ (words : List ℕ) (kind value : ℕ) (scratch : List ℕ) (at : ℕ) where
-  pub begin : (s : List ℕ) → Passing words kind value scratch at 0 s s
+module _ {words : List ℕ} {kind value : ℕ} {scratch : List ℕ} {at : ℕ} where
+  pub begin : {s : List ℕ} → Passing words kind value scratch at 0 s s
   unfolding changed
-  begin s = record { same = refl; done = refl }
+  begin = record { same = refl; done = refl }
 
-  module _ (n : ℕ) (s t : List ℕ) (p : Passing words kind value scratch at n s t) where
+  module _ {n : ℕ} {s t : List ℕ} (p : Passing words kind value scratch at n s t) where
     pub idle : acts words kind scratch at n ≡ false → Passing words kind value scratch at (n + 1) s t
     unfolding changed
     idle e = record { same = p .same; done = rw (add-one n, changed, e) (p .done) }
@@ -61,14 +61,14 @@ atom-named v at k n a b rule (inl e) = let r : EffectRule v at k (effect-kind 1)
 atom-named v at k n a b rule (inr e) = let r : EffectRule v at k (effect-kind 2) a b = rw e at rule in r .0
 
 pub changeable :
-    (words : List ℕ) (v at root kind w : ℕ) (before after : List ℕ)
+    {words : List ℕ} {v at root kind w : ℕ} {before after : List ℕ}
     → Markable words v at root before
     → Marked words at root before after
     → (kind ≡ 1) ⊎ (kind ≡ 2)
     → w ≡ v
     → Changeable words kind after at (root + 1) w
 unfolding acts
-changeable words v at root kind w before after m d which same =
+changeable {words} {v} {at} {root} {kind} {w} {before} {after} m d which same =
     record {
       rows = omega (arith, m .rows);
       marks = omega (arith, m .marks, d .same);
