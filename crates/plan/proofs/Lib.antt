@@ -7,4 +7,3 @@ pub mod Taking
 pub mod Running
 pub mod Refusing
 pub mod Calls
-pub mod Promises
