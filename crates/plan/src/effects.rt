@@ -1,5 +1,5 @@
 // Carrying out an effect: the rows that act are marked, then the state is changed in place.
-ghost use Prim.Native.Nat.{ℕ, _+_, _*_, _≤_, _<_};
+ghost use Prim.Native.Nat.{_+_, _<_};
 ghost use mathlib.Core.Path.{_≡_};
 ghost use lib.ListN.{length};
 ghost use Rattle.plan.specs.Marks.{changed, Changeable, Markable, Marked, HandedOn, Begun};
