@@ -13,6 +13,7 @@ use Rattle.task.specs.Table.{row-at, effect-kind}
 use Rattle.task.specs.Rules.{EffectRule}
 use Rattle.task.proofs.Bounded.{and-right}
 use Rattle.plan.specs.Marks.{on, marked, acts, changed, Changeable, Markable, Marked}
+use Rattle.plan.specs.Steps.{Carried}
 
 pub acts-not-marked : (words : List ℕ) (kind : ℕ) (scratch : List ℕ) (at k : ℕ)
     → getD scratch (at + k) 0 ≡ 0 → acts words kind scratch at k ≡ false
@@ -79,3 +80,13 @@ changeable {words} {v} {at} {root} {kind} {w} {before} {after} m d which same =
           rw same
           (atom-named v at k (row-at words k .kind) (row-at words k .a) (row-at words k .b) (m .rule k (omega arith)) (rw e which));
     }
+
+-- marks, then the clears, then the sets
+pub carried :
+    {words : List ℕ} {at root : ℕ} {s half after before marks : List ℕ}
+    → Marked words at root before marks
+    → half ≡ changed words 2 0 marks at (root + 1) s
+    → after ≡ changed words 1 1 marks at (root + 1) half
+    → Carried words at root s after before marks
+carried {words} {at} {root} {s} {half} {after} {before} {marks} d one two =
+    record { marking = d; state = two ∙ ap (changed words 1 1 marks at (root + 1)) one }

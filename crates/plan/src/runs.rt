@@ -33,7 +33,7 @@ fn run_ready(
         let number = sequence[steps as usize];
         let taken = take(head, formulas, effects, operators, state, number, scratch);
         if taken.stop != 0 {
-            let reached = holds(formulas, count, goal, state, scratch);
+            let there = holds(formulas, count, goal, state, scratch);
             let end = End::Stopped {
                 number: taken.stop,
                 step: steps,
@@ -41,7 +41,7 @@ fn run_ready(
             return RunOutcome {
                 steps,
                 cost,
-                goal: reached,
+                goal: there,
                 end,
             };
         }
