@@ -44,8 +44,8 @@ padded-three n words i x y z e h =
     let a = padded-word n words (3 * i) x e (omega arith) in
     let b = padded-word n one (3 * i + 1) y (omega (arith, length-append words (x ∷ []))) (omega arith) in
     let c =
-        padded-word n two (3 * i + 2) z
-        (omega (arith, length-append words (x ∷ []), length-append one (y ∷ []))) (omega arith) in
+    padded-word n two (3 * i + 2) z
+    (omega (arith, length-append words (x ∷ []), length-append one (y ∷ []))) (omega arith) in
     let same : two ++ (z ∷ []) ≡ words ++ (x ∷ y ∷ z ∷ []) = simp append-assoc in
     ap (λ (t : List ℕ). set (set t (3 * i + 1) y) (3 * i + 2) z) a
     ∙ ap (λ (t : List ℕ). set t (3 * i + 2) z) b

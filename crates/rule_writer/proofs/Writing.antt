@@ -2,7 +2,7 @@
 -- since effect rows are only appended. Assumes nothing.
 use Prim.Native.Nat.{ℕ, _+_, _*_, _≤_, _<_}
 use native.Mathlib.Omega.{arith}
-use mathlib.Core.Path.{_≡_, refl, sym, ap, _∙_}
+use mathlib.Core.Path.{_≡_, refl, sym, ap, ap₂, _∙_}
 use mathlib.Core.Bool.{Bool, true, false, not, cond, true≢false}
 use mathlib.Core.List.{List, [], _∷_, _++_, append-assoc}
 use lib.ListN.{length, take, length-append, length-set}
@@ -10,6 +10,7 @@ use lib.Seq.{length-take-le}
 use lib.Dec.{eqb, ltb}
 use borrow.Author.Tests.{eq-eqb, ne-eqb, lt-ltb, le-ltb}
 use Rattle.task.specs.Table.{Row, Operator}
+use Rattle.task.specs.Semantics.{sets, clears}
 use Rattle.task.specs.Words.{words-of}
 use Rattle.normal_form.specs.Builder.{place}
 use Rattle.normal_form.specs.Assembly.{Rule, rule, with-twin, rules-of, Written, atom-row, rule-rows, write-rule, write-rules}
@@ -124,8 +125,8 @@ writes-both {rs} {qs} {room} {at} {a} {r} {before} {mid} {after} x y =
         y .over (write-rules w rs) (x .done w h k) k t (rw (rules-split w rs qs) at few)
     later w h e t few true k =
         let grown =
-            longer (write-rules w rs .rows) (write-rules (write-rules w rs) qs .rows)
-            (rules-prefix (write-rules w rs) qs) in
+        longer (write-rules w rs .rows) (write-rules (write-rules w rs) qs .rows)
+        (rules-prefix (write-rules w rs) qs) in
         x .over w h e k (omega (arith, rw (rules-split w rs qs) at few))
 
 -- rows stored behind those that stand
@@ -268,10 +269,10 @@ module _ (room : ℕ) (at : Chain) (t : List ℕ) (r : CodeRule) where
           let join : Row = record { kind = 3; a = at .stands; b = at .rows + 1 } in
           let space = f .ready .space in
           let long : length two ≡ at .rows + 2 =
-              length-append (w .rows) (rule-rows (at .rows) (the-rule r))
-              ∙ omega (arith, hold .rows, two-long (at .rows) (the-rule r)) in
+          length-append (w .rows) (rule-rows (at .rows) (the-rule r))
+          ∙ omega (arith, hold .rows, two-long (at .rows) (the-rule r)) in
           let whole : two ++ (join ∷ []) ≡ w .rows ++ (rule-rows (at .rows) (the-rule r) ++ (join ∷ [])) =
-              append-assoc (w .rows) (rule-rows (at .rows) (the-rule r)) (join ∷ []) in
+          append-assoc (w .rows) (rule-rows (at .rows) (the-rule r)) (join ∷ []) in
           rw (
             one-rule w (the-rule r),
             next-written w (the-rule r) (λ e. f .some (sym (hold .stands) ∙ e)),
@@ -332,4 +333,19 @@ pub changes-written :
     ≡ opposed-in frame k (record { sets = true; variable = c .variable; condition = c .adds })
     ++ opposed-in frame k (record { sets = false; variable = c .variable; condition = c .deletes })
 unfolding rules-of with-twin
-changes-written frame originals k c h e = ?
+changes-written frame originals k c h e =
+    ap₂ made (sym e) (length-take-le (frame .twins) originals h)
+    ∙ sym (append-assoc (rule (c .adds) (sets v)) (of-twin k (frame .twins) (c .adds) false) (made-clear k (frame .twins)))
+  where
+    v : ℕ
+    v = c .variable
+
+    -- for a twin at place p of so many
+    of-twin : (p count condition : ℕ) → Bool → List Rule
+    of-twin p count condition s = cond (ltb p count) (rule condition (atom-of s (frame .variables + p))) []
+
+    made-clear : (p count : ℕ) → List Rule
+    made-clear p count = rule (c .deletes) (clears v) ++ of-twin p count (c .deletes) true
+
+    made : (p count : ℕ) → List Rule
+    made p count = rule (c .adds) (sets v) ++ (of-twin p count (c .adds) false ++ made-clear p count)

@@ -1,5 +1,8 @@
 // The rules of a compiled operator, as effect rows behind those that stand.
-use crate::{Chain, Changes, Frame, Rule};
+use crate::Chain;
+use crate::Changes;
+use crate::Frame;
+use crate::Rule;
 use crate::rows::store;
 use crate::twins::find_twin;
 ghost use mathlib.Core.Path.{_≡_};
@@ -123,7 +126,13 @@ fn opposed(table: &mut [u16], frame: Frame, at: Chain, k: usize, r: Rule) -> Cha
 }
 
 // All rules of one variable: set v, clear its twin; clear v, set its twin. One search for the twin.
-pub fn write_changes(table: &mut [u16], originals: &[u16], frame: Frame, at: Chain, c: Changes) -> Chain
+pub fn write_changes(
+    table: &mut [u16],
+    originals: &[u16],
+    frame: Frame,
+    at: Chain,
+    c: Changes,
+) -> Chain
     requires { ⌜ FrameReady frame at (now table) × (frame .twins ≤ length (now originals)) ⌝ }
     ensures { λ s. ⌜ Writes (rules-of (frame .variables) (take (frame .twins) (now (originals .entry))) (changes-in c)) (frame .room) at (now (table .entry)) (now (table .exit)) s ⌝ }
 {
