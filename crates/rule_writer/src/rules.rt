@@ -39,7 +39,8 @@ fn conjunct(table: &mut [u16], n: usize, r: Rule)
 {
     let k = kind(r.sets);
     store(table, n, k, r.variable, 0);
-    store(table, n + 1, 4, r.condition, n as u16);
+    let under = n + 1;
+    store(table, under, 4, r.condition, n as u16);
 }
 
 // An operator's first rule.

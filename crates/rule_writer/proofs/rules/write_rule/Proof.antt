@@ -1,41 +1,31 @@
 use borrow.Author.Needs.{needs}
 use Rattle.rule_writer.proofs.rules.write_rule.Statement.{statement}
 use Rattle.rule_writer.proofs.rules.write_rule.Tie as tie
-use Rattle.rule_writer.proofs.rules.write_rule.Reads as reads
-use Rattle.rule_writer.proofs.rules.write_rule.Lts as lts
-use Rattle.rule_writer.proofs.rules.first.Reads as first-reads
-use Rattle.rule_writer.proofs.rules.next.Reads as next-reads
 use Rattle.rule_writer.proofs.Writing.{writes-filled, writes-none, writes-as, rule-absent, rule-there}
 
--- src/rules.rt:83:9
 returns : tie.Need-returns
 returns c = writes-filled (c .before .before .pre) (c .if1 .taken)
 
--- src/rules.rt:86:9
 returns-2 : tie.Need-returns-2
-returns-2 c = writes-none (c .before .before .before .before .pre) (rule-absent (c .before .before .before .before .args .r) (c .if2 .taken))
+returns-2 c =
+    let s = c .before .before .before .before in
+    writes-none (s .pre) (rule-absent (s .args .r) (c .if2 .taken))
 
--- src/rules.rt:89:9
 first-requires : tie.Need-first-requires
 first-requires c κs = search needs
 
--- src/rules.rt:89:9
 same-length : tie.Need-same-length
 same-length c = search needs
 
--- src/rules.rt:89:9
 returns-3 : tie.Need-returns-3
 returns-3 c = writes-as (rule-there (c .before .before .before .before .before .before .before .before .before .before .args .r) (c .before .before .before .before .before .before .if2 .left)) (c .before .before .first .ensures)
 
--- src/rules.rt:91:5
 next-requires : tie.Need-next-requires
 next-requires c κs = search needs
 
--- src/rules.rt:78:1
 same-length-2 : tie.Need-same-length-2
 same-length-2 c = search needs
 
--- src/rules.rt:78:1
 returns-4 : tie.Need-returns-4
 returns-4 c = writes-as (rule-there (c .before .before .before .before .before .before .before .before .before .before .args .r) (c .before .before .before .before .before .before .if2 .left)) (c .before .before .next .ensures)
 

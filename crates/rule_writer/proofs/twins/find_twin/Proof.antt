@@ -1,7 +1,5 @@
 use Rattle.rule_writer.proofs.twins.find_twin.Statement.{statement}
 use Rattle.rule_writer.proofs.twins.find_twin.Tie as tie
-use Rattle.rule_writer.proofs.twins.find_twin.Reads as reads
-use Rattle.rule_writer.proofs.twins.find_twin.Lts as lts
 use Prim.Native.Nat.{ℕ, _≤_, _<_, _-_}
 use mathlib.Core.Path.{_≡_}
 use native.Mathlib.Omega.{arith}
@@ -25,7 +23,9 @@ shared-slice-read-if1 : tie.Need-shared-slice-read-if1 Inv-loop μ-loop
 shared-slice-read-if1 c = omega arith
 
 returns : tie.Need-returns Inv-loop μ-loop
-returns c = twin-found (c .before .before .before .before .args .v) (c .before .before .before .before .args .w) (c .before .before .before .before .args .originals .now) (c .before .before .before .before .pre) (c .before .before .before .loop .k) (c .before .before .loop-test .taken) (c .before .before .before .loop .inv .1) (c .if1 .taken)
+returns c =
+    let s = c .before .before .before .before in
+    twin-found (s .args .v) (s .args .w) (s .args .originals .now) (s .pre) (c .before .before .before .loop .k) (c .before .before .loop-test .taken) (c .before .before .before .loop .inv .1) (c .if1 .taken)
 
 add-k : tie.Need-add-k Inv-loop μ-loop
 add-k c = omega arith
@@ -37,7 +37,9 @@ loop-again : tie.Need-loop-again Inv-loop μ-loop
 loop-again c = (omega arith, below-more _ (c .before .before .before .loop .k) (c .before .before .before .loop .inv .1) (c .if1 .left))
 
 returns-2 : tie.Need-returns-2 Inv-loop μ-loop
-returns-2 c = twin-none (c .before .before .args .v) (c .before .before .args .w) (c .before .before .args .originals .now) (c .before .before .pre) (λ j h. c .before .loop .inv .1 j (omega arith))
+returns-2 c =
+    let s = c .before .before in
+    twin-none (s .args .v) (s .args .w) (s .args .originals .now) (s .pre) (λ j h. c .before .loop .inv .1 j (omega arith))
 
 pub find-twin-spec : {M : Type 1} → statement M
 find-twin-spec =
