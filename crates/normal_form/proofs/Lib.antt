@@ -25,3 +25,5 @@ pub mod ShapeSizes
 pub mod ShapeCounts
 pub mod ShapeLimits
 pub mod Examples
+pub mod Compiled
+pub mod Padded

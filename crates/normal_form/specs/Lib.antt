@@ -7,3 +7,4 @@ pub mod Assembly
 pub mod Finished
 pub mod Positive
 pub mod Flat
+pub mod Compiled

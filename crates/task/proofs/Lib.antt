@@ -16,3 +16,4 @@ pub mod Changes
 pub mod Step
 pub mod KindNumbers
 pub mod Ways
+pub mod Cleared

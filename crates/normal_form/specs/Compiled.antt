@@ -1,0 +1,118 @@
+-- What a compiling gives, refusals too (01, "Where each number is given"): the answer and every lent table at exit, from the inputs alone.
+use Prim.Native.Nat.{ℕ, zero, suc, _+_, _-_, _*_, _≤_}
+use mathlib.Core.Bool.{Bool, _&&_}
+use mathlib.Core.List.{List, _++_}
+use lib.ListN.{length, replicate}
+use lib.Dec.{leb, eqb}
+use Rattle.task.specs.declared.Head.{Head}
+use Rattle.task.specs.Table.{Lent, Task, task-of}
+use Rattle.task.specs.Check.{counts-kept, unless, refusal}
+use Rattle.task.specs.Rules.{Limits}
+use Rattle.task.specs.Words.{words-of, operator-words, head-of}
+use Rattle.normal_form.specs.Finished.{finished}
+
+-- How many bytes or words are lent for each output table, and for scratch. What stands in them plays no part: they may come in dirty.
+pub record Room : Type 0 where
+  pub initial : ℕ
+  pub twins : ℕ
+  pub formulas : ℕ
+  pub effects : ℕ
+  pub operators : ℕ
+  pub scratch : ℕ
+
+-- 14: measured by the source's counts
+unfoldable pub scratch-kept : Head → Room → Bool
+scratch-kept h room = leb (2 * h .formulas + 2 * h .effects) (room .scratch)
+
+-- The output tables are as long as a task needs.
+unfoldable pub has-room : Head → Room → Bool
+has-room h room =
+    leb (h .variables) (room .initial)
+    && (leb (h .twins) (room .twins)
+    && (leb (3 * h .formulas) (room .formulas)
+    && (leb (3 * h .effects) (room .effects) && leb (3 * h .operators) (room .operators))))
+
+-- 15: the finished task keeps the limits, and each table that is lent has room for it. It is about the finished task alone: a task of 512
+-- variables whose formulas negate none still compiles, and one whose last twin is number 513 does not.
+unfoldable pub fits : Task → Room → Bool
+fits t room = counts-kept (head-of t) && has-room (head-of t) room
+
+-- the same, in numbers
+pub record Fits (t : Task) (room : Room) : Type 0 where
+  pub limits : Limits t
+  pub initial : length (t .initial) ≤ room .initial
+  pub twins : length (t .originals) ≤ room .twins
+  pub formulas : 3 * length (t .formulas) ≤ room .formulas
+  pub effects : 3 * length (t .effects) ≤ room .effects
+  pub operators : 3 * length (t .operators) ≤ room .operators
+
+-- The first in order: the tables' own number, 13, 14, 15; 0 if there is none.
+unfoldable pub compile-refusal : Lent → Room → ℕ
+compile-refusal l room =
+    unless (eqb (refusal l) 0) (refusal l)
+    (unless (eqb (l .head .twins) 0) 13
+    (unless (scratch-kept (l .head) room) 14 (unless (fits (finished (task-of l)) room) 15 0)))
+
+pub data Answer : Type 0 where
+  compiled-head : Head → Answer
+  refused : ℕ → Answer
+
+-- What a compiling leaves: its answer, the output tables and scratch.
+pub record Outcome : Type 0 where
+  pub answer : Answer
+  pub initial : List ℕ
+  pub twins : List ℕ
+  pub formulas : List ℕ
+  pub effects : List ℕ
+  pub operators : List ℕ
+  pub scratch : List ℕ
+
+-- words at the front of n, and 0 in all past them
+unfoldable pub padded : ℕ → List ℕ → List ℕ
+padded n words = words ++ replicate (n - length words) 0
+
+-- after a refusal every output is all 0
+unfoldable pub nothing-given : ℕ → Room → Outcome
+nothing-given number room =
+    record {
+      answer = refused number;
+      initial = replicate (room .initial) 0;
+      twins = replicate (room .twins) 0;
+      formulas = replicate (room .formulas) 0;
+      effects = replicate (room .effects) 0;
+      operators = replicate (room .operators) 0;
+      scratch = replicate (room .scratch) 0;
+    }
+
+-- after success the task's words; scratch always ends as 0
+unfoldable pub task-given : Task → Room → Outcome
+task-given t room =
+    record {
+      answer = compiled-head (head-of t);
+      initial = padded (room .initial) (t .initial);
+      twins = padded (room .twins) (t .originals);
+      formulas = padded (room .formulas) (words-of (t .formulas));
+      effects = padded (room .effects) (words-of (t .effects));
+      operators = padded (room .operators) (operator-words (t .operators));
+      scratch = replicate (room .scratch) 0;
+    }
+
+unfoldable pub outcome-by : ℕ → Task → Room → Outcome
+outcome-by zero t room = task-given t room
+outcome-by (suc n) t room = nothing-given (suc n) room
+
+-- THE outcome of a compiling
+unfoldable pub compiling : Lent → Room → Outcome
+compiling l room = outcome-by (compile-refusal l room) (finished (task-of l)) room
+
+-- the head that was answered and the output tables, as they are lent to the next call
+abbrev pub given : Head → Outcome → Lent
+given h o =
+    record {
+      head = h;
+      initial = o .initial;
+      twins = o .twins;
+      formulas = o .formulas;
+      effects = o .effects;
+      operators = o .operators;
+    }
