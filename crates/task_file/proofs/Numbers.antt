@@ -1,0 +1,1 @@
+-- Laws of bits and of the two bytes of a word. Assumes nothing.
