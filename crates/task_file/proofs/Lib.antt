@@ -1,1 +1,3 @@
-pub mod Numbers
+pub mod Parse
+pub mod Fields
+pub mod Table

@@ -1,1 +1,0 @@
--- Laws of bits and of the two bytes of a word. Assumes nothing.
