@@ -138,6 +138,18 @@ above (w ∷ ws) m h =
     let b : m % 2 ≡ present w = h .0 in
     (i .0, omega arith)
 
+-- a map of n fields has n bits
+pub map-lt : (n : ℕ) (ws : List ℕ) → length ws ≡ n → map-of ws < 2 ^ n
+unfolding map-of number
+map-lt n [] e = rw (← e) (omega arith)
+map-lt n (w ∷ ws) e =
+    let i : number (map present ws) < 2 ^ length ws = map-lt (length ws) ws refl in
+    let d = double-pow (length ws) 1 in
+    rw (← e) (omega (arith, present-le w))
+
+pub map-above : (n : ℕ) (ws : List ℕ) (m : ℕ) → length ws ≡ n → Mapped ws m → (r : ℕ) × (m ≡ map-of ws + 2 ^ n * r)
+map-above n ws m e h = rw (← e) (above ws m h)
+
 pub fields-reads : (ws : List ℕ) (m : ℕ) (rest : List ℕ) → Mapped ws m → fields-read (length ws) m (flat field-bytes ws ++ rest) ≡ parsed ws rest
 unfolding fields-read flat
 fields-reads [] m rest h = refl

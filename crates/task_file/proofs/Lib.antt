@@ -1,3 +1,4 @@
 pub mod Parse
 pub mod Fields
 pub mod Table
+pub mod Rows

@@ -39,6 +39,12 @@ fields-read (suc n) m bytes =
     next (field-read (m % 2) bytes)
     (λ w rest. next (fields-read n (m / 2) rest) (λ ws. parsed (w ∷ ws)))
 
+-- What begins with a map: the map byte (1, then 2 unless its unused bits are clear), n fields by it, and the value made of the two.
+unfoldable pub mapped-read : {A : Type 0} → ℕ → (ℕ → Bool) → (ℕ → List ℕ → A) → List ℕ → Parsed A
+mapped-read n clear made bytes =
+    next (byte-read bytes)
+    (λ m rest. next (kept (clear m) 2 m rest) (λ m rest. next (fields-read n m rest) (λ ws. parsed (made m ws))))
+
 -- n rows one after the other; how row i is read may go by i and by the rows before it
 unfoldable pub table-read : {A : Type 0} → (ℕ → List A → List ℕ → Parsed A) → ℕ → List ℕ → Parsed (List A)
 table-read row zero bytes = parsed [] bytes

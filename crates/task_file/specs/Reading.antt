@@ -10,7 +10,7 @@ use Rattle.task.specs.Bounded.{upto}
 use Rattle.task.specs.Table.{Row, Operator, Task}
 use Rattle.task.specs.Check.{counts-kept, goal-kept, twin-kept, formula-kept, effect-kept, operator-kept}
 use Rattle.task_file.specs.Bytes.{bytes-for, flat, head-of}
-use Rattle.task_file.specs.Parse.{Parsed, parsed, refused, next, kept, byte-read, word-read, fields-read, table-read}
+use Rattle.task_file.specs.Parse.{Parsed, parsed, refused, next, kept, byte-read, word-read, mapped-read, table-read}
 
 -- how long each lent table is
 pub record Lengths : Type 0 where
@@ -28,8 +28,8 @@ room l h =
     && (leb (3 * h .formulas) (l .formulas)
     && (leb (3 * h .effects) (l .effects) && leb (3 * h .operators) (l .operators))))
 
-abbrev pub head-from : List ℕ → Head
-head-from ws =
+abbrev pub head-from : ℕ → List ℕ → Head
+head-from m ws =
     record {
       variables = getD ws 0 0;
       twins = getD ws 1 0;
@@ -40,12 +40,11 @@ head-from ws =
     }
 
 -- bits 6 and 7 of the map are unused: the one-byte file FF is 2, and not 1
+abbrev pub head-clear : ℕ → Bool
+head-clear m = ltb m 64
+
 unfoldable pub head-read : List ℕ → Parsed Head
-head-read bytes =
-    next (byte-read bytes)
-    (λ m rest.
-    next (kept (ltb m 64) 2 m rest)
-    (λ m rest. next (fields-read 6 m rest) (λ ws. parsed (head-from ws))))
+head-read = mapped-read 6 head-clear head-from
 
 -- 6, 7, 5
 unfoldable pub head-kept : Lengths → Head → List ℕ → Parsed Head
@@ -71,13 +70,14 @@ unfoldable pub twin-read : ℕ → ℕ → List ℕ → List ℕ → Parsed ℕ
 twin-read bound k done bytes = next (word-read bytes) (λ w. kept (twin-kept bound (done ++ (w ∷ [])) k) 9 w)
 
 -- a formula's or an effect's row without its own number; bits 2 and 3 of the map are unused
+abbrev pub row-clear : ℕ → Bool
+row-clear m = eqb (m / 4 % 4) 0
+
+abbrev pub row-from : ℕ → List ℕ → Row
+row-from m ws = record { kind = m / 16; a = getD ws 0 0; b = getD ws 1 0 }
+
 unfoldable pub row-read : List ℕ → Parsed Row
-row-read bytes =
-    next (byte-read bytes)
-    (λ m rest.
-    next (kept (eqb (m / 4 % 4) 0) 2 m rest)
-    (λ m rest.
-    next (fields-read 2 m rest) (λ ws. parsed (record { kind = m / 16; a = getD ws 0 0; b = getD ws 1 0 }))))
+row-read = mapped-read 2 row-clear row-from
 
 unfoldable pub formula-read : ℕ → ℕ → List Row → List ℕ → Parsed Row
 formula-read v i done bytes = next (row-read bytes) (λ r. kept (formula-kept v i r) 10 r)
@@ -85,15 +85,15 @@ formula-read v i done bytes = next (row-read bytes) (λ r. kept (formula-kept v 
 unfoldable pub effect-read : (v f : ℕ) → ℕ → List Row → List ℕ → Parsed Row
 effect-read v f i done bytes = next (row-read bytes) (λ r. kept (effect-kept v f i r) 11 r)
 
--- an operator's row; bits 3 to 7 of the map are unused
+-- an operator's row without its own number; bits 3 to 7 of the map are unused
+abbrev pub operator-clear : ℕ → Bool
+operator-clear m = ltb m 8
+
+abbrev pub operator-from : ℕ → List ℕ → Operator
+operator-from m ws = record { precondition = getD ws 0 0; effect = getD ws 1 0; cost = getD ws 2 0 }
+
 unfoldable pub operator-fields-read : List ℕ → Parsed Operator
-operator-fields-read bytes =
-    next (byte-read bytes)
-    (λ m rest.
-    next (kept (ltb m 8) 2 m rest)
-    (λ m rest.
-    next (fields-read 3 m rest)
-    (λ ws. parsed (record { precondition = getD ws 0 0; effect = getD ws 1 0; cost = getD ws 2 0 }))))
+operator-fields-read = mapped-read 3 operator-clear operator-from
 
 unfoldable pub operator-read : (f e : ℕ) → ℕ → List Operator → List ℕ → Parsed Operator
 operator-read f e i done bytes = next (operator-fields-read bytes) (λ o. kept (operator-kept f e o) 12 o)
