@@ -114,7 +114,7 @@ abbrev pub Mapped : List ℕ → ℕ → Type 0
 Mapped [] m = Unit {0}
 Mapped (w ∷ ws) m = (m % 2 ≡ present w) × Mapped ws (m / 2)
 
-double-pow : (n r : ℕ) → 2 ^ suc n * r ≡ 2 * (2 ^ n * r)
+pub double-pow : (n r : ℕ) → 2 ^ suc n * r ≡ 2 * (2 ^ n * r)
 double-pow n r = rw pow-suc (simp (mul-comm (2 ^ n) 2, mul-assoc))
 
 -- a map with anything above it

@@ -2,3 +2,4 @@ pub mod Parse
 pub mod Fields
 pub mod Table
 pub mod Rows
+pub mod Initial

@@ -102,6 +102,7 @@ module _ {A B : Type 0} (p : List ℕ → Parsed A) (f : A → List ℕ → Pars
     where
       s : Steps (p (front ++ more)) f y rest
       s = next-parsed (p (front ++ more)) f e
+
       go : Cut p front more (s .value) (s .mid) → Cut (λ bytes. next (p bytes) f) front more y rest
       go (short r) = short (next-refused f r)
       go (whole m r q) = after-first front more m (s .value) y rest r (sf (s .value) m more y rest (ap (f (s .value)) (sym q) ∙ s .second))

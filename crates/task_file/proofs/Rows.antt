@@ -72,8 +72,8 @@ module _ {A : Type 0} (n : ℕ) (clear : ℕ → Bool) (made : ℕ → List ℕ 
   mapped-stable =
       next-stable byte-read (λ m rest. next (kept (clear m) 2 m rest) (λ m rest. next (fields-read n m rest) (λ ws. parsed (made m ws)))) byte-stable
       (λ m.
-        next-stable (kept (clear m) 2 m) (λ m rest. next (fields-read n m rest) (λ ws. parsed (made m ws))) (kept-stable (clear m) 2 m)
-        (λ m. next-stable (fields-read n m) (λ ws. parsed (made m ws)) (fields-stable n m) (λ ws. pure-stable (made m ws))))
+      next-stable (kept (clear m) 2 m) (λ m rest. next (fields-read n m rest) (λ ws. parsed (made m ws))) (kept-stable (clear m) 2 m)
+      (λ m. next-stable (fields-read n m) (λ ws. parsed (made m ws)) (fields-stable n m) (λ ws. pure-stable (made m ws))))
 
 -- a map with nothing above it
 map-alone : (ws : List ℕ) → Mapped ws (map-of ws)
