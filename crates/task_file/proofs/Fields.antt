@@ -8,7 +8,8 @@ use mathlib.Core.List.{List, [], _∷_, _++_, append-assoc, map}
 use lib.ListN.{length, getD}
 use lib.Dec.{ltb}
 use borrow.Author.Tests.{ltb-true, lt-ltb}
-use Rattle.task_file.specs.Bytes.{flat, number, word-bytes, field-bytes, present, map-of}
+use Rattle.task.specs.Words.{joined}
+use Rattle.task_file.specs.Bytes.{number, word-bytes, field-bytes, present, map-of}
 use Rattle.task_file.specs.Parse.{Parsed, parsed, refused, next, kept, byte-read, word-read, field-read, fields-read}
 use Rattle.task_file.proofs.Parse.{Bytes, bytes-behind, parsed-value, parsed-rest, refused-parsed, Kept, kept-parsed, kept-true, Steps, next-parsed, next-to, Cut, short, whole, Stable, pure-stable, kept-stable, byte-stable, next-stable}
 
@@ -150,16 +151,16 @@ map-lt n (w ∷ ws) e =
 pub map-above : (n : ℕ) (ws : List ℕ) (m : ℕ) → length ws ≡ n → Mapped ws m → (r : ℕ) × (m ≡ map-of ws + 2 ^ n * r)
 map-above n ws m e h = rw (← e) (above ws m h)
 
-pub fields-reads : (ws : List ℕ) (m : ℕ) (rest : List ℕ) → Mapped ws m → fields-read (length ws) m (flat field-bytes ws ++ rest) ≡ parsed ws rest
-unfolding fields-read flat
+pub fields-reads : (ws : List ℕ) (m : ℕ) (rest : List ℕ) → Mapped ws m → fields-read (length ws) m (joined field-bytes ws ++ rest) ≡ parsed ws rest
+unfolding fields-read joined
 fields-reads [] m rest h = refl
 fields-reads (w ∷ ws) m rest h =
-    rw (append-assoc (field-bytes w) (flat field-bytes ws) rest, h .0)
-    (next-to (λ w rest. next (fields-read (length ws) (m / 2) rest) (λ ws. parsed (w ∷ ws))) (field-reads w (flat field-bytes ws ++ rest))
+    rw (append-assoc (field-bytes w) (joined field-bytes ws) rest, h .0)
+    (next-to (λ w rest. next (fields-read (length ws) (m / 2) rest) (λ ws. parsed (w ∷ ws))) (field-reads w (joined field-bytes ws ++ rest))
     ∙ next-to (λ ws. parsed (w ∷ ws)) (fields-reads ws (m / 2) rest (h .1)))
 
 pub record Fields (n m : ℕ) (bytes ws rest : List ℕ) : Type 0 where
-  pub same : bytes ≡ flat field-bytes ws ++ rest
+  pub same : bytes ≡ joined field-bytes ws ++ rest
   pub size : length ws ≡ n
   pub good : Words ws
   pub by-map : Mapped ws m
@@ -168,7 +169,7 @@ fields-same : {n m : ℕ} {bytes ws ws′ rest rest′ : List ℕ} → ws ≡ ws
 fields-same p q f = rw (← p, ← q) f
 
 pub fields-parsed : (n m : ℕ) (bytes : List ℕ) {ws rest : List ℕ} → Bytes bytes → fields-read n m bytes ≡ parsed ws rest → Fields n m bytes ws rest
-unfolding fields-read flat
+unfolding fields-read joined
 fields-parsed zero m bytes {ws} {rest} b e =
     let z : [] ≡ ws = parsed-value e in
     fields-same {m = m} z (parsed-rest e) (record { same = refl; size = refl; good = tt; by-map = tt })
@@ -182,7 +183,7 @@ fields-parsed (suc n) m bytes {ws} {rest} b e =
     let r : t .mid ≡ rest = parsed-rest (t .second) in
     fields-same v r
     (record {
-      same = f .same ∙ ap (λ (l : List ℕ). field-bytes (s .value) ++ l) (g .same) ∙ sym (append-assoc (field-bytes (s .value)) (flat field-bytes (t .value)) (t .mid));
+      same = f .same ∙ ap (λ (l : List ℕ). field-bytes (s .value) ++ l) (g .same) ∙ sym (append-assoc (field-bytes (s .value)) (joined field-bytes (t .value)) (t .mid));
       size = ap suc (g .size);
       good = (f .good, g .good);
       by-map = (sym (f .by-bit), g .by-map);

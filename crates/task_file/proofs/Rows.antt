@@ -14,7 +14,8 @@ use Rattle.task.specs.Bounded.{upto}
 use Rattle.task.proofs.Bounded.{length-upto, getD-upto}
 use Rattle.task.specs.Table.{Row, Operator}
 use Rattle.task.specs.Check.{twin-kept, formula-kept, effect-kept, operator-kept}
-use Rattle.task_file.specs.Bytes.{flat, number, word-bytes, field-bytes, present, map-of, head-fields, head-bytes, row-bytes, operator-fields, operator-bytes}
+use Rattle.task.specs.Words.{joined}
+use Rattle.task_file.specs.Bytes.{number, word-bytes, field-bytes, present, map-of, head-fields, head-bytes, row-bytes, operator-fields, operator-bytes}
 use Rattle.task_file.specs.Parse.{Parsed, parsed, refused, next, kept, byte-read, word-read, fields-read, mapped-read}
 use Rattle.task_file.specs.Reading.{head-from, head-clear, head-read, row-from, row-clear, operator-from, operator-clear, twin-read, row-read, formula-read, effect-read, operator-fields-read, operator-read}
 use Rattle.task_file.proofs.Parse.{Bytes, bytes-behind, parsed-value, parsed-rest, refused-parsed, Kept, kept-parsed, kept-true, Steps, next-parsed, next-to, Stable, pure-stable, kept-stable, byte-stable, next-stable}
@@ -30,11 +31,11 @@ listed n ws e =
 module _ {A : Type 0} (n : ℕ) (clear : ℕ → Bool) (made : ℕ → List ℕ → A) where
   pub mapped-reads :
       (m : ℕ) (ws rest : List ℕ) → length ws ≡ n → clear m ≡ true → Mapped ws m
-      → mapped-read n clear made (m ∷ (flat field-bytes ws ++ rest)) ≡ parsed (made m ws) rest
+      → mapped-read n clear made (m ∷ (joined field-bytes ws ++ rest)) ≡ parsed (made m ws) rest
   unfolding mapped-read
   mapped-reads m ws rest size t h =
-      next-to (λ m rest. next (kept (clear m) 2 m rest) (λ m rest. next (fields-read n m rest) (λ ws. parsed (made m ws)))) (byte-reads m (flat field-bytes ws ++ rest))
-      ∙ next-to (λ m rest. next (fields-read n m rest) (λ ws. parsed (made m ws))) (kept-true (clear m) 2 m (flat field-bytes ws ++ rest) t)
+      next-to (λ m rest. next (kept (clear m) 2 m rest) (λ m rest. next (fields-read n m rest) (λ ws. parsed (made m ws)))) (byte-reads m (joined field-bytes ws ++ rest))
+      ∙ next-to (λ m rest. next (fields-read n m rest) (λ ws. parsed (made m ws))) (kept-true (clear m) 2 m (joined field-bytes ws ++ rest) t)
       ∙ next-to (λ ws. parsed (made m ws)) (rw size at (fields-reads ws m rest h))
 
   pub record MappedRow (bytes : List ℕ) (x : A) (rest : List ℕ) : Type 0 where
@@ -42,7 +43,7 @@ module _ {A : Type 0} (n : ℕ) (clear : ℕ → Bool) (made : ℕ → List ℕ 
     pub fields : List ℕ
     pub passed : clear byte ≡ true
     pub value : made byte fields ≡ x
-    pub same : bytes ≡ byte ∷ (flat field-bytes fields ++ rest)
+    pub same : bytes ≡ byte ∷ (joined field-bytes fields ++ rest)
     pub size : length fields ≡ n
     pub by-map : Mapped fields byte
 

@@ -5,11 +5,7 @@ use lib.ListN.{length, getD}
 use Rattle.task.specs.declared.Head.{Head}
 use Rattle.task.specs.Bounded.{upto}
 use Rattle.task.specs.Table.{Row, Operator, Task}
-
--- the lists of each, one after the other
-unfoldable pub flat : {A : Type 0} → (A → List ℕ) → List A → List ℕ
-flat bytes [] = []
-flat bytes (x ∷ xs) = bytes x ++ flat bytes xs
+use Rattle.task.specs.Words.{joined, head-of}
 
 -- the number whose bits these are, the lowest first
 unfoldable pub number : List ℕ → ℕ
@@ -38,18 +34,18 @@ head-fields h = h .variables ∷ h .twins ∷ h .formulas ∷ h .effects ∷ h .
 
 -- head map: bits 0 to 5 for V, W, F, E, O, goal
 unfoldable pub head-bytes : Head → List ℕ
-head-bytes h = map-of (head-fields h) ∷ flat field-bytes (head-fields h)
+head-bytes h = map-of (head-fields h) ∷ joined field-bytes (head-fields h)
 
 -- a formula's or an effect's row: bit 0 for a, bit 1 for b, the kind in bits 4 to 7
 unfoldable pub row-bytes : Row → List ℕ
-row-bytes r = (map-of (r .a ∷ r .b ∷ []) + 16 * r .kind) ∷ flat field-bytes (r .a ∷ r .b ∷ [])
+row-bytes r = (map-of (r .a ∷ r .b ∷ []) + 16 * r .kind) ∷ joined field-bytes (r .a ∷ r .b ∷ [])
 
 unfoldable pub operator-fields : Operator → List ℕ
 operator-fields o = o .precondition ∷ o .effect ∷ o .cost ∷ []
 
 -- an operator's map uses bits 0, 1, 2
 unfoldable pub operator-bytes : Operator → List ℕ
-operator-bytes o = map-of (operator-fields o) ∷ flat field-bytes (operator-fields o)
+operator-bytes o = map-of (operator-fields o) ∷ joined field-bytes (operator-fields o)
 
 -- the bytes that so many bits take
 unfoldable pub bytes-for : ℕ → ℕ
@@ -59,21 +55,10 @@ bytes-for bits = (bits + 7) / 8
 unfoldable pub packed : List ℕ → List ℕ
 packed state = upto (bytes-for (length state)) (λ j. number (upto 8 (λ k. getD state (8 * j + k) 0)))
 
-unfoldable pub head-of : Task → Head
-head-of t =
-    record {
-      variables = length (t .initial);
-      twins = length (t .originals);
-      formulas = length (t .formulas);
-      effects = length (t .effects);
-      operators = length (t .operators);
-      goal = t .goal;
-    }
-
 -- the head, the initial state, the originals, the formulas, the effects, the operators
 unfoldable pub file-of : Task → List ℕ
 file-of t =
     head-bytes (head-of t)
     ++ (packed (t .initial)
-    ++ (flat word-bytes (t .originals)
-    ++ (flat row-bytes (t .formulas) ++ (flat row-bytes (t .effects) ++ flat operator-bytes (t .operators)))))
+    ++ (joined word-bytes (t .originals)
+    ++ (joined row-bytes (t .formulas) ++ (joined row-bytes (t .effects) ++ joined operator-bytes (t .operators)))))

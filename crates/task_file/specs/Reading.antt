@@ -9,7 +9,7 @@ use Rattle.task.specs.declared.Head.{Head}
 use Rattle.task.specs.Bounded.{upto}
 use Rattle.task.specs.Table.{Row, Operator, Task}
 use Rattle.task.specs.Check.{counts-kept, goal-kept, twin-kept, formula-kept, effect-kept, operator-kept}
-use Rattle.task_file.specs.Bytes.{bytes-for, flat, head-of}
+use Rattle.task_file.specs.Bytes.{bytes-for}
 use Rattle.task_file.specs.Parse.{Parsed, parsed, refused, next, kept, byte-read, word-read, mapped-read, table-read}
 
 -- how long each lent table is
