@@ -3,3 +3,4 @@ pub mod Fields
 pub mod Table
 pub mod Rows
 pub mod Initial
+pub mod Tables

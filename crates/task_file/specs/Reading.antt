@@ -1,6 +1,6 @@
 -- Reading a task file (01, "Where each number is given"): row by row, the map byte (1, then 2), each field in file order (1, then 3), then
 -- the row's own number.
-use Prim.Native.Nat.{ℕ, zero, suc, _+_, _-_, _*_, _/_, _%_, _^_}
+use Prim.Native.Nat.{ℕ, zero, suc, _+_, _-_, _*_, _/_, _%_, _^_, _≤_}
 use mathlib.Core.Bool.{Bool, true, false, _&&_, _||_}
 use mathlib.Core.List.{List, [], _∷_, _++_}
 use lib.ListN.{length, getD, replicate}
@@ -137,3 +137,11 @@ at-end (refused n) = rejected n
 
 unfoldable pub reading : Lengths → List ℕ → Outcome
 reading l file = at-end (task-read l file)
+
+-- each lent table is as long as the task needs
+pub record Room (l : Lengths) (t : Task) : Type 0 where
+  pub initial : length (t .initial) ≤ l .initial
+  pub twins : length (t .originals) ≤ l .twins
+  pub formulas : 3 * length (t .formulas) ≤ l .formulas
+  pub effects : 3 * length (t .effects) ≤ l .effects
+  pub operators : 3 * length (t .operators) ≤ l .operators
