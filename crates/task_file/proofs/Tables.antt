@@ -40,7 +40,7 @@ pub initial-reads : (state rest : List ℕ) → Bits state → initial-read (len
 unfolding initial-read plain-byte one-byte next
 initial-reads state rest b =
     let e : table-read plain-byte (bytes-for (length state)) (packed state ++ rest) ≡ parsed (packed state) rest =
-      rw (packed-length state, bytes-joined (packed state)) at (table-reads one-byte plain-byte 0 (packed state) (λ i h rest. byte-reads (getD (packed state) i 0) rest) rest)
+    rw (packed-length state, bytes-joined (packed state)) at (table-reads one-byte plain-byte 0 (packed state) (λ i h rest. byte-reads (getD (packed state) i 0) rest) rest)
     in
     rw (e, unpacked-packed state b) (kept-true (spare-clear (packed state) (length state)) 2 state rest (packed-clear state b))
 
@@ -77,3 +77,157 @@ initial-stable v =
     next-stable (table-read plain-byte (bytes-for v)) (λ packed. kept (spare-clear packed v) 2 (upto v (bit-of packed)))
     (table-stable plain-byte (λ i done. byte-stable) (bytes-for v))
     (λ packed. kept-stable (spare-clear packed v) 2 (upto v (bit-of packed)))
+
+-- what a twin row's test looks at: the rows up to its own
+twin-front : (bound : ℕ) (os : List ℕ) (k : ℕ) → k < length os → twin-kept bound (take k os ++ (getD os k 0 ∷ [])) k ≡ true ↔ TwinRule bound os k
+twin-front bound os k h = (told, tested)
+  where
+    front : take k os ++ (getD os k 0 ∷ []) ≡ take (suc k) os
+    front = sym (take-suc os k 0 h)
+
+    told : twin-kept bound (take k os ++ (getD os k 0 ∷ [])) k ≡ true → TwinRule bound os k
+    told e =
+        let r = twin-tested bound (take (suc k) os) k .0 (rw front at e) in
+        let here : getD (take (suc k) os) k 0 ≡ getD os k 0 = getD-take (suc k) os k 0 (omega arith) in
+        record {
+          below = rw here at (r .below);
+          once = λ j l same. r .once j l (getD-take (suc k) os j 0 (omega arith) ∙ same ∙ sym here);
+        }
+
+    tested : TwinRule bound os k → twin-kept bound (take k os ++ (getD os k 0 ∷ [])) k ≡ true
+    tested r =
+        let here : getD (take (suc k) os) k 0 ≡ getD os k 0 = getD-take (suc k) os k 0 (omega arith) in
+        let rule : TwinRule bound (take (suc k) os) k =
+        record {
+          below = rw here (r .below);
+          once = λ j l same. r .once j l (sym (getD-take (suc k) os j 0 (omega arith)) ∙ same ∙ here);
+        }
+        in
+        rw front (twin-tested bound (take (suc k) os) k .1 rule)
+
+pub twins-reads :
+    (bound : ℕ) (os rest : List ℕ)
+    → ((k : ℕ) → k < length os → TwinRule bound os k)
+    → table-read (twin-read bound) (length os) (joined word-bytes os ++ rest) ≡ parsed os rest
+unfolding twin-read
+twins-reads bound os rest rule =
+    table-reads word-bytes (twin-read bound) 0 os
+    (λ k h rest.
+    ruled-reads word-read word-bytes (λ w. twin-kept bound (take k os ++ (w ∷ [])) k) 9 (getD os k 0) rest
+    (word-reads (getD os k 0) rest)
+    (twin-front bound os k h .1 (rule k h)))
+    rest
+
+pub twins-parsed :
+    (bound n : ℕ) (bytes : List ℕ) {os rest : List ℕ}
+    → Bytes bytes
+    → table-read (twin-read bound) n bytes ≡ parsed os rest
+    → Table word-bytes (twin-read bound) 0 (λ k done w. twin-kept bound (done ++ (w ∷ [])) k ≡ true) n bytes os rest
+unfolding twin-read
+twins-parsed bound n bytes b e =
+    table-parsed word-bytes (twin-read bound) 0 (λ k done w. twin-kept bound (done ++ (w ∷ [])) k ≡ true)
+    (λ k done bytes x rest b e.
+    ruled-parsed word-read word-bytes (λ w. twin-kept bound (done ++ (w ∷ [])) k) 9
+    (λ bytes x rest b e. word-parsed bytes b e .same)
+    bytes x rest b e)
+    n bytes b e
+
+pub twins-stable : (bound n : ℕ) → Stable (table-read (twin-read bound) n)
+unfolding twin-read
+twins-stable bound n =
+    table-stable (twin-read bound) (λ k done. ruled-stable word-read word-bytes (λ w. twin-kept bound (done ++ (w ∷ [])) k) 9 word-stable) n
+
+row-stable : Stable row-read
+unfolding row-read
+row-stable = mapped-stable 2 row-clear row-from
+
+-- Tables whose rows are three words: the rule of row i is a test of the row alone.
+module _ {A : Type 0} (q : A → List ℕ) (p : List ℕ → Parsed A) (d : A) (rule : ℕ → A → Bool) (n : ℕ) where
+  abbrev pub ruled-row : ℕ → List A → List ℕ → Parsed A
+  ruled-row i done bytes = next (p bytes) (λ x. kept (rule i x) n x)
+
+  pub rows-reads :
+      ((x : A) (rest : List ℕ) → p (q x ++ rest) ≡ parsed x rest)
+      → (rows : List A) (rest : List ℕ)
+      → ((i : ℕ) → i < length rows → rule i (getD rows i d) ≡ true)
+      → table-read ruled-row (length rows) (joined q rows ++ rest) ≡ parsed rows rest
+  rows-reads one rows rest each =
+      table-reads q ruled-row d rows
+      (λ i h rest. ruled-reads p q (rule i) n (getD rows i d) rest (one (getD rows i d) rest) (each i h))
+      rest
+
+  pub rows-parsed :
+      ((bytes : List ℕ) (x : A) (rest : List ℕ) → Bytes bytes → p bytes ≡ parsed x rest → bytes ≡ q x ++ rest)
+      → (count : ℕ) (bytes : List ℕ) (rows : List A) (rest : List ℕ)
+      → Bytes bytes
+      → table-read ruled-row count bytes ≡ parsed rows rest
+      → Table q ruled-row d (λ i done x. rule i x ≡ true) count bytes rows rest
+  rows-parsed one count bytes rows rest b e =
+      table-parsed q ruled-row d (λ i done x. rule i x ≡ true)
+      (λ i done bytes x rest b e. ruled-parsed p q (rule i) n one bytes x rest b e)
+      count bytes b e
+
+  pub rows-stable : Stable p → (count : ℕ) → Stable (table-read ruled-row count)
+  rows-stable h count = table-stable ruled-row (λ i done. ruled-stable p q (rule i) n h) count
+
+pub formulas-reads :
+    (v : ℕ) (rows : List Row) (rest : List ℕ)
+    → ((i : ℕ) → i < length rows → formula-kept v i (getD rows i no-row) ≡ true)
+    → table-read (formula-read v) (length rows) (joined row-bytes rows ++ rest) ≡ parsed rows rest
+unfolding formula-read
+formulas-reads v rows rest each = rows-reads row-bytes row-read no-row (formula-kept v) 10 row-reads rows rest each
+
+pub formulas-parsed :
+    (v count : ℕ) (bytes : List ℕ) {rows : List Row} {rest : List ℕ}
+    → Bytes bytes
+    → table-read (formula-read v) count bytes ≡ parsed rows rest
+    → Table row-bytes (formula-read v) no-row (λ i done x. formula-kept v i x ≡ true) count bytes rows rest
+unfolding formula-read
+formulas-parsed v count bytes {rows} {rest} b e =
+    rows-parsed row-bytes row-read no-row (formula-kept v) 10 (λ bytes x rest b e. row-parsed bytes b e) count bytes rows rest b e
+
+pub formulas-stable : (v count : ℕ) → Stable (table-read (formula-read v) count)
+unfolding formula-read
+formulas-stable v count = rows-stable row-bytes row-read no-row (formula-kept v) 10 row-stable count
+
+pub effects-reads :
+    (v f : ℕ) (rows : List Row) (rest : List ℕ)
+    → ((i : ℕ) → i < length rows → effect-kept v f i (getD rows i no-row) ≡ true)
+    → table-read (effect-read v f) (length rows) (joined row-bytes rows ++ rest) ≡ parsed rows rest
+unfolding effect-read
+effects-reads v f rows rest each = rows-reads row-bytes row-read no-row (effect-kept v f) 11 row-reads rows rest each
+
+pub effects-parsed :
+    (v f count : ℕ) (bytes : List ℕ) {rows : List Row} {rest : List ℕ}
+    → Bytes bytes
+    → table-read (effect-read v f) count bytes ≡ parsed rows rest
+    → Table row-bytes (effect-read v f) no-row (λ i done x. effect-kept v f i x ≡ true) count bytes rows rest
+unfolding effect-read
+effects-parsed v f count bytes {rows} {rest} b e =
+    rows-parsed row-bytes row-read no-row (effect-kept v f) 11 (λ bytes x rest b e. row-parsed bytes b e) count bytes rows rest b e
+
+pub effects-stable : (v f count : ℕ) → Stable (table-read (effect-read v f) count)
+unfolding effect-read
+effects-stable v f count = rows-stable row-bytes row-read no-row (effect-kept v f) 11 row-stable count
+
+pub operators-reads :
+    (f e : ℕ) (rows : List Operator) (rest : List ℕ)
+    → ((i : ℕ) → i < length rows → operator-kept f e (getD rows i no-operator) ≡ true)
+    → table-read (operator-read f e) (length rows) (joined operator-bytes rows ++ rest) ≡ parsed rows rest
+unfolding operator-read
+operators-reads f e rows rest each =
+    rows-reads operator-bytes operator-fields-read no-operator (λ i. operator-kept f e) 12 operator-fields-reads rows rest each
+
+pub operators-parsed :
+    (f e count : ℕ) (bytes : List ℕ) {rows : List Operator} {rest : List ℕ}
+    → Bytes bytes
+    → table-read (operator-read f e) count bytes ≡ parsed rows rest
+    → Table operator-bytes (operator-read f e) no-operator (λ i done x. operator-kept f e x ≡ true) count bytes rows rest
+unfolding operator-read
+operators-parsed f e count bytes {rows} {rest} b q =
+    rows-parsed operator-bytes operator-fields-read no-operator (λ i. operator-kept f e) 12 (λ bytes x rest b e. operator-fields-parsed bytes b e) count bytes rows rest b q
+
+pub operators-stable : (f e count : ℕ) → Stable (table-read (operator-read f e) count)
+unfolding operator-read operator-fields-read
+operators-stable f e count =
+    rows-stable operator-bytes operator-fields-read no-operator (λ i. operator-kept f e) 12 (mapped-stable 3 operator-clear operator-from) count
