@@ -4,3 +4,4 @@ pub mod Table
 pub mod Rows
 pub mod Initial
 pub mod Tables
+pub mod Whole

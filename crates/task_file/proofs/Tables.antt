@@ -79,7 +79,7 @@ initial-stable v =
     (λ packed. kept-stable (spare-clear packed v) 2 (upto v (bit-of packed)))
 
 -- what a twin row's test looks at: the rows up to its own
-twin-front : (bound : ℕ) (os : List ℕ) (k : ℕ) → k < length os → twin-kept bound (take k os ++ (getD os k 0 ∷ [])) k ≡ true ↔ TwinRule bound os k
+pub twin-front : (bound : ℕ) (os : List ℕ) (k : ℕ) → k < length os → twin-kept bound (take k os ++ (getD os k 0 ∷ [])) k ≡ true ↔ TwinRule bound os k
 twin-front bound os k h = (told, tested)
   where
     front : take k os ++ (getD os k 0 ∷ []) ≡ take (suc k) os
