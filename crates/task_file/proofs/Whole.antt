@@ -120,3 +120,123 @@ task-reads l t rest r h =
       kept-true (goal-kept (head-of t)) 7 (head-of t) (tables-bytes t rest) (goal-test t r),
       kept-true (room l (head-of t)) 5 (head-of t) (tables-bytes t rest) (room-tested l t .1 h),
     ) (tables-reads t r rest)
+
+-- tables that were read behind a head
+record Behind (h : Head) (bytes : List ℕ) (t : Task) (rest : List ℕ) : Type 0 where
+  same : bytes ≡ tables-bytes t rest
+  head : head-of t ≡ h
+  bits : (v : ℕ) → v < length (t .initial) → getD (t .initial) v 0 ≤ 1
+  twins : (k : ℕ) → k < length (t .originals) → TwinRule (h .variables - h .twins) (t .originals) k
+  formulas : (i : ℕ) → i < length (t .formulas) → formula-kept (h .variables) i (getD (t .formulas) i no-row) ≡ true
+  effects : (i : ℕ) → i < length (t .effects) → effect-kept (h .variables) (h .formulas) i (getD (t .effects) i no-row) ≡ true
+  operators : (i : ℕ) → i < length (t .operators) → operator-kept (h .formulas) (h .effects) (getD (t .operators) i no-operator) ≡ true
+
+behind-same : {h : Head} {bytes : List ℕ} {t u : Task} {rest rest′ : List ℕ} → t ≡ u → rest ≡ rest′ → Behind h bytes t rest → Behind h bytes u rest′
+behind-same p q b = rw (← p, ← q) b
+
+-- the parts, one by one
+module _ (h : Head) (bytes initial m1 originals m2 : List ℕ) (formulas : List Row) (m3 : List ℕ) (effects : List Row) (m4 : List ℕ) (operators : List Operator) (m5 : List ℕ) where
+  joined-parts :
+      Initial (h .variables) bytes initial m1
+      → Table word-bytes (twin-read (h .variables - h .twins)) 0 (λ k done w. twin-kept (h .variables - h .twins) (done ++ (w ∷ [])) k ≡ true) (h .twins) m1 originals m2
+      → Table row-bytes (formula-read (h .variables)) no-row (λ i done x. formula-kept (h .variables) i x ≡ true) (h .formulas) m2 formulas m3
+      → Table row-bytes (effect-read (h .variables) (h .formulas)) no-row (λ i done x. effect-kept (h .variables) (h .formulas) i x ≡ true) (h .effects) m3 effects m4
+      → Table operator-bytes (operator-read (h .formulas) (h .effects)) no-operator (λ i done x. operator-kept (h .formulas) (h .effects) x ≡ true) (h .operators) m4 operators m5
+      → Behind h bytes (record { initial = initial; originals = originals; formulas = formulas; effects = effects; operators = operators; goal = h .goal }) m5
+  unfolding tables-bytes head-of
+  joined-parts i w f e o =
+      record {
+        same = i .same ∙ rw (w .same, f .same, e .same, o .same);
+        head = λ j. record { variables = i .size j; twins = w .size j; formulas = f .size j; effects = e .size j; operators = o .size j; goal = h .goal };
+        bits = λ v b. i .bits v (rw (i .size) at b);
+        twins = λ k b. twin-front (h .variables - h .twins) originals k b .0 (w .each k (rw (w .size) at b));
+        formulas = λ k b. f .each k (rw (f .size) at b);
+        effects = λ k b. e .each k (rw (e .size) at b);
+        operators = λ k b. o .each k (rw (o .size) at b);
+      }
+
+tables-parsed : (h : Head) (bytes : List ℕ) {t : Task} {rest : List ℕ} → Bytes bytes → tables-read h bytes ≡ parsed t rest → Behind h bytes t rest
+unfolding tables-read
+tables-parsed h bytes {t} {rest} b q =
+    let s1 = next-parsed _ _ q in
+    let i = initial-parsed (h .variables) bytes b (s1 .first) in
+    let b1 : Bytes (s1 .mid) = bytes-behind (packed (s1 .value)) (s1 .mid) (rw (i .same) at b) in
+    let s2 = next-parsed _ _ (s1 .second) in
+    let w = twins-parsed (h .variables - h .twins) (h .twins) (s1 .mid) b1 (s2 .first) in
+    let b2 : Bytes (s2 .mid) = bytes-behind (joined word-bytes (s2 .value)) (s2 .mid) (rw (w .same) at b1) in
+    let s3 = next-parsed _ _ (s2 .second) in
+    let f = formulas-parsed (h .variables) (h .formulas) (s2 .mid) b2 (s3 .first) in
+    let b3 : Bytes (s3 .mid) = bytes-behind (joined row-bytes (s3 .value)) (s3 .mid) (rw (f .same) at b2) in
+    let s4 = next-parsed _ _ (s3 .second) in
+    let e = effects-parsed (h .variables) (h .formulas) (h .effects) (s3 .mid) b3 (s4 .first) in
+    let b4 : Bytes (s4 .mid) = bytes-behind (joined row-bytes (s4 .value)) (s4 .mid) (rw (e .same) at b3) in
+    let s5 = next-parsed _ _ (s4 .second) in
+    let o = operators-parsed (h .formulas) (h .effects) (h .operators) (s4 .mid) b4 (s5 .first) in
+    behind-same (parsed-value (s5 .second)) (parsed-rest (s5 .second))
+    (joined-parts h bytes (s1 .value) (s1 .mid) (s2 .value) (s2 .mid) (s3 .value) (s3 .mid) (s4 .value) (s4 .mid) (s5 .value) (s5 .mid) i w f e o)
+
+-- the rules, from the tests that a read task passed
+rules-told : (h : Head) (bytes : List ℕ) (t : Task) (rest : List ℕ) → Behind h bytes t rest → Counts h → h .goal < h .formulas → Rules t
+unfolding formula-kept effect-kept head-of
+rules-told h bytes t rest b c g =
+    let v : length (t .initial) ≡ h .variables = ap (λ (k : Head). k .variables) (b .head) in
+    let w : length (t .originals) ≡ h .twins = ap (λ (k : Head). k .twins) (b .head) in
+    let f : length (t .formulas) ≡ h .formulas = ap (λ (k : Head). k .formulas) (b .head) in
+    let e : length (t .effects) ≡ h .effects = ap (λ (k : Head). k .effects) (b .head) in
+    let o : length (t .operators) ≡ h .operators = ap (λ (k : Head). k .operators) (b .head) in
+    let goal : t .goal ≡ h .goal = ap (λ (k : Head). k .goal) (b .head) in
+    record {
+      limits =
+          record {
+            variables = rw v (c .variables);
+            twins = rw (v, w) (c .twins);
+            one-formula = rw f (c .one-formula);
+            formulas = rw f (c .formulas);
+            effects = rw e (c .effects);
+            operators = rw o (c .operators);
+          };
+      goal-is-formula = rw (goal, f) g;
+      initial-bits = b .bits;
+      twin-of-source = λ k l. rw (v, w) (b .twins k l .below);
+      twin-once = λ j k l m. b .twins k m .once j l;
+      formula =
+          λ i l.
+          let x = getD (t .formulas) i no-row in
+          rw v (formula-told (h .variables) i (formula-kind (x .kind)) (x .a) (x .b) (b .formulas i l));
+      effect =
+          λ i l.
+          let x = getD (t .effects) i no-row in
+          rw (v, f) (effect-told (h .variables) (h .formulas) i (effect-kind (x .kind)) (x .a) (x .b) (b .effects i l));
+      operator =
+          λ i l. rw (f, e) (operator-told (h .formulas) (h .effects) (getD (t .operators) i no-operator) (b .operators i l));
+    }
+
+-- a task that was read: its file stood there, it keeps the rules, and the lent tables are long enough
+pub record Task-read (l : Lengths) (bytes : List ℕ) (t : Task) (rest : List ℕ) : Type 0 where
+  pub same : bytes ≡ file-of t ++ rest
+  pub rules : Rules t
+  pub roomy : Room l t
+
+pub task-parsed : (l : Lengths) (bytes : List ℕ) {t : Task} {rest : List ℕ} → Bytes bytes → task-read l bytes ≡ parsed t rest → Task-read l bytes t rest
+unfolding task-read head-kept
+task-parsed l bytes {t} {rest} b q =
+    let s1 = next-parsed _ _ q in
+    let s2 = next-parsed _ _ (s1 .second) in
+    let s3 = next-parsed _ _ (s2 .first) in
+    let s4 = next-parsed _ _ (s3 .second) in
+    let k3 = kept-parsed (counts-kept (s1 .value)) 6 (s1 .value) (s1 .mid) (s3 .first) in
+    let k4 = kept-parsed (goal-kept (s3 .value)) 7 (s3 .value) (s3 .mid) (s4 .first) in
+    let k5 = kept-parsed (room l (s4 .value)) 5 (s4 .value) (s4 .mid) (s4 .second) in
+    let front : bytes ≡ head-bytes (s1 .value) ++ s1 .mid = head-parsed bytes b (s1 .first) in
+    let h : s1 .value ≡ s2 .value = k3 .same ∙ k4 .same ∙ k5 .same in
+    let m : s1 .mid ≡ s2 .mid = k3 .behind ∙ k4 .behind ∙ k5 .behind in
+    let below : Bytes (s2 .mid) = rw m at (bytes-behind (head-bytes (s1 .value)) (s1 .mid) (rw front at b)) in
+    let d = tables-parsed (s2 .value) (s2 .mid) below (s2 .second) in
+    let counts : counts-kept (s2 .value) ≡ true = ap counts-kept (sym h) ∙ k3 .holds in
+    let goal : goal-kept (s2 .value) ≡ true = ap goal-kept (sym (k4 .same ∙ k5 .same)) ∙ k4 .holds in
+    let roomy : room l (head-of t) ≡ true = ap (room l) (d .head ∙ sym (k5 .same)) ∙ k5 .holds in
+    record {
+      same = cc (front, h, m, d .same, d .head, file-parts t rest);
+      rules = rules-told (s2 .value) (s2 .mid) t rest d (counts-tested (s2 .value) .0 counts) (goal-tested (s2 .value) .0 goal);
+      roomy = room-tested l t .0 roomy;
+    }
