@@ -5,3 +5,5 @@ pub mod Rows
 pub mod Initial
 pub mod Tables
 pub mod Whole
+pub mod RoundTrip
+pub mod Smallest

@@ -240,3 +240,23 @@ task-parsed l bytes {t} {rest} b q =
       rules = rules-told (s2 .value) (s2 .mid) t rest d (counts-tested (s2 .value) .0 counts) (goal-tested (s2 .value) .0 goal);
       roomy = room-tested l t .0 roomy;
     }
+
+tables-stable : (h : Head) → Stable (tables-read h)
+unfolding tables-read
+tables-stable h =
+    next-stable _ _ (initial-stable (h .variables)) (λ initial.
+    next-stable _ _ (twins-stable (h .variables - h .twins) (h .twins)) (λ originals.
+    next-stable _ _ (formulas-stable (h .variables) (h .formulas)) (λ formulas.
+    next-stable _ _ (effects-stable (h .variables) (h .formulas) (h .effects)) (λ effects.
+    next-stable _ _ (operators-stable (h .formulas) (h .effects) (h .operators)) (λ operators. pure-stable _)))))
+
+head-kept-stable : (l : Lengths) (h : Head) → Stable (head-kept l h)
+unfolding head-kept
+head-kept-stable l h =
+    next-stable _ _ (kept-stable (counts-kept h) 6 h) (λ h.
+    next-stable _ _ (kept-stable (goal-kept h) 7 h) (λ h. kept-stable (room l h) 5 h))
+
+pub task-stable : (l : Lengths) → Stable (task-read l)
+unfolding task-read head-read
+task-stable l =
+    next-stable _ _ (mapped-stable 6 head-clear head-from) (λ h. next-stable _ _ (head-kept-stable l h) tables-stable)
