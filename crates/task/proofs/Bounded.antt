@@ -61,6 +61,15 @@ every-fails n test k h e = go (every n test) refl
     go false p = p
     go true p = absurd (false≢true (sym e ∙ every-at n test p k h))
 
+-- how a loop leaves: at a number that fails, or at the bound
+pub every-stops : (n : ℕ) (test : ℕ → Bool) (k : ℕ) → k < n → test k ≡ false → false ≡ every n test
+every-stops n test k h e = sym (every-fails n test k h e)
+
+pub every-ends : (n : ℕ) (test : ℕ → Bool) (k : ℕ) → k ≤ n → n ≤ k → every k test ≡ true → true ≡ every n test
+every-ends n test k p q e =
+    let same : k ≡ n = omega arith in
+    sym (rw same at e)
+
 module _ {A : Type 0} where
   pub length-upto : (n : ℕ) (f : ℕ → A) → length (upto n f) ≡ n
   unfolding upto

@@ -1,4 +1,5 @@
 pub mod Bounded
+pub mod Refusals
 pub mod RowRules
 pub mod Held
 pub mod Passed
@@ -7,3 +8,4 @@ pub mod Words
 pub mod Trees
 pub mod Down
 pub mod Values
+pub mod Marks

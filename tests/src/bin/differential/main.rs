@@ -1,0 +1,14 @@
+//! Differential tests: the library against the other implementation.
+//!
+//! Arguments: `[--seed N] [GROUP ...]`.
+
+mod calls;
+mod edges;
+mod tables;
+
+fn main() {
+    let mut tests = Vec::new();
+    tests.extend(tables::tests());
+    tests.extend(edges::tests());
+    std::process::exit(saqwillo_tests::harness::run(&tests));
+}
