@@ -1,3 +1,4 @@
 pub mod Bytes
 pub mod Parse
 pub mod Reading
+pub mod Answers

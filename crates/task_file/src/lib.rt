@@ -1,4 +1,5 @@
-// Reading and writing task files.
+// Task files: bytes become tables, and tables bytes.
+pub mod word;
 
 use task::Head;
 
@@ -6,4 +7,21 @@ use task::Head;
 pub enum ReadAnswer {
     Read(Head),
     Refused(u16),
+}
+
+// A word that was read and the place behind it, or the number of the refusal.
+pub enum Field {
+    Word { word: u16, next: usize },
+    NoWord(u16),
+}
+
+// The three words of a row and the place behind it, or the number of the refusal.
+pub enum Row {
+    Words {
+        first: u16,
+        second: u16,
+        third: u16,
+        next: usize,
+    },
+    NoRow(u16),
 }
