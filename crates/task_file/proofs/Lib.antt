@@ -8,3 +8,4 @@ pub mod Whole
 pub mod RoundTrip
 pub mod Smallest
 pub mod Places
+pub mod RowWords

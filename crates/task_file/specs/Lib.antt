@@ -2,3 +2,4 @@ pub mod Bytes
 pub mod Parse
 pub mod Reading
 pub mod Answers
+pub mod Tables

@@ -1,4 +1,5 @@
 // Task files: bytes become tables, and tables bytes.
+pub mod read_row;
 pub mod word;
 
 use task::Head;
@@ -24,4 +25,10 @@ pub enum Row {
         next: usize,
     },
     NoRow(u16),
+}
+
+// The place behind what was read, or the number of the refusal.
+pub enum Place {
+    At(usize),
+    Nowhere(u16),
 }
