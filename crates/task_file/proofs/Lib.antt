@@ -9,3 +9,4 @@ pub mod RoundTrip
 pub mod Smallest
 pub mod Places
 pub mod RowWords
+pub mod Loops

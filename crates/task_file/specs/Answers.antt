@@ -1,13 +1,16 @@
 -- What the code's answers stand for: the value and the bytes behind it, or the number of the refusal.
 use Prim.Native.Nat.{ℕ}
 use mathlib.Core.List.{List, [], _∷_}
-use lib.ListN.{drop}
+use mathlib.Core.Path.{_≡_}
+use lib.ListN.{take, drop}
 use Rattle.task.specs.declared.Table.{Table}
 use Rattle.task.specs.declared.Table.the-variants.{Formulas, Effects, Operators}
 use Rattle.task_file.specs.declared.Field.{Field}
 use Rattle.task_file.specs.declared.Field.the-variants.{Word, NoWord}
 use Rattle.task_file.specs.declared.Row.{Row}
 use Rattle.task_file.specs.declared.Row.the-variants.{Words, NoRow}
+use Rattle.task_file.specs.declared.Place.{Place}
+use Rattle.task_file.specs.declared.Place.the-variants.{At, Nowhere}
 use Rattle.task_file.specs.Parse.{Parsed, parsed, refused}
 
 abbrev pub field-told : List ℕ → Field → Parsed ℕ
@@ -28,3 +31,18 @@ abbrev pub arranged-row : Table → (kind first second third next : ℕ) → Row
 arranged-row Formulas kind first second third next = Words kind first second next
 arranged-row Effects kind first second third next = Words kind first second next
 arranged-row Operators kind first second third next = Words first second third next
+
+-- a row's refusal, as that of its table
+abbrev pub lost-row : Row → Place
+lost-row (Words first second third next) = Nowhere 0
+lost-row (NoRow n) = Nowhere n
+
+-- a table's words, and the place behind them
+abbrev pub place-told : List ℕ → List ℕ → Place → Parsed (List ℕ)
+place-told file words (At next) = parsed words (drop next file)
+place-told file words (Nowhere n) = refused n
+
+-- What reading n words of a table leaves: the words in the table's front, and all behind them as it was. After a refusal the front is left open.
+pub record ReadPart (n : ℕ) (file : List ℕ) (outcome : Parsed (List ℕ)) (r : Place) (before after : List ℕ) : Type 0 where
+  pub told : place-told file (take n after) r ≡ outcome
+  pub behind : drop n after ≡ drop n before

@@ -1,5 +1,6 @@
 // Task files: bytes become tables, and tables bytes.
 pub mod read_row;
+pub mod read_rows;
 pub mod word;
 
 use task::Head;

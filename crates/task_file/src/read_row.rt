@@ -1,4 +1,4 @@
-// Rows of three words, and the tables of them.
+// Rows of three words.
 ghost use mathlib.Core.Path.{_≡_};
 ghost use lib.ListN.{drop};
 ghost use Rattle.task_file.specs.Answers.{row-told, arranged-row};
@@ -80,7 +80,7 @@ fn read_row(table: Table, file: &[u8], at: usize) -> Row
 }
 
 // Row i of a table: its words, if they keep their rule. Constant time.
-fn read_kept(table: Table, head: Head, i: usize, file: &[u8], at: usize) -> Row
+pub fn read_kept(table: Table, head: Head, i: usize, file: &[u8], at: usize) -> Row
     ensures { λ r. ⌜ row-told (now (file .entry)) r ≡ kept-words-read table head i (drop at (now (file .entry))) ⌝ }
 {
     let r = read_row(table, file, at);
