@@ -76,7 +76,7 @@ number-of-bits (suc n) x =
         omega (arith, mul-comm (2 ^ n) (x / 2 ^ n % 2))
 
 -- numbers of equal bits
-upto-same : (n : ℕ) (f g : ℕ → ℕ) → ((k : ℕ) → k < n → f k ≡ g k) → upto n f ≡ upto n g
+pub upto-same : (n : ℕ) (f g : ℕ → ℕ) → ((k : ℕ) → k < n → f k ≡ g k) → upto n f ≡ upto n g
 unfolding upto
 upto-same zero f g h = refl
 upto-same (suc n) f g h = rw (upto-same n f g (λ k l. h k (omega arith)), h n (omega arith))

@@ -10,3 +10,5 @@ pub mod Smallest
 pub mod Places
 pub mod RowWords
 pub mod Loops
+pub mod TwinRows
+pub mod StateLoop

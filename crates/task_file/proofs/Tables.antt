@@ -25,15 +25,15 @@ use Rattle.task_file.proofs.Rows.{row-reads, row-parsed, operator-field
 use Rattle.task_file.proofs.Initial.{Bits, unpacked-packed, packed-clear, packed-length, packed-unpacked}
 
 -- plain bytes
-one-byte : ℕ → List ℕ
+unfoldable pub one-byte : ℕ → List ℕ
 one-byte x = x ∷ []
 
-bytes-joined : (bytes : List ℕ) → joined one-byte bytes ≡ bytes
+pub bytes-joined : (bytes : List ℕ) → joined one-byte bytes ≡ bytes
 unfolding joined one-byte
 bytes-joined [] = refl
 bytes-joined (x ∷ bytes) = ap {B = List ℕ} (λ (l : List ℕ). x ∷ l) (bytes-joined bytes)
 
-plain-byte : ℕ → List ℕ → List ℕ → Parsed ℕ
+unfoldable pub plain-byte : ℕ → List ℕ → List ℕ → Parsed ℕ
 plain-byte i done = byte-read
 
 pub initial-reads : (state rest : List ℕ) → Bits state → initial-read (length state) (packed state ++ rest) ≡ parsed state rest

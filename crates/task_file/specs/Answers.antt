@@ -11,6 +11,8 @@ use Rattle.task_file.specs.declared.Row.{Row}
 use Rattle.task_file.specs.declared.Row.the-variants.{Words, NoRow}
 use Rattle.task_file.specs.declared.Place.{Place}
 use Rattle.task_file.specs.declared.Place.the-variants.{At, Nowhere}
+use Rattle.task.specs.Bounded.{upto}
+use Rattle.task_file.specs.Reading.{bit-of}
 use Rattle.task_file.specs.Parse.{Parsed, parsed, refused}
 
 abbrev pub field-told : List ℕ → Field → Parsed ℕ
@@ -46,3 +48,13 @@ place-told file words (Nowhere n) = refused n
 pub record ReadPart (n : ℕ) (file : List ℕ) (outcome : Parsed (List ℕ)) (r : Place) (before after : List ℕ) : Type 0 where
   pub told : place-told file (take n after) r ≡ outcome
   pub behind : drop n after ≡ drop n before
+
+-- a word's refusal, as that of its table
+abbrev pub lost-word : Field → Place
+lost-word (Word word next) = Nowhere 0
+lost-word (NoWord n) = Nowhere n
+
+-- what unpacking so many variables leaves in a lent state
+pub record Unpacked (count : ℕ) (bytes before after : List ℕ) : Type 0 where
+  pub front : take count after ≡ upto count (bit-of bytes)
+  pub behind : drop count after ≡ drop count before
