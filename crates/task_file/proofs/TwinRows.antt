@@ -41,7 +41,7 @@ unfolding twin-kept
 twin-same bound xs ys k h =
     let e = h k (omega arith) in
     let rest : every k (λ j. not (eqb (getD xs j 0) (getD xs k 0))) ≡ every k (λ j. not (eqb (getD ys j 0) (getD ys k 0))) =
-      every-same k (λ j. not (eqb (getD xs j 0) (getD xs k 0))) (λ j. not (eqb (getD ys j 0) (getD ys k 0))) (λ j l. rw (h j (omega arith), e))
+    every-same k (λ j. not (eqb (getD xs j 0) (getD xs k 0))) (λ j. not (eqb (getD ys j 0) (getD ys k 0))) (λ j l. rw (h j (omega arith), e))
     in
     rw (rest, e)
 
@@ -49,7 +49,7 @@ twin-stored : (bound : ℕ) (twins : List ℕ) (k w : ℕ) → k < length twins 
 twin-stored bound twins k w h =
     twin-same bound (take k twins ++ (w ∷ [])) (set twins k w) k
     (λ j l.
-      ap (λ (x : List ℕ). getD x j 0) (sym (take-suc-set twins k w h)) ∙ getD-take (suc k) (set twins k w) j 0 l)
+    ap (λ (x : List ℕ). getD x j 0) (sym (take-suc-set twins k w h)) ∙ getD-take (suc k) (set twins k w) j 0 l)
 
 abbrev pub same : ℕ → ℕ
 same k = k
@@ -71,6 +71,7 @@ module _ (bound count : ℕ) (file : List ℕ) (at : ℕ) (before : List ℕ) wh
       last : (done : List ℕ) (o : Parsed ℕ) → next o (λ r. parsed (done ++ (r ∷ []))) ≡ next (next o (λ w. parsed (w ∷ []))) (λ x. parsed (done ++ x))
       last done (refused n) = refl
       last done (parsed w rest) = refl
+
       go :
           (o : Parsed (List ℕ))
           → next o (λ done rest. next (twin-read bound k done rest) (λ r. parsed (done ++ (r ∷ []))))

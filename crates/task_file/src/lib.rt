@@ -1,8 +1,8 @@
 // Task files: bytes become tables, and tables bytes.
 pub mod read_row;
 pub mod read_rows;
-pub mod read_twins;
 pub mod read_state;
+pub mod read_twins;
 pub mod word;
 
 use task::Head;
