@@ -12,3 +12,6 @@ pub mod RowWords
 pub mod Loops
 pub mod TwinRows
 pub mod StateLoop
+pub mod HeadWays
+pub mod Zeros
+pub mod FillWays

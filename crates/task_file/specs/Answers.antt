@@ -2,17 +2,20 @@
 use Prim.Native.Nat.{ℕ}
 use mathlib.Core.List.{List, [], _∷_}
 use mathlib.Core.Path.{_≡_}
-use lib.ListN.{take, drop}
+use lib.ListN.{length, take, drop, replicate}
+use Rattle.task.specs.declared.Head.{Head}
 use Rattle.task.specs.declared.Table.{Table}
 use Rattle.task.specs.declared.Table.the-variants.{Formulas, Effects, Operators}
 use Rattle.task_file.specs.declared.Field.{Field}
 use Rattle.task_file.specs.declared.Field.the-variants.{Word, NoWord}
 use Rattle.task_file.specs.declared.Row.{Row}
 use Rattle.task_file.specs.declared.Row.the-variants.{Words, NoRow}
+use Rattle.task_file.specs.declared.HeadAnswer.{HeadAnswer}
+use Rattle.task_file.specs.declared.HeadAnswer.the-variants.{Counts, NoHead}
 use Rattle.task_file.specs.declared.Place.{Place}
 use Rattle.task_file.specs.declared.Place.the-variants.{At, Nowhere}
 use Rattle.task.specs.Bounded.{upto}
-use Rattle.task_file.specs.Reading.{bit-of}
+use Rattle.task_file.specs.Reading.{Lengths, bit-of}
 use Rattle.task_file.specs.Parse.{Parsed, parsed, refused}
 
 abbrev pub field-told : List ℕ → Field → Parsed ℕ
@@ -58,3 +61,24 @@ lost-word (NoWord n) = Nowhere n
 pub record Unpacked (count : ℕ) (bytes before after : List ℕ) : Type 0 where
   pub front : take count after ≡ upto count (bit-of bytes)
   pub behind : drop count after ≡ drop count before
+
+abbrev pub head-told : List ℕ → HeadAnswer → Parsed Head
+head-told file (Counts head next) = parsed head (drop next file)
+head-told file (NoHead n) = refused n
+
+-- a row's refusal, as that of the head
+abbrev pub lost-head : Row → HeadAnswer
+lost-head (Words first second third next) = NoHead 0
+lost-head (NoRow n) = NoHead n
+
+abbrev pub lengths : (initial twins formulas effects operators : ℕ) → Lengths
+lengths initial twins formulas effects operators =
+    record { initial = initial; twins = twins; formulas = formulas; effects = effects; operators = operators }
+
+-- every lent table all 0
+pub record Cleared (initial twins formulas effects operators initial′ twins′ formulas′ effects′ operators′ : List ℕ) : Type 0 where
+  pub initial-clear : initial′ ≡ replicate (length initial) 0
+  pub twins-clear : twins′ ≡ replicate (length twins) 0
+  pub formulas-clear : formulas′ ≡ replicate (length formulas) 0
+  pub effects-clear : effects′ ≡ replicate (length effects) 0
+  pub operators-clear : operators′ ≡ replicate (length operators) 0

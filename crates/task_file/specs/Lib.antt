@@ -3,3 +3,4 @@ pub mod Parse
 pub mod Reading
 pub mod Answers
 pub mod Tables
+pub mod Filling

@@ -1,4 +1,8 @@
 // Task files: bytes become tables, and tables bytes.
+pub mod clear;
+pub mod fill;
+pub mod read;
+pub mod read_head;
 pub mod read_row;
 pub mod read_rows;
 pub mod read_state;
@@ -34,4 +38,10 @@ pub enum Row {
 pub enum Place {
     At(usize),
     Nowhere(u16),
+}
+
+// The head and the place behind it, or the number of the refusal.
+pub enum HeadAnswer {
+    Counts { head: Head, next: usize },
+    NoHead(u16),
 }
