@@ -15,3 +15,4 @@ pub mod StateLoop
 pub mod HeadWays
 pub mod Zeros
 pub mod FillWays
+pub mod ReadWays

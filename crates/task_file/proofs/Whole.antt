@@ -26,7 +26,7 @@ use Rattle.task_file.proofs.Initial.{bits-of-state}
 use Rattle.task_file.proofs.Tables.{initial-reads, Initial, initial-parsed, initial-stable, twin-front, twins-reads, twins-parsed, twins-stable, formulas-reads, formulas-parsed, formulas-stable, effects-reads, effects-parsed, effects-stable, operators-reads, operators-parsed, operators-stable}
 
 -- the five parts behind the head, and what follows them
-tables-bytes : Task → List ℕ → List ℕ
+unfoldable pub tables-bytes : Task → List ℕ → List ℕ
 tables-bytes t rest =
     packed (t .initial)
     ++ (joined word-bytes (t .originals)
@@ -122,14 +122,14 @@ task-reads l t rest r h =
     ) (tables-reads t r rest)
 
 -- tables that were read behind a head
-record Behind (h : Head) (bytes : List ℕ) (t : Task) (rest : List ℕ) : Type 0 where
-  same : bytes ≡ tables-bytes t rest
-  head : head-of t ≡ h
-  bits : (v : ℕ) → v < length (t .initial) → getD (t .initial) v 0 ≤ 1
-  twins : (k : ℕ) → k < length (t .originals) → TwinRule (h .variables - h .twins) (t .originals) k
-  formulas : (i : ℕ) → i < length (t .formulas) → formula-kept (h .variables) i (getD (t .formulas) i no-row) ≡ true
-  effects : (i : ℕ) → i < length (t .effects) → effect-kept (h .variables) (h .formulas) i (getD (t .effects) i no-row) ≡ true
-  operators : (i : ℕ) → i < length (t .operators) → operator-kept (h .formulas) (h .effects) (getD (t .operators) i no-operator) ≡ true
+pub record Behind (h : Head) (bytes : List ℕ) (t : Task) (rest : List ℕ) : Type 0 where
+  pub same : bytes ≡ tables-bytes t rest
+  pub head : head-of t ≡ h
+  pub bits : (v : ℕ) → v < length (t .initial) → getD (t .initial) v 0 ≤ 1
+  pub twins : (k : ℕ) → k < length (t .originals) → TwinRule (h .variables - h .twins) (t .originals) k
+  pub formulas : (i : ℕ) → i < length (t .formulas) → formula-kept (h .variables) i (getD (t .formulas) i no-row) ≡ true
+  pub effects : (i : ℕ) → i < length (t .effects) → effect-kept (h .variables) (h .formulas) i (getD (t .effects) i no-row) ≡ true
+  pub operators : (i : ℕ) → i < length (t .operators) → operator-kept (h .formulas) (h .effects) (getD (t .operators) i no-operator) ≡ true
 
 behind-same : {h : Head} {bytes : List ℕ} {t u : Task} {rest rest′ : List ℕ} → t ≡ u → rest ≡ rest′ → Behind h bytes t rest → Behind h bytes u rest′
 behind-same p q b = rw (← p, ← q) b
@@ -155,7 +155,7 @@ module _ (h : Head) (bytes initial m1 originals m2 : List ℕ) (formulas : List 
         operators = λ k b. o .each k (rw (o .size) at b);
       }
 
-tables-parsed : (h : Head) (bytes : List ℕ) {t : Task} {rest : List ℕ} → Bytes bytes → tables-read h bytes ≡ parsed t rest → Behind h bytes t rest
+pub tables-parsed : (h : Head) (bytes : List ℕ) {t : Task} {rest : List ℕ} → Bytes bytes → tables-read h bytes ≡ parsed t rest → Behind h bytes t rest
 unfolding tables-read
 tables-parsed h bytes {t} {rest} b q =
     let s1 = next-parsed _ _ q in

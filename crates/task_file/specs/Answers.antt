@@ -10,6 +10,8 @@ use Rattle.task_file.specs.declared.Field.{Field}
 use Rattle.task_file.specs.declared.Field.the-variants.{Word, NoWord}
 use Rattle.task_file.specs.declared.Row.{Row}
 use Rattle.task_file.specs.declared.Row.the-variants.{Words, NoRow}
+use Rattle.task_file.specs.declared.ReadAnswer.{ReadAnswer}
+use Rattle.task_file.specs.declared.ReadAnswer.the-variants.{Read, Refused}
 use Rattle.task_file.specs.declared.HeadAnswer.{HeadAnswer}
 use Rattle.task_file.specs.declared.HeadAnswer.the-variants.{Counts, NoHead}
 use Rattle.task_file.specs.declared.Place.{Place}
@@ -82,3 +84,12 @@ pub record Cleared (initial twins formulas effects operators initial′ twins′
   pub formulas-clear : formulas′ ≡ replicate (length formulas) 0
   pub effects-clear : effects′ ≡ replicate (length effects) 0
   pub operators-clear : operators′ ≡ replicate (length operators) 0
+
+-- the refusal of the head, and that of a table, as the answer
+abbrev pub no-task : HeadAnswer → ReadAnswer
+no-task (Counts head next) = Refused 0
+no-task (NoHead n) = Refused n
+
+abbrev pub lost-place : Place → ReadAnswer
+lost-place (At next) = Refused 0
+lost-place (Nowhere n) = Refused n

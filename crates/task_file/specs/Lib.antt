@@ -4,3 +4,4 @@ pub mod Reading
 pub mod Answers
 pub mod Tables
 pub mod Filling
+pub mod Outcome
