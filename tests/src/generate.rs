@@ -11,13 +11,15 @@ pub struct Shape {
     pub formulas: usize,
     pub effects: usize,
     pub operators: usize,
-    /// Percent of references that go to the row just before: deep rows.
+    /// Percent of references to the rows just before: deep rows.
     pub deep: usize,
     /// Percent of formula rows that are constants: joins fold.
     pub constants: usize,
     /// Percent of atoms on one of the first two variables: conflicts.
     pub conflicts: usize,
-    /// Percent of rows without references.
+    /// Percent of rows at a table's start that have no references.
+    pub ground: usize,
+    /// Percent of the later rows that have none.
     pub leaves: usize,
 }
 
@@ -58,6 +60,20 @@ impl Shape {
         }
     }
 
+    /// Hundreds of rows, no twins; compiled they may pass the limits.
+    pub fn large(random: &mut Random) -> Shape {
+        Shape {
+            variables: random.between(1, 400),
+            formulas: random.between(1, 3000),
+            effects: random.between(1, 2500),
+            operators: random.between(1, 120),
+            deep: random.pick(&[0, 50, 70, 80]),
+            ground: random.pick(&[20, 40]),
+            leaves: random.pick(&[0, 2, 10]),
+            ..Shape::leaning(random)
+        }
+    }
+
     /// Every count at its limit.
     pub fn largest(random: &mut Random) -> Shape {
         Shape {
@@ -81,7 +97,8 @@ impl Shape {
             deep: random.pick(&[0, 30, 90]),
             constants: random.pick(&[0, 5, 30]),
             conflicts: random.pick(&[0, 30, 90]),
-            leaves: random.pick(&[15, 40, 70]),
+            ground: random.pick(&[0, 20, 40]),
+            leaves: random.pick(&[0, 5, 30, 60]),
         }
     }
 }
@@ -155,18 +172,23 @@ fn high(random: &mut Random, end: usize) -> u16 {
     one.max(other) as u16
 }
 
-/// A row below `number`: the one just before it, or any.
+/// A row below `number`: one of the few just before it, or any.
 fn lower(random: &mut Random, shape: &Shape, number: usize) -> u16 {
     if random.chance(shape.deep) {
-        number as u16 - 1
+        (number - 1 - random.below(number.min(4))) as u16
     } else {
         random.below(number) as u16
     }
 }
 
+/// Whether row `number` of `count` has no references.
+fn is_leaf(random: &mut Random, shape: &Shape, number: usize, count: usize) -> bool {
+    number == 0 || 100 * number < shape.ground * count || random.chance(shape.leaves)
+}
+
 fn formula_row(random: &mut Random, shape: &Shape, number: usize) -> [u16; 3] {
     let constant = shape.variables == 0 || random.chance(shape.constants);
-    if number == 0 || random.chance(shape.leaves) {
+    if is_leaf(random, shape, number, shape.formulas) {
         if constant {
             return [random.pick(&[formula::FALSE, formula::TRUE]), 0, 0];
         }
@@ -181,7 +203,7 @@ fn formula_row(random: &mut Random, shape: &Shape, number: usize) -> [u16; 3] {
 }
 
 fn effect_row(random: &mut Random, shape: &Shape, number: usize) -> [u16; 3] {
-    if number == 0 || random.chance(shape.leaves) {
+    if is_leaf(random, shape, number, shape.effects) {
         if shape.variables == 0 || random.chance(10) {
             return [effect::EMPTY, 0, 0];
         }

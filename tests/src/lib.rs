@@ -1,6 +1,7 @@
 //! Another implementation of document 01, written from its text alone and
 //! sharing no code with the library that it is compared with.
 
+pub mod atoms;
 pub mod builder;
 pub mod by_hand;
 pub mod check;

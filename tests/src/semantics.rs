@@ -1,5 +1,6 @@
 //! Steps and runs (01, "Stepping and running"; the semantics of 002).
 
+use crate::atoms::Atom;
 use crate::check::check;
 use crate::task::*;
 
@@ -51,7 +52,7 @@ pub fn acting(task: &Task, root: usize, values: &[bool]) -> Vec<bool> {
 
 /// effcond of an atom as a truth value, by 002's definition. It may take
 /// exponential time; the tests hold `acting` to it.
-pub fn effcond(task: &Task, atom: (u16, u16), root: usize, values: &[bool]) -> bool {
+pub fn effcond(task: &Task, atom: Atom, root: usize, values: &[bool]) -> bool {
     let [kind, a, b] = task.effect(root);
     let inner = |row: u16| effcond(task, atom, usize::from(row), values);
     match kind {

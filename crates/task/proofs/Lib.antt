@@ -1,5 +1,6 @@
 pub mod Bounded
 pub mod Refusals
+pub mod Order
 pub mod RowRules
 pub mod Held
 pub mod Passed
@@ -9,3 +10,9 @@ pub mod Trees
 pub mod Down
 pub mod Values
 pub mod Marks
+pub mod Marking
+pub mod MarkingLoop
+pub mod Changes
+pub mod Step
+pub mod KindNumbers
+pub mod Ways

@@ -117,14 +117,14 @@ module _ (v f i a b : ℕ) where
   effect-unknown (suc (suc (suc (suc (suc n))))) l = refl
 
 -- a row of any of the three tables is its three words
-pub row-words :
+pub row-by-words :
     (t : Table) (h : Head) (words : List ℕ) (i : ℕ)
     → words-kept t h i (getD words (3 * i) 0) (getD words (3 * i + 1) 0) (getD words (3 * i + 2) 0)
     ≡ row-kept t h words i
 unfolding row-at operator-at
-row-words Formulas h words i = refl
-row-words Effects h words i = refl
-row-words Operators h words i = refl
+row-by-words Formulas h words i = refl
+row-by-words Effects h words i = refl
+row-by-words Operators h words i = refl
 
 -- the last tests of the counts and of the lengths, where those before them passed
 pub counts-last :

@@ -32,12 +32,12 @@ pub fn named_first(twins: &[u16], k: usize) -> bool
     ensures { λ r. ⌜ r ≡ every k (λ j. not (eqb (getD (now (twins .entry)) j 0) (getD (now (twins .entry)) k 0))) ⌝ }
 {
     let original = twins[k];
-    let mut j = 0;
-    while j < k {
-        if twins[j] == original {
+    let mut j = k;
+    while 0 < j {
+        if twins[j - 1] == original {
             return false;
         }
-        j += 1;
+        j -= 1;
     }
     true
 }
@@ -93,4 +93,46 @@ fn rows_kept(table: Table, head: Head, words: &[u16], count: usize) -> bool
         i += 1;
     }
     true
+}
+
+// 0, or the first number in order: 6, 7, 5, 8, 9, 10, 11, 12. Nothing is written. Linear in the counts, but for W × W of the twins.
+pub fn check(
+    head: Head,
+    initial: &[u8],
+    twins: &[u16],
+    formulas: &[u16],
+    effects: &[u16],
+    operators: &[u16],
+) -> u16
+    ensures { λ r. ⌜ r ≡ refusal (lent head (now (initial .entry)) (now (twins .entry)) (now (formulas .entry)) (now (effects .entry)) (now (operators .entry))) ⌝ }
+{
+    if !crate::counts::counts_kept(head) {
+        return 6;
+    }
+    if !crate::counts::goal_kept(head) {
+        return 7;
+    }
+    if !crate::lengths::long_enough(head, initial, twins, formulas, effects, operators) {
+        return 5;
+    }
+    if !bits_kept(initial, head.variables as usize) {
+        return 8;
+    }
+    if !twins_kept(
+        twins,
+        head.twins as usize,
+        head.variables as usize - head.twins as usize,
+    ) {
+        return 9;
+    }
+    if !rows_kept(Table::Formulas, head, formulas, head.formulas as usize) {
+        return 10;
+    }
+    if !rows_kept(Table::Effects, head, effects, head.effects as usize) {
+        return 11;
+    }
+    if !rows_kept(Table::Operators, head, operators, head.operators as usize) {
+        return 12;
+    }
+    0
 }

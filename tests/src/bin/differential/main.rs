@@ -4,11 +4,15 @@
 
 mod calls;
 mod edges;
+mod random_tables;
+mod rows;
 mod tables;
 
 fn main() {
     let mut tests = Vec::new();
     tests.extend(tables::tests());
     tests.extend(edges::tests());
+    tests.extend(random_tables::tests());
+    tests.extend(rows::tests());
     std::process::exit(saqwillo_tests::harness::run(&tests));
 }

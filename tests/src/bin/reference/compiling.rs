@@ -24,7 +24,9 @@ pub fn tests() -> Vec<Test> {
         test("free of conflict", free_of_conflict),
         test("exponential trees", exponential_trees),
         test("at the limits", at_the_limits),
+        test("large tasks", large_tasks),
         test("lent lengths", lent_lengths),
+        test("order of refusals", order_of_refusals),
     ]
 }
 
@@ -266,4 +268,51 @@ fn lent_lengths(trial: &mut Trial) -> Verdict {
         }
     }
     Ok(())
+}
+
+/// Hundreds of rows; some keep the limits and some do not.
+fn large_tasks(trial: &mut Trial) -> Verdict {
+    let (mut finished, mut over) = (0, 0);
+    for _ in 0..300 {
+        trial.case();
+        let shape = Shape::large(&mut trial.random);
+        let task = generate::task(&mut trial.random, &shape);
+        let Ok(compiled) = finished_task(&task) else {
+            over += 1;
+            continue;
+        };
+        finished += 1;
+        same("check", check(&compiled.head, &compiled.tables), Ok(()))?;
+        for _ in 0..4 {
+            let state = generate::state(&mut trial.random, task.tables.initial.len());
+            let sequence = generate::sequence(&mut trial.random, task.head.operator_count);
+            same_runs(&task, &compiled, &state, &sequence)?;
+        }
+    }
+    same("both kinds", finished > 5 && over > 5, true)
+}
+
+/// The tables' own numbers, 13, 14, 15.
+fn order_of_refusals(trial: &mut Trial) -> Verdict {
+    let source = generate::plain(Head::from_words([2, 0, 3, 2, 1, 0]));
+    let mut with_twin = generate::plain(Head::from_words([2, 1, 3, 2, 1, 0]));
+    let nothing = Lengths::default();
+    let compiled = finished_task(&source).expect("within the limits");
+    let needs = compiled.head.needs();
+    for (what, task, lent, scratch, expected) in [
+        ("13 first", &with_twin, &nothing, 0, 13),
+        ("then 14", &source, &nothing, 9, 14),
+        ("then 15", &source, &nothing, 10, 15),
+        ("none", &source, &needs, 10, 0),
+    ] {
+        trial.case();
+        let outcome = compile(task, lent, scratch);
+        same(what, outcome.number, expected)?;
+        same("scratch", outcome.scratch, vec![0; scratch])?;
+        same("lengths", outcome.tables.lengths(), *lent)?;
+    }
+    trial.case();
+    with_twin.tables.operators[0] = 3;
+    let outcome = compile(&with_twin, &nothing, 0);
+    same("tables before 13", outcome.number, 12)
 }
