@@ -16,3 +16,4 @@ pub mod HeadWays
 pub mod Zeros
 pub mod FillWays
 pub mod ReadWays
+pub mod Puts

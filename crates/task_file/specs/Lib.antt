@@ -5,3 +5,4 @@ pub mod Answers
 pub mod Tables
 pub mod Filling
 pub mod Outcome
+pub mod Putting

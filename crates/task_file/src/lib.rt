@@ -1,6 +1,9 @@
 // Task files: bytes become tables, and tables bytes.
 pub mod clear;
 pub mod fill;
+pub mod put;
+pub mod put_row;
+pub mod put_tables;
 pub mod read;
 pub mod read_head;
 pub mod read_row;
@@ -44,4 +47,10 @@ pub enum Place {
 pub enum HeadAnswer {
     Counts { head: Head, next: usize },
     NoHead(u16),
+}
+
+// What writing answers: the file's length, or the number of the refusal.
+pub enum WriteAnswer {
+    Written(usize),
+    NotWritten(u16),
 }
