@@ -17,3 +17,4 @@ pub mod Zeros
 pub mod FillWays
 pub mod ReadWays
 pub mod Puts
+pub mod PutLoops

@@ -68,7 +68,7 @@ pub three-put :
 unfolding joined
 three-put a b c {t = t} {o3 = o3} p q r = put-then p (put-then q (put-then r (put-none t o3)))
 
-field-length : (w : ℕ) → length (field-bytes w) ≤ 2
+pub field-length : (w : ℕ) → length (field-bytes w) ≤ 2
 unfolding field-bytes word-bytes
 field-length zero = omega arith
 field-length (suc w) = omega arith

@@ -9,7 +9,7 @@ use Rattle.task.specs.declared.Table.the-variants.{Formulas, Effects, Operators
 use Rattle.task.specs.Bounded.{upto}
 use Rattle.task.specs.Table.{row-at, operator-at}
 use Rattle.task.specs.Words.{joined}
-use Rattle.task_file.specs.Bytes.{row-bytes, operator-bytes}
+use Rattle.task_file.specs.Bytes.{number, row-bytes, operator-bytes}
 
 -- bytes stored one after the other from `at` on, and the place behind them
 pub record Put (bytes : List ℕ) (at r : ℕ) (out out′ : List ℕ) : Type 0 where
@@ -33,3 +33,18 @@ abbrev pub rows-bytes : Table → List ℕ → ℕ → List ℕ
 rows-bytes Formulas words n = joined row-bytes (upto n (row-at words))
 rows-bytes Effects words n = joined row-bytes (upto n (row-at words))
 rows-bytes Operators words n = joined operator-bytes (upto n (operator-at words))
+
+-- a table whose rows can be put at a place
+pub record RowsIn (table : Table) (words : List ℕ) (count at : ℕ) : Type 0 where
+  pub fit : 3 * count ≤ length words
+  pub room : at + 7 * count ≤ 1000000
+  pub maps : (i : ℕ) → i < count → MapFits table (getD words (3 * i) 0)
+
+-- a state whose first variables are bits
+pub record StateIn (state : List ℕ) (count : ℕ) : Type 0 where
+  pub fit : count ≤ length state
+  pub bits : (v : ℕ) → v < count → getD state v 0 ≤ 1
+
+-- byte j of a packed state
+unfoldable pub byte-number : List ℕ → ℕ → ℕ
+byte-number state j = number (upto 8 (λ k. getD state (8 * j + k) 0))
