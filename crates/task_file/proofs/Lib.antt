@@ -18,3 +18,4 @@ pub mod FillWays
 pub mod ReadWays
 pub mod Puts
 pub mod PutLoops
+pub mod WriteWays

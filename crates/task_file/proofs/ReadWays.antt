@@ -200,10 +200,10 @@ room-kept i w f e o i′ w′ f′ e′ o′ a b c d g r =
       few-twins = r .few-twins;
     }
 
-zeros-of : ℕ → List ℕ
+unfoldable pub zeros-of : ℕ → List ℕ
 zeros-of n = replicate n 0
 
-drop-zeros : (n k : ℕ) → drop k (zeros-of n) ≡ zeros-of (n - k)
+pub drop-zeros : (n k : ℕ) → drop k (zeros-of n) ≡ zeros-of (n - k)
 unfolding zeros-of
 drop-zeros n zero = ap (λ (m : ℕ). replicate m 0) (sym (sub-zero n))
 drop-zeros zero (suc k) = ap (λ (m : ℕ). replicate m 0) (sym (zero-sub (suc k)))

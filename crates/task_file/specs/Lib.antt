@@ -6,3 +6,4 @@ pub mod Tables
 pub mod Filling
 pub mod Outcome
 pub mod Putting
+pub mod Writing

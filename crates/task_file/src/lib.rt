@@ -11,6 +11,7 @@ pub mod read_rows;
 pub mod read_state;
 pub mod read_twins;
 pub mod word;
+pub mod write;
 
 use task::Head;
 
