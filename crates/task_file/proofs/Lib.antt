@@ -19,3 +19,4 @@ pub mod ReadWays
 pub mod Puts
 pub mod PutLoops
 pub mod WriteWays
+pub mod Calls
