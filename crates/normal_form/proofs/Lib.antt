@@ -27,3 +27,4 @@ pub mod ShapeLimits
 pub mod Examples
 pub mod Compiled
 pub mod Padded
+pub mod Assembling

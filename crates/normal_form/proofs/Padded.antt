@@ -10,6 +10,7 @@ use Rattle.task.specs.Bounded.{upto}
 use Rattle.task.specs.Table.{Row, Operator, row-at, operator-at}
 use Rattle.task.specs.Words.{joined, row-words, operator-row-words, words-of, operator-words}
 use Rattle.task.proofs.Words.{length-words, length-operator-words, words-append, operator-words-append}
+use Rattle.normal_form.specs.Assembly.{unassembled}
 use Rattle.normal_form.specs.Compiled.{padded}
 
 -- nothing held
@@ -18,6 +19,30 @@ unfolding padded
 padded-none n =
     let e : n - 0 ≡ n = omega arith in
     rw e
+
+-- words at the front of a table that was cleared
+drop-zeros : (k n : ℕ) → _≡_ {A = List ℕ} (drop k (replicate n 0)) (replicate (n - k) 0)
+drop-zeros zero n =
+    let e : n - 0 ≡ n = omega arith in
+    rw e
+drop-zeros (suc k) zero =
+    let e : 0 - suc k ≡ 0 = omega arith in
+    rw e
+drop-zeros (suc k) (suc n) =
+    let e : suc n - suc k ≡ n - k = omega arith in
+    rw e (drop-zeros k n)
+
+pub padded-over :
+    (n : ℕ) (words : List ℕ) (k : ℕ) → length words ≡ k → words ++ drop k (replicate n 0) ≡ padded n words
+unfolding padded
+padded-over n words k e = rw e (ap (λ (l : List ℕ). words ++ l) (drop-zeros k n))
+
+-- a cleared table holds the empty effect, row 0
+pub padded-empty : (n : ℕ) → 3 ≤ n → replicate n 0 ≡ padded n (words-of (unassembled .effects))
+unfolding padded unassembled words-of joined row-words
+padded-empty n h =
+    let e : n ≡ suc (suc (suc (n - 3))) = omega arith in
+    ap (λ (k : ℕ). replicate {A = ℕ} k 0) e
 
 -- a word stored behind those that stand
 pub padded-word :

@@ -5,7 +5,7 @@ use native.Mathlib.Omega.{arith}
 use mathlib.Core.Path.{_≡_, refl, sym, ap, ap₂, _∙_}
 use mathlib.Core.Bool.{Bool, true, false, not, cond, true≢false}
 use mathlib.Core.List.{List, [], _∷_, _++_, append-assoc}
-use lib.ListN.{length, take, length-append, length-set}
+use lib.ListN.{length, take, replicate, length-append, length-set, length-replicate}
 use lib.Seq.{length-take-le}
 use lib.Dec.{eqb, ltb}
 use borrow.Author.Tests.{eq-eqb, ne-eqb, lt-ltb, le-ltb}
@@ -13,10 +13,11 @@ use Rattle.task.specs.Table.{Row, Operator}
 use Rattle.task.specs.Semantics.{sets, clears}
 use Rattle.task.specs.Words.{words-of}
 use Rattle.normal_form.specs.Builder.{place}
-use Rattle.normal_form.specs.Assembly.{Rule, rule, with-twin, rules-of, Written, atom-row, rule-rows, write-rule, write-rules}
+use Rattle.normal_form.specs.Assembly.{Rule, rule, with-twin, rules-of, Written, atom-row, rule-rows, write-rule, write-rules, unassembled}
 use Rattle.normal_form.specs.Compiled.{padded}
 use Rattle.normal_form.proofs.Growth.{longer}
-use Rattle.normal_form.proofs.Padded.{three, padded-row, padded-operator}
+use Rattle.normal_form.proofs.Padded.{padded-empty, three, padded-row, padded-operator}
+use Rattle.normal_form.proofs.ShapeAssembled.{unwritten}
 use Rattle.normal_form.proofs.ShapeCounts.{first-length, next-length, rules-split}
 use Rattle.normal_form.proofs.ShapeWritten.{rules-prefix}
 use Rattle.rule_writer.specs.declared.Chain.{Chain}
@@ -308,6 +309,22 @@ module _ (frame : Frame) (k : ℕ) (r : CodeRule) where
   pub twin-there :
       k < frame .twins → twin-rule-in frame k r ≡ rule (r .condition) (atom-of (not (r .sets)) (frame .variables + k))
   twin-there h = rw (lt-ltb k (frame .twins) h)
+
+-- A cleared table holds the empty effect alone; and the next operator begins with nothing of its own.
+abbrev pub begun : ℕ → Chain
+begun rows = record { rows = rows; stands = 0; full = false }
+
+pub holds-begun : (n : ℕ) → 3 ≤ n → Holds (unwritten (unassembled .effects)) (begun 1) (replicate n 0)
+holds-begun n h =
+    record {
+      rows = unfold unassembled in refl;
+      stands = refl;
+      words = padded-empty n h ∙ ap (λ (k : ℕ). padded k (words-of (unassembled .effects))) (sym (length-replicate n 0));
+    }
+
+pub holds-next :
+    {w : Written} {at : Chain} {table : List ℕ} → Holds w at table → Holds (unwritten (w .rows)) (begun (at .rows)) table
+holds-next h = record { rows = h .rows; stands = refl; words = h .words }
 
 -- one operator more
 pub operator-stored :
