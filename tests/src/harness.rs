@@ -1,5 +1,5 @@
-//! Runs named tests, counts their cases and prints what 01's test programs
-//! print: one line per test and a last line with the totals.
+//! Runs named tests and counts their cases; prints a line for each test and
+//! a last line with the totals.
 
 use std::panic::{catch_unwind, AssertUnwindSafe};
 

@@ -32,12 +32,12 @@ fn named_first(twins: &[u16], k: usize) -> bool
     ensures { λ r. ⌜ r ≡ every k (λ j. not (eqb (getD (now (twins .entry)) j 0) (getD (now (twins .entry)) k 0))) ⌝ }
 {
     let original = twins[k];
-    let mut j = 0;
-    while j < k {
-        if twins[j] == original {
+    let mut j = k;
+    while 0 < j {
+        if twins[j - 1] == original {
             return false;
         }
-        j += 1;
+        j -= 1;
     }
     true
 }

@@ -9,8 +9,6 @@ use Rattle.task.specs.Bounded.{every}
 use Rattle.task.proofs.Bounded.{every-none, every-more, every-stops, every-ends}
 use Rattle.task.proofs.check.bits_kept.Statement.{statement}
 use Rattle.task.proofs.check.bits_kept.Tie as tie
-use Rattle.task.proofs.check.bits_kept.Reads as reads
-use Rattle.task.proofs.check.bits_kept.Lts as lts
 
 abbrev Inv-loop : tie.InvT-loop
 Inv-loop initial count v₀ v = (v ≤ count) × (every v (λ k. leb (getD initial k 0) 1) ≡ true)
@@ -18,31 +16,24 @@ Inv-loop initial count v₀ v = (v ≤ count) × (every v (λ k. leb (getD initi
 abbrev μ-loop : tie.MeasureT-loop
 μ-loop initial count v₀ v = count - v
 
--- src/check.rt:20:5
 loop-holds : tie.Need-loop-holds Inv-loop μ-loop
 loop-holds c = (omega arith, every-none _)
 
--- src/check.rt:21:16
 shared-slice-read-if1 : tie.Need-shared-slice-read-if1 Inv-loop μ-loop
 shared-slice-read-if1 c = omega arith
 
--- src/check.rt:22:13
 returns : tie.Need-returns Inv-loop μ-loop
 returns c = every-stops _ _ _ (c .before .before .loop-test .taken) (lt-leb _ _ (c .if1 .taken))
 
--- src/check.rt:24:9
 add-v : tie.Need-add-v Inv-loop μ-loop
 add-v c = omega arith
 
--- src/check.rt:20:5
 loop-less : tie.Need-loop-less Inv-loop μ-loop
 loop-less c = omega arith
 
--- src/check.rt:20:5
 loop-again : tie.Need-loop-again Inv-loop μ-loop
 loop-again c = (omega arith, every-more _ _ (c .before .before .before .loop .inv .1) (le-leb _ _ (c .if1 .left)))
 
--- src/check.rt:15:1
 returns-2 : tie.Need-returns-2 Inv-loop μ-loop
 returns-2 c = every-ends _ _ _ (c .before .loop .inv .0) (c .loop-test .left) (c .before .loop .inv .1)
 

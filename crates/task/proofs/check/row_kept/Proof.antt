@@ -2,59 +2,42 @@ use Rattle.task.specs.Check.{formula-kept, effect-kept}
 use borrow.Author.Needs.{needs}
 use Rattle.task.proofs.check.row_kept.Statement.{statement}
 use Rattle.task.proofs.check.row_kept.Tie as tie
-use Rattle.task.proofs.check.row_kept.Reads as reads
-use Rattle.task.proofs.check.row_kept.Lts as lts
-use Rattle.task.proofs.rows.effect_kept.Reads as effect-kept-reads
-use Rattle.task.proofs.rows.formula_kept.Reads as formula-kept-reads
-use Rattle.task.proofs.rows.operator_kept.Reads as operator-kept-reads
 
--- src/check.rt:67:21
 cast-variables : tie.Need-cast-variables
 cast-variables c = search needs
 
--- src/check.rt:68:20
 cast-formulas : tie.Need-cast-formulas
 cast-formulas c = search needs
 
--- src/check.rt:70:28
 enum-told : tie.Need-enum-told
 enum-told c = search needs
 
--- src/check.rt:70:28
 formula-kept-requires : tie.Need-formula-kept-requires
 formula-kept-requires c κs = search needs
 
--- src/check.rt:71:27
 enum-told-2 : tie.Need-enum-told-2
 enum-told-2 c = search needs
 
--- src/check.rt:71:27
 effect-kept-requires : tie.Need-effect-kept-requires
 effect-kept-requires c κs = search needs
 
--- src/check.rt:72:66
 enum-told-3 : tie.Need-enum-told-3
 enum-told-3 c = search needs
 
--- src/check.rt:72:66
 cast-operator-kept : tie.Need-cast-operator-kept
 cast-operator-kept c = search needs
 
--- src/check.rt:72:29
 operator-kept-requires : tie.Need-operator-kept-requires
 operator-kept-requires c κs = search needs
 
--- src/check.rt:64:1
 returns : tie.Need-returns
 unfolding formula-kept
 returns c = rw ((c .before .enum-told .given) .1) (c .formula-kept .ensures)
 
--- src/check.rt:64:1
 returns-2 : tie.Need-returns-2
 unfolding effect-kept
 returns-2 c = rw ((c .before .enum-told2 .given) .1) (c .effect-kept .ensures)
 
--- src/check.rt:64:1
 returns-3 : tie.Need-returns-3
 returns-3 c = rw ((c .before .before .enum-told3 .given) .1) (c .operator-kept .ensures)
 

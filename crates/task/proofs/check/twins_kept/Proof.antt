@@ -9,9 +9,6 @@ use Rattle.task.proofs.Bounded.{every-none, every-more, every-stops, ev
 use Rattle.task.proofs.Refusals.{twin-outside, twin-again, twin-fine}
 use Rattle.task.proofs.check.twins_kept.Statement.{statement}
 use Rattle.task.proofs.check.twins_kept.Tie as tie
-use Rattle.task.proofs.check.twins_kept.Reads as reads
-use Rattle.task.proofs.check.twins_kept.Lts as lts
-use Rattle.task.proofs.check.named_first.Reads as named-first-reads
 
 abbrev Inv-loop : tie.InvT-loop
 Inv-loop twins count bound k₀ k = (k ≤ count) × (every k (twin-kept bound twins) ≡ true)
@@ -19,47 +16,36 @@ Inv-loop twins count bound k₀ k = (k ≤ count) × (every k (twin-kept bound t
 abbrev μ-loop : tie.MeasureT-loop
 μ-loop twins count bound k₀ k = count - k
 
--- src/check.rt:51:5
 loop-holds : tie.Need-loop-holds Inv-loop μ-loop
 loop-holds c = (omega arith, every-none _)
 
--- src/check.rt:52:21
 mul-if1 : tie.Need-mul-if1 Inv-loop μ-loop
 mul-if1 c = omega (arith, (c .before .before .before .good))
 
--- src/check.rt:52:21
 shared-slice-read-if1 : tie.Need-shared-slice-read-if1 Inv-loop μ-loop
 shared-slice-read-if1 c = omega arith
 
--- src/check.rt:52:21
 cast-if1 : tie.Need-cast-if1 Inv-loop μ-loop
 cast-if1 c = omega (arith, (c .before .before .before .shared-slice-known .given) (c .before .before .loop .k))
 
--- src/check.rt:53:13
 returns : tie.Need-returns Inv-loop μ-loop
 returns c = every-stops _ _ _ (c .before .before .loop-test .taken) (twin-outside _ _ _ (c .if1 .taken))
 
--- src/check.rt:55:13
 named-first-requires : tie.Need-named-first-requires Inv-loop μ-loop
 named-first-requires c κs = omega arith
 
--- src/check.rt:56:13
 returns-2 : tie.Need-returns-2 Inv-loop μ-loop
 returns-2 c = every-stops _ _ _ (c .before .before .before .before .loop-test .taken) (twin-again _ _ _ (sym (c .before .named-first .ensures) ∙ not-true _ (c .if2 .taken)))
 
--- src/check.rt:58:9
 add-k : tie.Need-add-k Inv-loop μ-loop
 add-k c = omega arith
 
--- src/check.rt:51:5
 loop-less : tie.Need-loop-less Inv-loop μ-loop
 loop-less c = omega arith
 
--- src/check.rt:51:5
 loop-again : tie.Need-loop-again Inv-loop μ-loop
 loop-again c = (omega arith, every-more _ _ ((c .before .before .before .before .before .loop .inv) .1) (twin-fine _ _ _ (c .before .before .if1 .left) (sym (c .before .named-first .ensures) ∙ not-false _ (c .if2 .left))))
 
--- src/check.rt:46:1
 returns-3 : tie.Need-returns-3 Inv-loop μ-loop
 returns-3 c = every-ends _ _ _ ((c .before .loop .inv) .0) (c .loop-test .left) ((c .before .loop .inv) .1)
 

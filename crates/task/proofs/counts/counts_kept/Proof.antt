@@ -6,51 +6,39 @@ use Rattle.task.specs.Check.{counts-kept}
 use borrow.Author.Needs.{needs}
 use Rattle.task.proofs.counts.counts_kept.Statement.{statement}
 use Rattle.task.proofs.counts.counts_kept.Tie as tie
-use Rattle.task.proofs.counts.counts_kept.Reads as reads
-use Rattle.task.proofs.counts.counts_kept.Lts as lts
 
--- src/counts.rt:10:9
 returns : tie.Need-returns
 unfolding counts-kept
 returns c = simp (lt-leb _ _ (c .if1 .taken))
 
--- src/counts.rt:13:9
 cast-if2 : tie.Need-cast-if2
 cast-if2 c = search needs
 
--- src/counts.rt:13:34
 cast-if2-2 : tie.Need-cast-if2-2
 cast-if2-2 c = search needs
 
--- src/counts.rt:13:54
 cast-if2-3 : tie.Need-cast-if2-3
 cast-if2-3 c = search needs
 
--- src/counts.rt:13:34
 add-if2 : tie.Need-add-if2
 add-if2 c = search needs
 
--- src/counts.rt:14:9
 returns-2 : tie.Need-returns-2
 unfolding counts-kept
 returns-2 c = simp (lt-leb _ _ (c .if2 .taken), and-false)
 
--- src/counts.rt:17:9
 returns-3 : tie.Need-returns-3
 unfolding counts-kept
 returns-3 c = simp (lt-leb _ _ (c .if3 .taken), and-false)
 
--- src/counts.rt:20:9
 returns-4 : tie.Need-returns-4
 unfolding counts-kept
 returns-4 c = simp (lt-leb _ _ (c .if4 .taken), and-false)
 
--- src/counts.rt:23:9
 returns-5 : tie.Need-returns-5
 unfolding counts-kept
 returns-5 c = simp (lt-leb _ _ (c .if5 .taken), and-false)
 
--- src/counts.rt:6:1
 returns-6 : tie.Need-returns-6
 returns-6 c = counts-last _ (c .before .before .before .before .before .before .before .before .before .before .before .if1 .left) (c .before .before .before .before .before .before .before .if2 .left) (c .before .before .before .before .before .if3 .left) (c .before .before .before .if4 .left) (c .before .if5 .left)
 

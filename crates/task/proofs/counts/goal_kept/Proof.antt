@@ -2,10 +2,7 @@ use mathlib.Core.Path.{refl}
 use Rattle.task.specs.Check.{goal-kept}
 use Rattle.task.proofs.counts.goal_kept.Statement.{statement}
 use Rattle.task.proofs.counts.goal_kept.Tie as tie
-use Rattle.task.proofs.counts.goal_kept.Reads as reads
-use Rattle.task.proofs.counts.goal_kept.Lts as lts
 
--- src/counts.rt:29:1
 returns : tie.Need-returns
 unfolding goal-kept
 returns c = refl

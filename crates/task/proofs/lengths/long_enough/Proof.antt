@@ -6,62 +6,47 @@ use Rattle.task.specs.Check.{long-enough}
 use borrow.Author.Needs.{needs}
 use Rattle.task.proofs.lengths.long_enough.Statement.{statement}
 use Rattle.task.proofs.lengths.long_enough.Tie as tie
-use Rattle.task.proofs.lengths.long_enough.Reads as reads
-use Rattle.task.proofs.lengths.long_enough.Lts as lts
 
--- src/lengths.rt:17:24
 cast-if1 : tie.Need-cast-if1
 cast-if1 c = search needs
 
--- src/lengths.rt:18:9
 returns : tie.Need-returns
 unfolding long-enough
 returns c = simp (lt-leb _ _ (c .if1 .taken))
 
--- src/lengths.rt:20:22
 cast-if2 : tie.Need-cast-if2
 cast-if2 c = search needs
 
--- src/lengths.rt:21:9
 returns-2 : tie.Need-returns-2
 unfolding long-enough
 returns-2 c = simp (lt-leb _ _ (c .if2 .taken), and-false)
 
--- src/lengths.rt:23:30
 cast-if3 : tie.Need-cast-if3
 cast-if3 c = search needs
 
--- src/lengths.rt:23:25
 mul-if3 : tie.Need-mul-if3
 mul-if3 c = search needs
 
--- src/lengths.rt:24:9
 returns-3 : tie.Need-returns-3
 unfolding long-enough
 returns-3 c = simp (lt-leb _ _ (c .if3 .taken), and-false)
 
--- src/lengths.rt:26:29
 cast-if4 : tie.Need-cast-if4
 cast-if4 c = search needs
 
--- src/lengths.rt:26:24
 mul-if4 : tie.Need-mul-if4
 mul-if4 c = search needs
 
--- src/lengths.rt:27:9
 returns-4 : tie.Need-returns-4
 unfolding long-enough
 returns-4 c = simp (lt-leb _ _ (c .if4 .taken), and-false)
 
--- src/lengths.rt:29:10
 cast-result : tie.Need-cast-result
 cast-result c = search needs
 
--- src/lengths.rt:29:5
 mul-result : tie.Need-mul-result
 mul-result c = search needs
 
--- src/lengths.rt:7:1
 returns-5 : tie.Need-returns-5
 returns-5 c = lengths-last _ (c .before .before .before .before .before .before .before .if1 .left) (c .before .before .before .before .before .if2 .left) (c .before .before .before .if3 .left) (c .before .if4 .left)
 

@@ -4,43 +4,31 @@ use Rattle.task.proofs.Refusals.{effect-empty, effect-atom, effect-both
 use borrow.Author.Needs.{needs}
 use Rattle.task.proofs.rows.effect_kept.Statement.{statement}
 use Rattle.task.proofs.rows.effect_kept.Tie as tie
-use Rattle.task.proofs.rows.effect_kept.Reads as reads
-use Rattle.task.proofs.rows.effect_kept.Lts as lts
-use Rattle.task.proofs.rows.both.Reads as both-reads
 
--- src/rows.rt:45:14
 both-requires : tie.Need-both-requires
 both-requires c κs = search needs
 
--- src/rows.rt:47:14
 both-requires-2 : tie.Need-both-requires-2
 both-requires-2 c κs = search needs
 
--- src/rows.rt:48:14
 both-requires-3 : tie.Need-both-requires-3
 both-requires-3 c κs = search needs
 
--- src/rows.rt:46:18
 both-requires-4 : tie.Need-both-requires-4
 both-requires-4 c κs = search needs
 
--- src/rows.rt:41:1
 returns : tie.Need-returns
 returns c = (c .both .ensures) ∙ effect-empty _ _ _ _ _ _ (c .before .match .keys1)
 
--- src/rows.rt:41:1
 returns-2 : tie.Need-returns-2
 returns-2 c = (c .both2 .ensures) ∙ effect-both _ _ _ _ _ _ (c .before .match .keys2)
 
--- src/rows.rt:41:1
 returns-3 : tie.Need-returns-3
 returns-3 c = (c .both3 .ensures) ∙ effect-under _ _ _ _ _ _ (c .before .match .keys3)
 
--- src/rows.rt:41:1
 returns-4 : tie.Need-returns-4
 returns-4 c = (c .both4 .ensures) ∙ effect-atom _ _ _ _ _ _ (omega arith) (omega arith)
 
--- src/rows.rt:41:1
 returns-5 : tie.Need-returns-5
 returns-5 c = effect-unknown _ _ _ _ _ _ (omega arith)
 

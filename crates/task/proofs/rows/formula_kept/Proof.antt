@@ -4,43 +4,31 @@ use Rattle.task.proofs.Refusals.{formula-constant, formula-variable, fo
 use borrow.Author.Needs.{needs}
 use Rattle.task.proofs.rows.formula_kept.Statement.{statement}
 use Rattle.task.proofs.rows.formula_kept.Tie as tie
-use Rattle.task.proofs.rows.formula_kept.Reads as reads
-use Rattle.task.proofs.rows.formula_kept.Lts as lts
-use Rattle.task.proofs.rows.both.Reads as both-reads
 
--- src/rows.rt:33:14
 both-requires : tie.Need-both-requires
 both-requires c κs = search needs
 
--- src/rows.rt:34:14
 both-requires-2 : tie.Need-both-requires-2
 both-requires-2 c κs = search needs
 
--- src/rows.rt:32:18
 both-requires-3 : tie.Need-both-requires-3
 both-requires-3 c κs = search needs
 
--- src/rows.rt:35:26
 both-requires-4 : tie.Need-both-requires-4
 both-requires-4 c κs = search needs
 
--- src/rows.rt:28:1
 returns : tie.Need-returns
 returns c = (c .both .ensures) ∙ formula-variable _ _ _ _ _ (c .before .match .keys1)
 
--- src/rows.rt:28:1
 returns-2 : tie.Need-returns-2
 returns-2 c = (c .both2 .ensures) ∙ formula-not _ _ _ _ _ (c .before .match .keys2)
 
--- src/rows.rt:28:1
 returns-3 : tie.Need-returns-3
 returns-3 c = (c .both3 .ensures) ∙ formula-constant _ _ _ _ _ (omega arith)
 
--- src/rows.rt:28:1
 returns-4 : tie.Need-returns-4
 returns-4 c = (c .both4 .ensures) ∙ formula-pair _ _ _ _ _ (omega arith) (omega arith)
 
--- src/rows.rt:28:1
 returns-5 : tie.Need-returns-5
 returns-5 c = formula-unknown _ _ _ _ _ (c .if2 .left)
 

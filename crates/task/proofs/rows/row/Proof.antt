@@ -2,50 +2,37 @@ use Rattle.task.proofs.Refusals.{row-inside, row-outside}
 use borrow.Author.Needs.{needs}
 use Rattle.task.proofs.rows.row.Statement.{statement}
 use Rattle.task.proofs.rows.row.Tie as tie
-use Rattle.task.proofs.rows.row.Reads as reads
-use Rattle.task.proofs.rows.row.Lts as lts
 
--- src/rows.rt:13:21
 mul-start : tie.Need-mul-start
 mul-start c = search needs
 
--- src/rows.rt:14:19
 add-end : tie.Need-add-end
 add-end c = search needs
 
--- src/rows.rt:15:9
 mul-result : tie.Need-mul-result
 mul-result c = search needs
 
--- src/rows.rt:15:9
 sub-result : tie.Need-sub-result
 sub-result c = search needs
 
--- src/rows.rt:15:9
 part-result-start : tie.Need-part-result-start
 part-result-start c = search needs
 
--- src/rows.rt:15:9
 part-result-end : tie.Need-part-result-end
 part-result-end c = search needs
 
--- src/rows.rt:17:9
 sub-result-2 : tie.Need-sub-result-2
 sub-result-2 c = search needs
 
--- src/rows.rt:17:9
 part-result-start-2 : tie.Need-part-result-start-2
 part-result-start-2 c = search needs
 
--- src/rows.rt:17:9
 part-result-end-2 : tie.Need-part-result-end-2
 part-result-end-2 c = search needs
 
--- src/rows.rt:9:1
 returns : tie.Need-returns
 returns c = row-inside _ _ (c .before .if1 .taken)
 
--- src/rows.rt:9:1
 returns-2 : tie.Need-returns-2
 returns-2 c = row-outside _ _ (c .before .if1 .left)
 
