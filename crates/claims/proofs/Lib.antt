@@ -1,4 +1,5 @@
 pub mod DemandOne
+pub mod DemandTwoFiles
 pub mod DemandTwoRuns
 pub mod DemandTwoCompiled
 pub mod DemandThree

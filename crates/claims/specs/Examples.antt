@@ -7,16 +7,18 @@ use lib.ListN.{replicate}
 use Rattle.task.specs.Table.{Row, Operator, Lent, Task, task-of}
 use Rattle.task.specs.Check.{refusal}
 use Rattle.task.specs.Words.{lent-of}
+use Rattle.task_file.specs.Reading.{Lengths, Outcome as Read, accepted, rejected, reading}
 use Rattle.plan.specs.declared.outcome.RunOutcome.{RunOutcome}
 use Rattle.plan.specs.declared.outcome.End.the-variants.{Ended}
 use Rattle.plan.specs.Outcome.{ran}
 use Rattle.normal_form.specs.Compiled.{Room, Answer, compiled-head, refused, Outcome, compiling, given}
 
--- What is asked: the check of tables; a run on tables, from a state; the compiling of tables into what is lent.
+-- What is asked: the check of tables; a run on tables, from a state; the compiling of tables, and of a file, into what is lent.
 pub data Asked : Type 0 where
   check : Lent → Asked
   run : Lent → (state numbers scratch : List ℕ) → Asked
   compile : Lent → Room → Asked
+  compile-file : (file : List ℕ) → Lengths → Room → Asked
 
 -- What is told: a number; the outcome of a run and the state that it left; the compiled task.
 pub data Told : Type 0 where
@@ -34,6 +36,11 @@ compile-told l room =
     let o = compiling l room in
     gave (o .answer) o
 
+-- what is told of a file: of the task that was read from it, or the number of its refusal
+abbrev pub file-told : Read → Room → Told
+file-told (accepted t) room = compile-told (lent-of t) room
+file-told (rejected n) room = number n
+
 -- by the definitions that the calls are held to
 unfoldable pub outcome : Asked → Told
 outcome (check l) = number (refusal l)
@@ -41,6 +48,7 @@ outcome (run l s numbers scratch) =
     let r = ran l s numbers scratch in
     answers (r .answer) (r .state)
 outcome (compile l room) = compile-told l room
+outcome (compile-file file lengths room) = file-told (reading lengths file) room
 
 pub record Example : Type 0 where
   pub asked : Asked
@@ -104,6 +112,18 @@ whole =
     (operator 2 3 3 ∷ [])
     4
 
+-- its file
+abbrev pub whole-file : List ℕ
+whole-file =
+    -- the head's map, V, F, E, O, goal; the initial state
+    0x3d ∷ 0x02 ∷ 0x00 ∷ 0x05 ∷ 0x00 ∷ 0x04 ∷ 0x00 ∷ 0x01 ∷ 0x00 ∷ 0x04 ∷ 0x00 ∷ 0x02
+    -- formulas
+    ∷ 0x20 ∷ 0x21 ∷ 0x01 ∷ 0x00 ∷ 0x30 ∷ 0x31 ∷ 0x01 ∷ 0x00 ∷ 0x42 ∷ 0x03 ∷ 0x00
+    -- effects
+    ∷ 0x10 ∷ 0x21 ∷ 0x01 ∷ 0x00 ∷ 0x43 ∷ 0x01 ∷ 0x00 ∷ 0x01 ∷ 0x00 ∷ 0x32 ∷ 0x02 ∷ 0x00
+    -- the operator
+    ∷ 0x07 ∷ 0x02 ∷ 0x00 ∷ 0x03 ∷ 0x00 ∷ 0x03 ∷ 0x00 ∷ []
+
 -- what 01 prints for it
 abbrev pub whole-compiled : Task
 whole-compiled =
@@ -137,7 +157,10 @@ whole-compiled =
       goal = 6;
     }
 
--- room that the whole example just fills
+-- room that the whole example just fills, for its tables and for the compiled ones
+abbrev pub lengths : Lengths
+lengths = record { initial = 2; twins = 0; formulas = 15; effects = 12; operators = 3 }
+
 abbrev pub room : Room
 room = record { initial = 4; twins = 2; formulas = 21; effects = 36; operators = 3; scratch = 18 }
 
@@ -237,6 +260,7 @@ table =
             goal = 1;
           });
     }
-    -- the whole example
+    -- the whole example, of its tables and of its file
     ∷ record { asked = compile whole room; told = compiled whole-compiled }
+    ∷ record { asked = compile-file whole-file lengths room; told = compiled whole-compiled }
     ∷ []

@@ -1,9 +1,9 @@
 -- What the demands claim, as records: a field for each sentence.
-use Prim.Native.Nat.{ℕ, _≤_}
+use Prim.Native.Nat.{ℕ, _<_, _≤_}
 use mathlib.Core.Path.{_≡_}
 use mathlib.Core.Bool.{false}
 use mathlib.Core.List.{List}
-use lib.ListN.{length}
+use lib.ListN.{length, getD}
 use Rattle.task.specs.Table.{Lent, Task, task-of}
 use Rattle.task.specs.Check.{refusal}
 use Rattle.task.specs.Rules.{Limits, Rules}
@@ -13,6 +13,10 @@ use Rattle.normal_form.specs.Finished.{finished}
 use Rattle.normal_form.specs.Positive.{Positive, PositiveTask}
 use Rattle.normal_form.specs.Flat.{Flat}
 use Rattle.normal_form.specs.Alike.{Alike, StopsAt, together}
+
+-- A list of bytes.
+pub record OfBytes (file : List ℕ) : Type 0 where
+  pub byte : (i : ℕ) → i < length file → getD file i 0 < 256
 
 -- A task compiles if its tables pass, W is 0 and the finished task keeps the limits, whatever is lent (01, "Stepping and running").
 pub record Compiles (t : Task) : Type 0 where

@@ -20,7 +20,7 @@ use Rattle.normal_form.proofs.MeaningFinished.{same-goal, same-applicab
 use Rattle.normal_form.proofs.MeaningStep.{length-apply, correspond-after}
 
 -- The initial states correspond.
-map-at : (f : ℕ → ℕ) (l : List ℕ) (k : ℕ) → k < length l → getD (map f l) k 0 ≡ f (getD l k 0)
+pub map-at : (f : ℕ → ℕ) (l : List ℕ) (k : ℕ) → k < length l → getD (map f l) k 0 ≡ f (getD l k 0)
 map-at f [] k h = absurd (not-suc-le-zero h)
 map-at f (x ∷ l) zero h = refl
 map-at f (x ∷ l) (suc k) h = map-at f l k (omega arith)

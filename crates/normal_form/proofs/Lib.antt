@@ -26,3 +26,5 @@ pub mod ShapeCounts
 pub mod ShapeLimits
 pub mod Examples
 pub mod Compiled
+pub mod Padded
+pub mod Assembling

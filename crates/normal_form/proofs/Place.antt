@@ -3,7 +3,7 @@ use Prim.Native.Nat.{ℕ, zero, suc, _<_}
 use native.Mathlib.Nat.{not-suc-le-zero}
 use native.Mathlib.Omega.{arith}
 use native.Mathlib.Decide.{decLt}
-use mathlib.Core.Path.{_≡_, refl, sym, subst, _∙_}
+use mathlib.Core.Path.{_≡_, refl, sym, ap, subst, _∙_}
 use mathlib.Core.Bool.{Bool, true, false, cond, _&&_, false≢true}
 use mathlib.Core.List.{List, [], _∷_, _++_}
 use lib.ListN.{length, getD, length-append, List·getD-append}
@@ -76,6 +76,29 @@ module _ {A : Type 0} (same : A → A → Bool) (x : A) where
           → getD (cond b (y ∷ ys) (y ∷ kept same x ys)) (cond b 0 (suc (place same x ys))) d ≡ x
       go true e h = alike y e
       go false e h = h
+
+-- what a search from the front finds: the first that is the same, or none
+module _ {A : Type 0} (same : A → A → Bool) (x d : A) where
+  pub place-first :
+      (l : List A) (i : ℕ)
+      → i < length l
+      → ((j : ℕ) → j < i → same (getD l j d) x ≡ false)
+      → same (getD l i d) x ≡ true
+      → place same x l ≡ i
+  unfolding place
+  place-first [] i h before e = absurd (not-suc-le-zero h)
+  place-first (y ∷ ys) zero h before e = rw e
+  place-first (y ∷ ys) (suc i) h before e =
+      let here : same y x ≡ false = before 0 (omega arith) in
+      rw here (ap suc (place-first ys i (omega arith) (λ j k. before (suc j) (omega arith)) e))
+
+  pub place-none :
+      (l : List A) → ((j : ℕ) → j < length l → same (getD l j d) x ≡ false) → place same x l ≡ length l
+  unfolding place
+  place-none [] none = refl
+  place-none (y ∷ ys) none =
+      let here : same y x ≡ false = none 0 (omega arith) in
+      rw here (ap suc (place-none ys (λ j k. none (suc j) (omega arith))))
 
 -- a number that a list has stands there where it is looked for
 pub place-found : (x : ℕ) (l : List ℕ) → place eqb x l < length l → getD l (place eqb x l) 0 ≡ x

@@ -10,9 +10,6 @@ pub mod Trees
 pub mod Down
 pub mod Values
 pub mod Marks
-pub mod Marking
-pub mod MarkingLoop
 pub mod Changes
-pub mod Step
 pub mod KindNumbers
-pub mod Ways
+pub mod Cleared

@@ -1,5 +1,6 @@
 // The tables of a task: their limits, their rows, and the check that every call on tables makes first.
 pub mod check;
+pub mod clear;
 pub mod counts;
 pub mod lengths;
 pub mod rows;

@@ -2,8 +2,8 @@
 use borrow.Author.Needs.{needs}
 use Rattle.plan.proofs.effects.carry_out.Statement.{statement}
 use Rattle.plan.proofs.effects.carry_out.Tie as tie
+use native.Mathlib.Omega.{arith}
 use mathlib.Core.Path.{refl}
-use mathlib.Core.Logic.{inl, inr}
 use Rattle.plan.proofs.Passes.{changeable, carried}
 
 add-rows : tie.Need-add-rows
@@ -13,10 +13,10 @@ mark-requires : tie.Need-mark-requires
 mark-requires c κs = search needs
 
 change-requires : tie.Need-change-requires
-change-requires c κs = changeable (c .before .before .before .before .before .before .before .before .before .pre) (c .before .before .before .before .mark .ensures) (inr refl) refl
+change-requires c κs = changeable (c .before .before .before .before .before .before .before .before .before .pre) (c .before .before .before .before .mark .ensures) (omega arith) (omega arith) refl
 
 change-requires-2 : tie.Need-change-requires-2
-change-requires-2 c κs = changeable (c .before .before .before .before .before .before .before .before .before .before .before .before .before .before .pre) (c .before .before .before .before .before .before .before .before .before .mark .ensures) (inl refl) (c .before .before .before .before .change .kept .1 .1 .1 .1 .0)
+change-requires-2 c κs = changeable (c .before .before .before .before .before .before .before .before .before .before .before .before .before .before .pre) (c .before .before .before .before .before .before .before .before .before .mark .ensures) (omega arith) (omega arith) (c .before .before .before .before .change .kept .1 .1 .1 .1 .0)
 
 same-length : tie.Need-same-length
 same-length c = search needs

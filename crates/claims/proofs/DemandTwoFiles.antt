@@ -1,0 +1,92 @@
+-- Demands 1 and 2, of task files: a file is accepted exactly if it is a task's, and reading and writing undo each other. The contract of
+-- `task_file::read::read` cites `read-outcome`, that of `task_file::write::write` cites `write-outcome`; here `reading` is what is read of the bytes.
+use Prim.Native.Nat.{ℕ, suc, _≤_, _<_}
+use native.Mathlib.Omega.{arith}
+use mathlib.Core.Path.{_≡_, sym}
+use mathlib.Core.Logic.{_↔_}
+use mathlib.Core.List.{List, [], _∷_, _++_}
+use lib.ListN.{length, getD, take}
+use Rattle.task.specs.Table.{Lent, Task, lent, task-of}
+use Rattle.task.specs.Check.{refusal}
+use Rattle.task.specs.Rules.{Rules}
+use Rattle.task.specs.Words.{head-of}
+use Rattle.task_file.specs.Bytes.{file-of}
+use Rattle.task_file.specs.Reading.{Lengths, Room, accepted, rejected, reading}
+use Rattle.task_file.specs.Outcome.{outcome-of, read-outcome}
+use Rattle.task_file.specs.Writing.{file-outcome, write-outcome}
+use Rattle.task_file.proofs.Parse.{Bytes}
+use Rattle.task_file.proofs.RoundTrip.{read-written, written-read, cut-short, bytes-follow, apart}
+use Rattle.task_file.proofs.Calls.{read-after-write, write-after-read}
+use Rattle.claims.specs.Statements.{OfBytes}
+
+of-bytes : (file : List ℕ) → ((i : ℕ) → i < length file → getD file i 0 < 256) → Bytes file
+of-bytes [] h = tt
+of-bytes (x ∷ rest) h = (h 0 (omega arith), of-bytes rest (λ i b. h (suc i) (omega arith)))
+
+-- A file is accepted exactly if it is the file of a task that keeps the rules and for which the lent tables are long enough.
+pub file-accepted-exactly-if :
+    (l : Lengths) (file : List ℕ) (t : Task)
+    → OfBytes file
+    → reading l file ≡ accepted t ↔ (file ≡ file-of t) × Rules t × Room l t
+file-accepted-exactly-if l file t bytes = (
+  λ e.
+  let a = written-read l file t (of-bytes file (bytes .byte)) e in
+  (a .same, a .rules, a .roomy),
+  λ p. rw (p .0) (read-written l t (p .1) (p .2)),
+)
+
+-- Reading the file that writing gives yields the same task ..
+pub reading-what-was-written : (l : Lengths) (t : Task) → Rules t → Room l t → reading l (file-of t) ≡ accepted t
+reading-what-was-written l t rules room = read-written l t rules room
+
+-- .. and of the two calls: tables that pass the check, written into an output that is long enough and read again into tables that are, give the same
+-- head and the same words, and 0 behind them.
+pub read-gives-what-was-written :
+    (l : Lent) (n : ℕ) (lengths : Lengths)
+    → refusal l ≡ 0
+    → length (file-of (task-of l)) ≤ n
+    → Room lengths (task-of l)
+    → read-outcome lengths (take (length (file-of (task-of l))) (write-outcome l n .out)) ≡ outcome-of lengths (accepted (task-of l))
+read-gives-what-was-written l n lengths passed fits room = read-after-write l n lengths passed fits room
+
+-- Writing what reading gave yields the same bytes, so one task has one file ..
+pub writing-what-was-read :
+    (l : Lengths) (file : List ℕ) (t : Task)
+    → OfBytes file
+    → reading l file ≡ accepted t
+    → file-of t ≡ file
+writing-what-was-read l file t bytes e = sym (written-read l file t (of-bytes file (bytes .byte)) e .same)
+
+-- .. and of the two calls: an accepted file, read and written again, gives the same bytes, or 20 if the output is shorter.
+pub write-gives-what-was-read :
+    (lengths : Lengths) (file : List ℕ) (t : Task) (n : ℕ)
+    → OfBytes file
+    → reading lengths file ≡ accepted t
+    → let o = read-outcome lengths file in
+    write-outcome (lent (head-of t) (o .initial) (o .twins) (o .formulas) (o .effects) (o .operators)) n ≡ file-outcome file n
+write-gives-what-was-read lengths file t n bytes e =
+    write-after-read lengths file t n (of-bytes file (bytes .byte)) e
+
+-- A strict prefix of an accepted file gives 1.
+pub prefix-gives-one :
+    (l : Lengths) (front : List ℕ) (x : ℕ) (more : List ℕ) (t : Task)
+    → reading l (front ++ (x ∷ more)) ≡ accepted t
+    → reading l front ≡ rejected 1
+prefix-gives-one l front x more t e = cut-short l front x more t e
+
+-- An accepted file with bytes behind it gives 4.
+pub bytes-behind-give-four :
+    (l : Lengths) (file : List ℕ) (x : ℕ) (more : List ℕ) (t : Task)
+    → OfBytes file
+    → reading l file ≡ accepted t
+    → reading l (file ++ (x ∷ more)) ≡ rejected 4
+bytes-behind-give-four l file x more t bytes e = bytes-follow l file x more t (of-bytes file (bytes .byte)) e
+
+-- No task's file is the beginning of another's: where it is, the tasks are one and nothing is left.
+pub no-file-begins-another :
+    (t u : Task) (rest : List ℕ)
+    → Rules t
+    → Rules u
+    → file-of t ++ rest ≡ file-of u
+    → (t ≡ u) × (rest ≡ [])
+no-file-begins-another t u rest rules others e = apart t u rest rules others e

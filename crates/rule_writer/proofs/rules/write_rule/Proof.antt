@@ -1,0 +1,43 @@
+use borrow.Author.Needs.{needs}
+use Rattle.rule_writer.proofs.rules.write_rule.Statement.{statement}
+use Rattle.rule_writer.proofs.rules.write_rule.Tie as tie
+use Rattle.rule_writer.proofs.Writing.{writes-filled, writes-none, writes-as, rule-absent, rule-there}
+
+returns : tie.Need-returns
+returns c = writes-filled (c .before .before .pre) (c .if1 .taken)
+
+returns-2 : tie.Need-returns-2
+returns-2 c =
+    let s = c .before .before .before .before in
+    writes-none (s .pre) (rule-absent (s .args .r) (c .if2 .taken))
+
+first-requires : tie.Need-first-requires
+first-requires c κs = search needs
+
+same-length : tie.Need-same-length
+same-length c = search needs
+
+returns-3 : tie.Need-returns-3
+returns-3 c = writes-as (rule-there (c .before .before .before .before .before .before .before .before .before .before .args .r) (c .before .before .before .before .before .before .if2 .left)) (c .before .before .first .ensures)
+
+next-requires : tie.Need-next-requires
+next-requires c κs = search needs
+
+same-length-2 : tie.Need-same-length-2
+same-length-2 c = search needs
+
+returns-4 : tie.Need-returns-4
+returns-4 c = writes-as (rule-there (c .before .before .before .before .before .before .before .before .before .before .args .r) (c .before .before .before .before .before .before .if2 .left)) (c .before .before .next .ensures)
+
+pub write-rule-spec : {M : Type 1} → statement M
+write-rule-spec =
+    tie.close
+    (tie.spec
+    returns
+    returns-2
+    first-requires
+    same-length
+    returns-3
+    next-requires
+    same-length-2
+    returns-4)
