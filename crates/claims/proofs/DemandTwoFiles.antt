@@ -30,8 +30,8 @@ pub file-accepted-exactly-if :
     → reading l file ≡ accepted t ↔ (file ≡ file-of t) × Rules t × Room l t
 file-accepted-exactly-if l file t bytes = (
   λ e.
-  let a = written-read l file t (of-bytes file (bytes .byte)) e in
-  (a .same, a .rules, a .roomy),
+      let a = written-read l file t (of-bytes file (bytes .byte)) e in
+      (a .same, a .rules, a .roomy),
   λ p. rw (p .0) (read-written l t (p .1) (p .2)),
 )
 
