@@ -1,5 +1,4 @@
 -- The outcome of compiling 01's whole example, by computing the definition: in tables that are exactly long enough, one longer, one short.
-use Prim.Native.Nat.{ℕ}
 use mathlib.Core.Path.{_≡_, refl}
 use mathlib.Core.List.{[], _∷_}
 use Rattle.task.specs.Bounded.{every}
