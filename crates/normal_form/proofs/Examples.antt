@@ -17,10 +17,10 @@ use Rattle.normal_form.specs.Operators.{deletes-of, changes-of, built-op
 use Rattle.normal_form.specs.Assembly.{rule, with-twin, rules-of, rules, atom-row, rule-rows, write-rule, write-rules, assemble-operator, assemble, unassembled}
 use Rattle.normal_form.specs.Finished.{built, assembled, twin-values, finished}
 
-abbrev words : ℕ → ℕ → ℕ → Row
+abbrev pub words : ℕ → ℕ → ℕ → Row
 words k a b = record { kind = k; a = a; b = b }
 
-abbrev operator : ℕ → ℕ → ℕ → Operator
+abbrev pub operator : ℕ → ℕ → ℕ → Operator
 operator p e c = record { precondition = p; effect = e; cost = c }
 
 -- finished, computed
@@ -33,7 +33,7 @@ unfolding
 result t = finished t
 
 -- P, whole. Formulas v0; v1; not 0; not 1; 0 and 3. Effects set v0; clear v1; 1 under 1; both 0 and 2. Operator (2, 3, cost 3). Goal 4.
-abbrev source : Lent
+abbrev pub source : Lent
 source =
     record {
       head = record { variables = 2; twins = 0; formulas = 5; effects = 4; operators = 1; goal = 4 };
