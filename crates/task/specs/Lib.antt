@@ -6,3 +6,4 @@ pub mod Semantics
 pub mod Tree
 pub mod Run
 pub mod Corresponding
+pub mod Words
