@@ -122,7 +122,7 @@ module _ (frame : Frame) (at : Size) (table o : List ℕ) (ready : Ready frame a
   row-stands h =
       let l = upto (at .rows) (row-at table) in
       let found : kept same-row r l ≡ l =
-          kept-found same-row r l (omega (arith, length-upto (at .rows) (row-at table))) in
+      kept-found same-row r l (omega (arith, length-upto (at .rows) (row-at table))) in
       builds-done refl
       (record {
         value = sym e;
@@ -156,7 +156,7 @@ module _ (frame : Frame) (at : Size) (table o : List ℕ) (ready : Ready frame a
       let rows-ready = ready .rows in
       let fits : 3 * at .rows + 3 ≤ length table = omega arith in
       let whole : kept same-row r l ≡ upto (at .rows + 1) (row-at (three table (at .rows) r)) =
-          added h ∙ sym (three-rows table (at .rows) r fits) in
+      added h ∙ sym (three-rows table (at .rows) r fits) in
       let bound = place-bound same-row r l in
       builds-done refl
       (record {
@@ -246,7 +246,7 @@ module _ (frame : Frame) (at : Size) (table o : List ℕ) (ready : Ready frame a
       let l = take (at .twins) o in
       let t = ready .twins in
       let whole : kept eqb v l ≡ take (at .twins + 1) (set o (at .twins) v) =
-          met h ∙ sym (one-more o (at .twins) v (omega (arith, ready .originals))) in
+      met h ∙ sym (one-more o (at .twins) v (omega (arith, ready .originals))) in
       let back : place eqb v l ≡ k = sym e in
       builds-from
       (λ j. variable-row (frame .variables + back j) (record { rows = upto (at .rows) (row-at table); twins = whole j }))

@@ -50,15 +50,15 @@ module _ (t : List ℕ) (n : ℕ) (r : Row) where
         let one = set t (3 * n) (r .kind) in
         let two = set one (3 * n + 1) (r .a) in
         let kind : getD (three t n r) (3 * n) 0 ≡ r .kind =
-            getD-set-other two (3 * n + 2) (3 * n) (r .b) 0 (omega arith)
-            ∙ getD-set-other one (3 * n + 1) (3 * n) (r .a) 0 (omega arith)
-            ∙ getD-set-same t (3 * n) (r .kind) 0 (omega arith) in
+        getD-set-other two (3 * n + 2) (3 * n) (r .b) 0 (omega arith)
+        ∙ getD-set-other one (3 * n + 1) (3 * n) (r .a) 0 (omega arith)
+        ∙ getD-set-same t (3 * n) (r .kind) 0 (omega arith) in
         let a : getD (three t n r) (3 * n + 1) 0 ≡ r .a =
-            getD-set-other two (3 * n + 2) (3 * n + 1) (r .b) 0 (omega arith)
-            ∙ getD-set-same one (3 * n + 1) (r .a) 0 (omega (arith, length-set t (3 * n) (r .kind))) in
+        getD-set-other two (3 * n + 2) (3 * n + 1) (r .b) 0 (omega arith)
+        ∙ getD-set-same one (3 * n + 1) (r .a) 0 (omega (arith, length-set t (3 * n) (r .kind))) in
         let b : getD (three t n r) (3 * n + 2) 0 ≡ r .b =
-            getD-set-same two (3 * n + 2) (r .b) 0
-            (omega (arith, length-set one (3 * n + 1) (r .a), length-set t (3 * n) (r .kind))) in
+        getD-set-same two (3 * n + 2) (r .b) 0
+        (omega (arith, length-set one (3 * n + 1) (r .a), length-set t (3 * n) (r .kind))) in
         λ i. record { kind = kind i; a = a i; b = b i }
 
     pub three-rows : upto (n + 1) (row-at (three t n r)) ≡ upto n (row-at t) ++ (r ∷ [])

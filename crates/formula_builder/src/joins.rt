@@ -1,5 +1,8 @@
 // Joins of two rows, and their folding.
-use crate::{Frame, Size, Step, Words};
+use crate::Frame;
+use crate::Size;
+use crate::Step;
+use crate::Words;
 use crate::rows::row;
 ghost use mathlib.Core.List.{List};
 ghost use mathlib.Core.Path.{_≡_};
@@ -60,5 +63,14 @@ pub fn join(table: &mut [u16], frame: Frame, at: Size, or: bool, a: u16, b: u16)
         return standing(at, a);
     }
     let k = kind(or);
-    row(table, frame, at, Words { kind: k, a: a, b: b })
+    row(
+        table,
+        frame,
+        at,
+        Words {
+            kind: k,
+            a: a,
+            b: b,
+        },
+    )
 }

@@ -3,8 +3,11 @@ mod joins;
 mod rows;
 mod twins;
 
-pub use joins::{join, standing};
-pub use rows::{read_row, row, variable_row};
+pub use joins::join;
+pub use joins::standing;
+pub use rows::read_row;
+pub use rows::row;
+pub use rows::variable_row;
 pub use twins::twin_row;
 
 // A row's three words.

@@ -1,5 +1,8 @@
 // Rows of the formula table.
-use crate::{Frame, Size, Step, Words};
+use crate::Frame;
+use crate::Size;
+use crate::Step;
+use crate::Words;
 ghost use mathlib.Core.Path.{_≡_};
 ghost use mathlib.Core.List.{List};
 ghost use Prim.Native.Nat.{ℕ, _+_, _*_, _≤_, _<_};
@@ -100,5 +103,14 @@ pub fn variable_row(table: &mut [u16], frame: Frame, at: Size, v: u16) -> Step
     requires { ⌜ RowsReady frame (at .rows) (now table) ⌝ }
     ensures { λ s. ⌜ ((o : List ℕ) → Ready frame at (store (now (table .entry)) o) → Builds (variable-row v) frame at (store (now (table .entry)) o) (store (now (table .exit)) o) s) ⌝ }
 {
-    row(table, frame, at, Words { kind: 2, a: v, b: 0 })
+    row(
+        table,
+        frame,
+        at,
+        Words {
+            kind: 2,
+            a: v,
+            b: 0,
+        },
+    )
 }

@@ -1,5 +1,7 @@
 // Twins, and their rows.
-use crate::{Frame, Size, Step};
+use crate::Frame;
+use crate::Size;
+use crate::Step;
 use crate::rows::variable_row;
 ghost use mathlib.Core.Path.{_≡_};
 ghost use Prim.Native.Nat.{ℕ, _≤_};

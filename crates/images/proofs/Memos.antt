@@ -112,8 +112,8 @@ memo-noted frame formulas scratch s p i r h room k m = record { known = known }
         go : Dec (memo-place frame q j ≡ memo-place frame p i) → Known (image-at frame formulas q j) s x
         go (yes same) =
             let now : getD (set scratch (memo-place frame p i) (r + 1)) (memo-place frame q j) 0 ≡ r + 1 =
-                rw same
-                (getD-set-same scratch (memo-place frame p i) (r + 1) 0 (omega (arith, place-within frame p i h))) in
+            rw same
+            (getD-set-same scratch (memo-place frame p i) (r + 1) 0 (omega (arith, place-within frame p i h))) in
             let d : x ≡ r = omega (arith, now, e) in
             rw d (place-once frame (λ q j. Known (image-at frame formulas q j) s r) p q i j h g same k)
         go (no other) =
@@ -253,6 +253,7 @@ images-noted frame formulas at before after scratch scratch' p i r h room x =
     memo e =
         memo-noted frame formulas scratch' (held (size-of r) after) p i (r .row) h room
         (done-known (steady-image-at frame formulas p i) (x .builds .done e)) (x .memo e)
+
     rest :
         (b : Bool) (j : ℕ)
         → 2 * frame .formulas ≤ j

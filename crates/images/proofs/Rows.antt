@@ -55,17 +55,17 @@ known-kind v i k a b r = go (decLt k 8)
     go (yes h) = h
     go (no h) =
         let kinds : List FormulaKind =
-            false-kind
-            ∷ true-kind
-            ∷ variable-kind
-            ∷ not-kind
-            ∷ and-kind
-            ∷ or-kind
-            ∷ implies-kind
-            ∷ equivalent-kind
-            ∷ [] in
+        false-kind
+        ∷ true-kind
+        ∷ variable-kind
+        ∷ not-kind
+        ∷ and-kind
+        ∷ or-kind
+        ∷ implies-kind
+        ∷ equivalent-kind
+        ∷ [] in
         let e : getD kinds k unknown-formula ≡ unknown-formula =
-            List·getD-eq-default kinds unknown-formula {n = k} (omega arith) in
+        List·getD-eq-default kinds unknown-formula {n = k} (omega arith) in
         absurd (rw e at r)
 
 two-operands : (v i k a b : ℕ) → FormulaRule v i (formula-kind k) a b → 4 ≤ k → (a < i) × (b < i)
@@ -105,10 +105,10 @@ module _ (n : ℕ) (a : ℕ) (f g : Formula) where
   unfolding image formula-node formula-kind
   pair-image p k l h =
       let P : ℕ → Type 0 = λ k.
-          4 ≤ k
-          → k < 7
-          → image n p (formula-node (formula-kind k) a f g)
-          ≡ pair (side (sides-by p k .or)) (image n (side (sides-by p k .left)) f) (image n (side (sides-by p k .right)) g) in
+      4 ≤ k
+      → k < 7
+      → image n p (formula-node (formula-kind k) a f g)
+      ≡ pair (side (sides-by p k .or)) (image n (side (sides-by p k .left)) f) (image n (side (sides-by p k .right)) g) in
       by-kind P (λ l h. absurd (omega arith)) (λ l h. absurd (omega arith)) (λ l h. absurd (omega arith))
       (λ l h. absurd (omega arith)) (λ l h. conjunct p) (λ l h. disjunct p) (λ l h. implied p) (λ l h. absurd (omega arith)) k
       (omega arith) l h
@@ -119,12 +119,14 @@ module _ (n : ℕ) (a : ℕ) (f g : Formula) where
           ≡ pair (side (sides-by p 4 .or)) (image n (side (sides-by p 4 .left)) f) (image n (side (sides-by p 4 .right)) g)
       conjunct plain = refl
       conjunct negated = refl
+
       disjunct :
           (p : Polarity)
           → pair (opposite p) (image n p f) (image n p g)
           ≡ pair (side (sides-by p 5 .or)) (image n (side (sides-by p 5 .left)) f) (image n (side (sides-by p 5 .right)) g)
       disjunct plain = refl
       disjunct negated = refl
+
       implied :
           (p : Polarity)
           → pair (opposite p) (image n (opposite p) f) (image n p g)
@@ -164,7 +166,7 @@ module _ (frame : Frame) (formulas scratch : List ℕ) (source : Source frame fo
   unfolding formula-kind
   negated-operand e =
       let r : FormulaRule (frame .variables) i (formula-kind 3) (row-at formulas i .a) (row-at formulas i .b) =
-          rw e at rule-held in
+      rw e at rule-held in
       r .0
 
   module _ (p : Polarity) where

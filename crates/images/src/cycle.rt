@@ -1,14 +1,30 @@
 // The two memoised functions, which call each other, and what they share. Each row is built at most once.
 use crate::Sides;
 use crate::memo::note;
-use crate::operands::{opposite, sides};
-use formula_builder::{Frame, Size, Step, join, read_row, standing, twin_row, variable_row};
+use crate::operands::opposite;
+use crate::operands::sides;
+use formula_builder::Frame;
+use formula_builder::Size;
+use formula_builder::Step;
+use formula_builder::join;
+use formula_builder::read_row;
+use formula_builder::standing;
+use formula_builder::twin_row;
+use formula_builder::variable_row;
 ghost use Rattle.normal_form.specs.Builder.{plain, negated};
 ghost use Rattle.formula_builder.specs.Held.{store, side};
 ghost use Rattle.images.specs.Images.{Asks, AsksPair, Images, image-at, pair-at, equivalent-at};
 
 // The image of formula i.
-pub fn image(formulas: &[u16], i: usize, frame: Frame, at: Size, table: &mut [u16], originals: &mut [u16], scratch: &mut [u16]) -> Step
+pub fn image(
+    formulas: &[u16],
+    i: usize,
+    frame: Frame,
+    at: Size,
+    table: &mut [u16],
+    originals: &mut [u16],
+    scratch: &mut [u16],
+) -> Step
     requires { ⌜ Asks frame (now formulas) at (store (now table) (now originals)) (now scratch) i ⌝ }
     ensures { λ r. ⌜ Images (image-at frame (now (formulas .entry)) plain i) frame (now (formulas .entry)) at (store (now (table .entry)) (now (originals .entry))) (store (now (table .exit)) (now (originals .exit))) (now (scratch .entry)) (now (scratch .exit)) r ⌝ }
 {
@@ -22,7 +38,15 @@ pub fn image(formulas: &[u16], i: usize, frame: Frame, at: Size, table: &mut [u1
 }
 
 // The negated image of formula i.
-pub fn negated_image(formulas: &[u16], i: usize, frame: Frame, at: Size, table: &mut [u16], originals: &mut [u16], scratch: &mut [u16]) -> Step
+pub fn negated_image(
+    formulas: &[u16],
+    i: usize,
+    frame: Frame,
+    at: Size,
+    table: &mut [u16],
+    originals: &mut [u16],
+    scratch: &mut [u16],
+) -> Step
     requires { ⌜ Asks frame (now formulas) at (store (now table) (now originals)) (now scratch) i ⌝ }
     ensures { λ r. ⌜ Images (image-at frame (now (formulas .entry)) negated i) frame (now (formulas .entry)) at (store (now (table .entry)) (now (originals .entry))) (store (now (table .exit)) (now (originals .exit))) (now (scratch .entry)) (now (scratch .exit)) r ⌝ }
 {
@@ -37,7 +61,15 @@ pub fn negated_image(formulas: &[u16], i: usize, frame: Frame, at: Size, table: 
 }
 
 // The image of formula i, which the memo has not, by its kind.
-fn image_of_row(formulas: &[u16], i: usize, frame: Frame, at: Size, table: &mut [u16], originals: &mut [u16], scratch: &mut [u16]) -> Step
+fn image_of_row(
+    formulas: &[u16],
+    i: usize,
+    frame: Frame,
+    at: Size,
+    table: &mut [u16],
+    originals: &mut [u16],
+    scratch: &mut [u16],
+) -> Step
     requires { ⌜ Asks frame (now formulas) at (store (now table) (now originals)) (now scratch) i ⌝ }
     ensures { λ r. ⌜ Images (image-at frame (now (formulas .entry)) plain i) frame (now (formulas .entry)) at (store (now (table .entry)) (now (originals .entry))) (store (now (table .exit)) (now (originals .exit))) (now (scratch .entry)) (now (scratch .exit)) r ⌝ }
 {
@@ -52,13 +84,30 @@ fn image_of_row(formulas: &[u16], i: usize, frame: Frame, at: Size, table: &mut 
         return negated_image(formulas, r.a as usize, frame, at, table, originals, scratch);
     }
     if r.kind < 7 {
-        return pair(formulas, i, sides(r.kind), frame, at, table, originals, scratch);
+        return pair(
+            formulas,
+            i,
+            sides(r.kind),
+            frame,
+            at,
+            table,
+            originals,
+            scratch,
+        );
     }
     equivalent(formulas, i, false, frame, at, table, originals, scratch)
 }
 
 // The negated image of formula i, which the memo has not, by its kind.
-fn negated_image_of_row(formulas: &[u16], i: usize, frame: Frame, at: Size, table: &mut [u16], originals: &mut [u16], scratch: &mut [u16]) -> Step
+fn negated_image_of_row(
+    formulas: &[u16],
+    i: usize,
+    frame: Frame,
+    at: Size,
+    table: &mut [u16],
+    originals: &mut [u16],
+    scratch: &mut [u16],
+) -> Step
     requires { ⌜ Asks frame (now formulas) at (store (now table) (now originals)) (now scratch) i ⌝ }
     ensures { λ r. ⌜ Images (image-at frame (now (formulas .entry)) negated i) frame (now (formulas .entry)) at (store (now (table .entry)) (now (originals .entry))) (store (now (table .exit)) (now (originals .exit))) (now (scratch .entry)) (now (scratch .exit)) r ⌝ }
 {
@@ -73,50 +122,138 @@ fn negated_image_of_row(formulas: &[u16], i: usize, frame: Frame, at: Size, tabl
         return image(formulas, r.a as usize, frame, at, table, originals, scratch);
     }
     if r.kind < 7 {
-        return pair(formulas, i, opposite(sides(r.kind)), frame, at, table, originals, scratch);
+        return pair(
+            formulas,
+            i,
+            opposite(sides(r.kind)),
+            frame,
+            at,
+            table,
+            originals,
+            scratch,
+        );
     }
     equivalent(formulas, i, true, frame, at, table, originals, scratch)
 }
 
 // The two operands of row i, joined: left, right, then the join.
-fn pair(formulas: &[u16], i: usize, s: Sides, frame: Frame, at: Size, table: &mut [u16], originals: &mut [u16], scratch: &mut [u16]) -> Step
+fn pair(
+    formulas: &[u16],
+    i: usize,
+    s: Sides,
+    frame: Frame,
+    at: Size,
+    table: &mut [u16],
+    originals: &mut [u16],
+    scratch: &mut [u16],
+) -> Step
     requires { ⌜ AsksPair frame (now formulas) at (store (now table) (now originals)) (now scratch) i ⌝ }
     ensures { λ r. ⌜ Images (pair-at frame (now (formulas .entry)) i s) frame (now (formulas .entry)) at (store (now (table .entry)) (now (originals .entry))) (store (now (table .exit)) (now (originals .exit))) (now (scratch .entry)) (now (scratch .exit)) r ⌝ }
 {
     let w = read_row(formulas, i);
-    let l = sided(formulas, w.a as usize, s.left, frame, at, table, originals, scratch);
+    let l = sided(
+        formulas,
+        w.a as usize,
+        s.left,
+        frame,
+        at,
+        table,
+        originals,
+        scratch,
+    );
     if l.full {
         return l;
     }
-    let mid = Size { rows: l.rows, twins: l.twins };
-    let r = sided(formulas, w.b as usize, s.right, frame, mid, table, originals, scratch);
+    let mid = Size {
+        rows: l.rows,
+        twins: l.twins,
+    };
+    let r = sided(
+        formulas,
+        w.b as usize,
+        s.right,
+        frame,
+        mid,
+        table,
+        originals,
+        scratch,
+    );
     if r.full {
         return r;
     }
-    join(table, frame, Size { rows: r.rows, twins: r.twins }, s.or, l.row, r.row)
+    join(
+        table,
+        frame,
+        Size {
+            rows: r.rows,
+            twins: r.twins,
+        },
+        s.or,
+        l.row,
+        r.row,
+    )
 }
 
 // (a and b) or (not a and not b), with row i's operands; crossed, (a and not b) or (not a and b).
-fn equivalent(formulas: &[u16], i: usize, crossed: bool, frame: Frame, at: Size, table: &mut [u16], originals: &mut [u16], scratch: &mut [u16]) -> Step
+fn equivalent(
+    formulas: &[u16],
+    i: usize,
+    crossed: bool,
+    frame: Frame,
+    at: Size,
+    table: &mut [u16],
+    originals: &mut [u16],
+    scratch: &mut [u16],
+) -> Step
     requires { ⌜ AsksPair frame (now formulas) at (store (now table) (now originals)) (now scratch) i ⌝ }
     ensures { λ r. ⌜ Images (equivalent-at frame (now (formulas .entry)) i crossed) frame (now (formulas .entry)) at (store (now (table .entry)) (now (originals .entry))) (store (now (table .exit)) (now (originals .exit))) (now (scratch .entry)) (now (scratch .exit)) r ⌝ }
 {
-    let s = Sides { or: false, left: false, right: crossed };
+    let s = Sides {
+        or: false,
+        left: false,
+        right: crossed,
+    };
     let l = pair(formulas, i, s, frame, at, table, originals, scratch);
     if l.full {
         return l;
     }
-    let mid = Size { rows: l.rows, twins: l.twins };
-    let t = Sides { or: false, left: true, right: !crossed };
+    let mid = Size {
+        rows: l.rows,
+        twins: l.twins,
+    };
+    let t = Sides {
+        or: false,
+        left: true,
+        right: !crossed,
+    };
     let r = pair(formulas, i, t, frame, mid, table, originals, scratch);
     if r.full {
         return r;
     }
-    join(table, frame, Size { rows: r.rows, twins: r.twins }, true, l.row, r.row)
+    join(
+        table,
+        frame,
+        Size {
+            rows: r.rows,
+            twins: r.twins,
+        },
+        true,
+        l.row,
+        r.row,
+    )
 }
 
 // The image of formula i, or its negated image.
-fn sided(formulas: &[u16], i: usize, not: bool, frame: Frame, at: Size, table: &mut [u16], originals: &mut [u16], scratch: &mut [u16]) -> Step
+fn sided(
+    formulas: &[u16],
+    i: usize,
+    not: bool,
+    frame: Frame,
+    at: Size,
+    table: &mut [u16],
+    originals: &mut [u16],
+    scratch: &mut [u16],
+) -> Step
     requires { ⌜ Asks frame (now formulas) at (store (now table) (now originals)) (now scratch) i ⌝ }
     ensures { λ r. ⌜ Images (image-at frame (now (formulas .entry)) (side not) i) frame (now (formulas .entry)) at (store (now (table .entry)) (now (originals .entry))) (store (now (table .exit)) (now (originals .exit))) (now (scratch .entry)) (now (scratch .exit)) r ⌝ }
 {

@@ -4,7 +4,8 @@ mod cycle;
 mod memo;
 mod operands;
 
-pub use cycle::{image, negated_image};
+pub use cycle::image;
+pub use cycle::negated_image;
 
 // How a row of two operands is built: joined by "or" or by "and", and whether the left and the right operand are negated.
 pub struct Sides {
