@@ -11,14 +11,14 @@ ghost use Rattle.normal_form.specs.Builder.{join as join-built, falsity as fals
 ghost use Rattle.formula_builder.specs.Held.{store, JoinReady, Ready, Builds, side, done-step};
 
 // The row of false; negated, of true.
-fn falsity(or: bool) -> u16
+pub fn falsity(or: bool) -> u16
     ensures { λ r. ⌜ r ≡ false-row (side or) ⌝ }
 {
     if or { 1 } else { 0 }
 }
 
 // The row of true; negated, of false.
-fn truth(or: bool) -> u16
+pub fn truth(or: bool) -> u16
     ensures { λ r. ⌜ r ≡ true-row (side or) ⌝ }
 {
     if or { 0 } else { 1 }

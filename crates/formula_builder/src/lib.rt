@@ -3,8 +3,10 @@ mod joins;
 mod rows;
 mod twins;
 
+pub use joins::falsity;
 pub use joins::join;
 pub use joins::standing;
+pub use joins::truth;
 pub use rows::read_row;
 pub use rows::row;
 pub use rows::variable_row;
@@ -17,10 +19,11 @@ pub struct Words {
     pub b: u16,
 }
 
-// The source's counts of variables and formulas, and how many rows and twins the compiled task has room for.
+// The source's counts of variables, formulas and effects, and how many rows and twins the compiled task has room for.
 pub struct Frame {
     pub variables: usize,
     pub formulas: usize,
+    pub effects: usize,
     pub rows: usize,
     pub twins: usize,
 }

@@ -88,7 +88,7 @@ place-once frame P plain negated i j h g e x = absurd (omega arith)
 place-once frame P negated plain i j h g e x = absurd (omega arith)
 place-once frame P negated negated i j h g e x = let d : j ≡ i = omega arith in rw d x
 
-place-within :
+pub place-within :
     (frame : Frame) (p : Polarity) (i : ℕ) → i < frame .formulas → memo-place frame p i < 2 * frame .formulas
 place-within frame plain i h = omega arith
 place-within frame negated i h = omega arith

@@ -244,7 +244,7 @@ fn equivalent(
 }
 
 // The image of formula i, or its negated image.
-fn sided(
+pub fn sided(
     formulas: &[u16],
     i: usize,
     not: bool,

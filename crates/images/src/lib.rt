@@ -6,6 +6,8 @@ mod operands;
 
 pub use cycle::image;
 pub use cycle::negated_image;
+pub use cycle::sided;
+pub use memo::note;
 
 // How a row of two operands is built: joined by "or" or by "and", and whether the left and the right operand are negated.
 pub struct Sides {
