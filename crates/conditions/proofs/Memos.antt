@@ -63,7 +63,7 @@ effect-memo-noted frame formulas effects t scratch s e r h room k m = record { k
         go : Dec (j ≡ e) → Known (condition-at frame formulas effects t j) s x
         go (yes same) =
             let now : getD (set scratch (2 * frame .formulas + e) (r + 1)) (2 * frame .formulas + j) 0 ≡ r + 1 =
-                rw same (getD-set-same scratch (2 * frame .formulas + e) (r + 1) 0 room) in
+            rw same (getD-set-same scratch (2 * frame .formulas + e) (r + 1) 0 room) in
             let d : x ≡ r = omega (arith, now, w) in
             rw (d, same) k
         go (no other) =
@@ -266,10 +266,12 @@ conditions-noted frame formulas effects t at before after scratch scratch' e r h
     effect-memo q =
         effect-memo-noted frame formulas effects t scratch' (held (size-of r) after) e (r .row) h room
         (done-known (steady-condition-at frame formulas effects t e) (x .builds .done q)) (x .effect-memo q)
+
     memo : r .full ≡ false → Memo frame formulas (set scratch' (2 * frame .formulas + e) (r .row + 1)) (held (size-of r) after)
     memo q =
         memo-kept (λ j g. getD-set-other scratch' (2 * frame .formulas + e) j (r .row + 1) 0 (λ z. omega (arith, z)))
         (x .memo q)
+
     rest :
         (b : Bool) (j : ℕ)
         → 2 * frame .formulas + e < j

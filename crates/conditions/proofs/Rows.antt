@@ -64,14 +64,14 @@ module _ (frame : Frame) (formulas effects scratch : List ℕ) (source : EffectS
   unfolding effect-kind
   both-lower k =
       let r : EffectRule (frame .variables) (frame .formulas) e (effect-kind 3) (row-at effects e .a) (row-at effects e .b) =
-          rw k at rule-held in
+      rw k at rule-held in
       r
 
   pub under-lower : row-at effects e .kind ≡ 4 → (row-at effects e .a < frame .formulas) × (row-at effects e .b < e)
   unfolding effect-kind
   under-lower k =
       let r : EffectRule (frame .variables) (frame .formulas) e (effect-kind 4) (row-at effects e .a) (row-at effects e .b) =
-          rw k at rule-held in
+      rw k at rule-held in
       r
 
   module _ (t : Target) where
