@@ -1,8 +1,10 @@
 -- Laws of growth: every step of building is steady. Assumes nothing.
-use Prim.Native.Nat.{ℕ, zero, suc, _+_}
+use Prim.Native.Nat.{ℕ, zero, suc, _+_, _<_, _≤_}
+use native.Mathlib.Omega.{arith}
 use mathlib.Core.Path.{_≡_, refl, sym, ap, _∙_}
 use mathlib.Core.Bool.{Bool, true, false, cond}
 use mathlib.Core.List.{List, [], _∷_, _++_, append-nil, append-assoc}
+use lib.ListN.{length, getD, length-append, List·getD-append}
 use lib.Dec.{eqb}
 use borrow.Author.Tests.{eq-eqb}
 use Rattle.task.specs.Table.{Row}
@@ -19,6 +21,15 @@ module _ {A : Type 0} where
         rest = p .rest ++ q .rest;
         whole = q .whole ∙ ap (λ (x : List A). x ++ q .rest) (p .whole) ∙ append-assoc k (p .rest) (q .rest);
       }
+
+  pub longer : (l m : List A) → Prefix l m → length l ≤ length m
+  longer l m p = omega (arith, ap length (p .whole) ∙ length-append l (p .rest))
+
+  pub prefix-below : {l m : List A} → Prefix l m → (k : ℕ) → k < length l → k < length m
+  prefix-below {l} {m} p k h = omega (arith, longer l m p)
+
+  pub prefix-at : (l m : List A) (d : A) (k : ℕ) → Prefix l m → k < length l → getD m k d ≡ getD l k d
+  prefix-at l m d k p h = rw (p .whole) (List·getD-append l (p .rest) d k h)
 
 pub grows-refl : (s : St) → Grows s s
 grows-refl s = record { rows = prefix-refl (s .rows); twins = prefix-refl (s .twins) }

@@ -5,3 +5,5 @@ pub mod Conditions
 pub mod Operators
 pub mod Assembly
 pub mod Finished
+pub mod Positive
+pub mod Flat

@@ -1,5 +1,5 @@
 -- Laws of `every` and `upto`: what a loop over the numbers below a bound needs. Assumes nothing.
-use Prim.Native.Nat.{ℕ, zero, suc, _+_, _<_, _≤_}
+use Prim.Native.Nat.{ℕ, zero, suc, _+_, _-_, _<_, _≤_}
 use native.Mathlib.Nat.{not-suc-le-zero, lt-irrefl}
 use native.Mathlib.Numerals.{add-one}
 use native.Mathlib.Omega.{arith}
@@ -60,6 +60,34 @@ every-fails n test k h e = go (every n test) refl
     go : (b : Bool) → every n test ≡ b → every n test ≡ false
     go false p = p
     go true p = absurd (false≢true (sym e ∙ every-at n test p k h))
+
+-- for a loop that counts down: those from j on pass
+abbrev pub From : ℕ → ℕ → (ℕ → Bool) → Type 0
+From j n test = (k : ℕ) → j ≤ k → k < n → test k ≡ true
+
+pub from-none : (n : ℕ) (test : ℕ → Bool) → From n n test
+from-none n test k l h = absurd (omega arith)
+
+pub from-more : (j n : ℕ) (test : ℕ → Bool) → 0 < j → From j n test → test (j - 1) ≡ true → From (j - 1) n test
+from-more j n test p f e k l h = go (decLt k j)
+  where
+    go : Dec (k < j) → test k ≡ true
+    go (yes m) =
+        let same : k ≡ j - 1 = omega arith in
+        rw same e
+    go (no m) = f k (omega arith) h
+
+pub from-ends : (j n : ℕ) (test : ℕ → Bool) → j ≤ 0 → From j n test → true ≡ every n test
+from-ends j n test z f = sym (every-from n test (λ k h. f k (omega arith) h))
+
+-- how a loop leaves: at a number that fails, or at the bound
+pub every-stops : (n : ℕ) (test : ℕ → Bool) (k : ℕ) → k < n → test k ≡ false → false ≡ every n test
+every-stops n test k h e = sym (every-fails n test k h e)
+
+pub every-ends : (n : ℕ) (test : ℕ → Bool) (k : ℕ) → k ≤ n → n ≤ k → every k test ≡ true → true ≡ every n test
+every-ends n test k p q e =
+    let same : k ≡ n = omega arith in
+    sym (rw same at e)
 
 module _ {A : Type 0} where
   pub length-upto : (n : ℕ) (f : ℕ → A) → length (upto n f) ≡ n

@@ -1,4 +1,6 @@
 pub mod Bounded
+pub mod Refusals
+pub mod Order
 pub mod RowRules
 pub mod Held
 pub mod Passed
@@ -7,3 +9,10 @@ pub mod Words
 pub mod Trees
 pub mod Down
 pub mod Values
+pub mod Marks
+pub mod Marking
+pub mod MarkingLoop
+pub mod Changes
+pub mod Step
+pub mod KindNumbers
+pub mod Ways

@@ -1,6 +1,7 @@
 pub mod Bounded
 pub mod Table
 pub mod Check
+pub mod Tables
 pub mod Rules
 pub mod Semantics
 pub mod Tree

@@ -1,7 +1,9 @@
 -- The tables of a task (01, "The tables"): flat words, as a caller lends them, and rows, as all that follows reads them.
 use Prim.Native.Nat.{ℕ, _+_, _*_}
 use mathlib.Core.List.{List, [], _∷_}
-use lib.ListN.{getD, take}
+use mathlib.Core.Bool.{cond}
+use lib.ListN.{length, getD, take, drop}
+use lib.Dec.{leb}
 use Rattle.task.specs.declared.Head.{Head}
 use Rattle.task.specs.Bounded.{upto}
 
@@ -69,6 +71,14 @@ row-at words i = record { kind = getD words (3 * i) 0; a = getD words (3 * i + 1
 unfoldable pub operator-at : List ℕ → ℕ → Operator
 operator-at words i =
     record { precondition = getD words (3 * i) 0; effect = getD words (3 * i + 1) 0; cost = getD words (3 * i + 2) 0 }
+
+-- A row on request: that part of the lent table, three words; where the row is not wholly inside it, the empty part. Only the range is looked at.
+unfoldable pub row-part : List ℕ → ℕ → List ℕ
+row-part words i = cond (leb (3 * i + 3) (length words)) (take 3 (drop (3 * i) words)) []
+
+-- what a call on tables is lent, from its arguments
+abbrev pub lent : Head → (initial twins formulas effects operators : List ℕ) → Lent
+lent h i w f e o = record { head = h; initial = i; twins = w; formulas = f; effects = e; operators = o }
 
 -- The task that lent tables hold. What is lent beyond the counts does not belong to it.
 unfoldable pub task-of : Lent → Task

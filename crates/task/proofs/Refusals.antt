@@ -1,0 +1,176 @@
+-- Laws of the check's definitions, one for each way out of the functions that are held to them. Assumes nothing.
+use Prim.Native.Nat.{ℕ, zero, suc, _+_, _-_, _*_, _/_, _≤_, _<_}
+use native.Mathlib.Omega.{arith}
+use mathlib.Core.Path.{_≡_, refl, sym, ap, _∙_}
+use mathlib.Core.Bool.{Bool, true, false, not, _&&_, and-false}
+use mathlib.Core.List.{List, []}
+use lib.ListN.{length, getD, take, drop}
+use lib.Dec.{leb, ltb, eqb}
+use borrow.Author.Tests.{lt-ltb, le-ltb, le-leb, lt-leb}
+use Rattle.task.specs.Bounded.{every}
+use Rattle.task.specs.declared.Head.{Head}
+use Rattle.task.specs.declared.Table.{Table}
+use Rattle.task.specs.declared.Table.the-variants.{Formulas, Effects, Operators}
+use Rattle.task.specs.Table.{Lent, formula-kind, effect-kind, row-at, operator-at, row-part}
+use Rattle.task.specs.Tables.{words-kept, row-kept}
+use Rattle.task.specs.Check.{counts-kept, long-enough, twin-kept, formula-words-kept, effect-words-kept}
+use Rattle.task.proofs.Bounded.{and-both}
+
+-- a conjunction fails with either half
+pub fails-left : (a b : Bool) → a ≡ false → (a && b) ≡ false
+fails-left a b p = rw p
+
+pub fails-right : (a b : Bool) → b ≡ false → (a && b) ≡ false
+fails-right a b p = rw p (and-false a)
+
+module _ (bound : ℕ) (twins : List ℕ) (k : ℕ) where
+  pub twin-outside : bound ≤ getD twins k 0 → twin-kept bound twins k ≡ false
+  unfolding twin-kept
+  twin-outside h = fails-left (ltb (getD twins k 0) bound) (every k (λ j. not (eqb (getD twins j 0) (getD twins k 0)))) (le-ltb (getD twins k 0) bound h)
+
+  pub twin-again :
+      every k (λ j. not (eqb (getD twins j 0) (getD twins k 0))) ≡ false → twin-kept bound twins k ≡ false
+  unfolding twin-kept
+  twin-again e = fails-right (ltb (getD twins k 0) bound) (every k (λ j. not (eqb (getD twins j 0) (getD twins k 0)))) e
+
+  pub twin-fine :
+      getD twins k 0 < bound
+      → every k (λ j. not (eqb (getD twins j 0) (getD twins k 0))) ≡ true
+      → twin-kept bound twins k ≡ true
+  unfolding twin-kept
+  twin-fine h e = and-both (lt-ltb (getD twins k 0) bound h) e
+
+-- a formula row by its kind
+module _ (v i a b : ℕ) where
+  abbrev Formula-words : ℕ → Bool
+  Formula-words kind = formula-words-kept v i (formula-kind kind) a b
+
+  pub formula-constant : (kind : ℕ) → kind ≤ 1 → (eqb a 0 && eqb b 0) ≡ Formula-words kind
+  unfolding formula-words-kept formula-kind
+  formula-constant zero h = refl
+  formula-constant (suc zero) h = refl
+  formula-constant (suc (suc n)) h = absurd (omega arith)
+
+  pub formula-variable : (kind : ℕ) → kind ≡ 2 → (ltb a v && eqb b 0) ≡ Formula-words kind
+  unfolding formula-words-kept formula-kind
+  formula-variable kind e = rw e
+
+  pub formula-not : (kind : ℕ) → kind ≡ 3 → (ltb a i && eqb b 0) ≡ Formula-words kind
+  unfolding formula-words-kept formula-kind
+  formula-not kind e = rw e
+
+  pub formula-pair : (kind : ℕ) → 4 ≤ kind → kind ≤ 7 → (ltb a i && ltb b i) ≡ Formula-words kind
+  unfolding formula-words-kept formula-kind
+  formula-pair zero l h = absurd (omega arith)
+  formula-pair (suc zero) l h = absurd (omega arith)
+  formula-pair (suc (suc zero)) l h = absurd (omega arith)
+  formula-pair (suc (suc (suc zero))) l h = absurd (omega arith)
+  formula-pair (suc (suc (suc (suc zero)))) l h = refl
+  formula-pair (suc (suc (suc (suc (suc zero))))) l h = refl
+  formula-pair (suc (suc (suc (suc (suc (suc zero)))))) l h = refl
+  formula-pair (suc (suc (suc (suc (suc (suc (suc zero))))))) l h = refl
+  formula-pair (suc (suc (suc (suc (suc (suc (suc (suc n)))))))) l h = absurd (omega arith)
+
+  pub formula-unknown : (kind : ℕ) → 8 ≤ kind → false ≡ Formula-words kind
+  unfolding formula-words-kept formula-kind
+  formula-unknown zero l = absurd (omega arith)
+  formula-unknown (suc zero) l = absurd (omega arith)
+  formula-unknown (suc (suc zero)) l = absurd (omega arith)
+  formula-unknown (suc (suc (suc zero))) l = absurd (omega arith)
+  formula-unknown (suc (suc (suc (suc zero)))) l = absurd (omega arith)
+  formula-unknown (suc (suc (suc (suc (suc zero))))) l = absurd (omega arith)
+  formula-unknown (suc (suc (suc (suc (suc (suc zero)))))) l = absurd (omega arith)
+  formula-unknown (suc (suc (suc (suc (suc (suc (suc zero))))))) l = absurd (omega arith)
+  formula-unknown (suc (suc (suc (suc (suc (suc (suc (suc n)))))))) l = refl
+
+-- an effect row by its kind
+module _ (v f i a b : ℕ) where
+  abbrev Effect-words : ℕ → Bool
+  Effect-words kind = effect-words-kept v f i (effect-kind kind) a b
+
+  pub effect-empty : (kind : ℕ) → kind ≡ 0 → (eqb a 0 && eqb b 0) ≡ Effect-words kind
+  unfolding effect-words-kept effect-kind
+  effect-empty kind e = rw e
+
+  pub effect-atom : (kind : ℕ) → 1 ≤ kind → kind ≤ 2 → (ltb a v && eqb b 0) ≡ Effect-words kind
+  unfolding effect-words-kept effect-kind
+  effect-atom zero l h = absurd (omega arith)
+  effect-atom (suc zero) l h = refl
+  effect-atom (suc (suc zero)) l h = refl
+  effect-atom (suc (suc (suc n))) l h = absurd (omega arith)
+
+  pub effect-both : (kind : ℕ) → kind ≡ 3 → (ltb a i && ltb b i) ≡ Effect-words kind
+  unfolding effect-words-kept effect-kind
+  effect-both kind e = rw e
+
+  pub effect-under : (kind : ℕ) → kind ≡ 4 → (ltb a f && ltb b i) ≡ Effect-words kind
+  unfolding effect-words-kept effect-kind
+  effect-under kind e = rw e
+
+  pub effect-unknown : (kind : ℕ) → 5 ≤ kind → false ≡ Effect-words kind
+  unfolding effect-words-kept effect-kind
+  effect-unknown zero l = absurd (omega arith)
+  effect-unknown (suc zero) l = absurd (omega arith)
+  effect-unknown (suc (suc zero)) l = absurd (omega arith)
+  effect-unknown (suc (suc (suc zero))) l = absurd (omega arith)
+  effect-unknown (suc (suc (suc (suc zero)))) l = absurd (omega arith)
+  effect-unknown (suc (suc (suc (suc (suc n))))) l = refl
+
+-- a row of any of the three tables is its three words
+pub row-by-words :
+    (t : Table) (h : Head) (words : List ℕ) (i : ℕ)
+    → words-kept t h i (getD words (3 * i) 0) (getD words (3 * i + 1) 0) (getD words (3 * i + 2) 0)
+    ≡ row-kept t h words i
+unfolding row-at operator-at
+row-by-words Formulas h words i = refl
+row-by-words Effects h words i = refl
+row-by-words Operators h words i = refl
+
+-- the last tests of the counts and of the lengths, where those before them passed
+pub counts-last :
+    (h : Head)
+    → h .variables ≤ 512
+    → h .twins + h .twins ≤ h .variables
+    → 1 ≤ h .formulas
+    → h .formulas ≤ 4096
+    → h .effects ≤ 4096
+    → leb (h .operators) 256 ≡ counts-kept h
+unfolding counts-kept
+counts-last h a b c d e =
+    rw (
+      le-leb (h .variables) 512 a,
+      le-leb (h .twins + h .twins) (h .variables) b,
+      le-leb 1 (h .formulas) c,
+      le-leb (h .formulas) 4096 d,
+      le-leb (h .effects) 4096 e,
+    )
+
+pub lengths-last :
+    (l : Lent)
+    → l .head .variables ≤ length (l .initial)
+    → l .head .twins ≤ length (l .twins)
+    → 3 * l .head .formulas ≤ length (l .formulas)
+    → 3 * l .head .effects ≤ length (l .effects)
+    → leb (3 * l .head .operators) (length (l .operators)) ≡ long-enough l
+unfolding long-enough
+lengths-last l a b c d =
+    rw (
+      le-leb (l .head .variables) (length (l .initial)) a,
+      le-leb (l .head .twins) (length (l .twins)) b,
+      le-leb (3 * l .head .formulas) (length (l .formulas)) c,
+      le-leb (3 * l .head .effects) (length (l .effects)) d,
+    )
+
+-- the part that a row is
+pub row-inside :
+    (words : List ℕ) (i : ℕ)
+    → i < length words / 3
+    → take (3 * i + 3 - 3 * i) (drop (3 * i) words) ≡ row-part words i
+unfolding row-part
+row-inside words i h =
+    let three : 3 * i + 3 - 3 * i ≡ 3 = omega arith in
+    rw (le-leb (3 * i + 3) (length words) (omega arith), three)
+
+pub row-outside : (words : List ℕ) (i : ℕ) → length words / 3 ≤ i → [] ≡ row-part words i
+unfolding row-part
+row-outside words i h = rw (lt-leb (3 * i + 3) (length words) (omega arith))

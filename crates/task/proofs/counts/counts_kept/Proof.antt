@@ -1,0 +1,58 @@
+use Rattle.task.proofs.Refusals.{counts-last}
+use mathlib.Core.Path.{refl}
+use mathlib.Core.Bool.{and-false}
+use borrow.Author.Tests.{lt-leb, le-leb}
+use Rattle.task.specs.Check.{counts-kept}
+use borrow.Author.Needs.{needs}
+use Rattle.task.proofs.counts.counts_kept.Statement.{statement}
+use Rattle.task.proofs.counts.counts_kept.Tie as tie
+
+returns : tie.Need-returns
+unfolding counts-kept
+returns c = simp (lt-leb _ _ (c .if1 .taken))
+
+cast-if2 : tie.Need-cast-if2
+cast-if2 c = search needs
+
+cast-if2-2 : tie.Need-cast-if2-2
+cast-if2-2 c = search needs
+
+cast-if2-3 : tie.Need-cast-if2-3
+cast-if2-3 c = search needs
+
+add-if2 : tie.Need-add-if2
+add-if2 c = search needs
+
+returns-2 : tie.Need-returns-2
+unfolding counts-kept
+returns-2 c = simp (lt-leb _ _ (c .if2 .taken), and-false)
+
+returns-3 : tie.Need-returns-3
+unfolding counts-kept
+returns-3 c = simp (lt-leb _ _ (c .if3 .taken), and-false)
+
+returns-4 : tie.Need-returns-4
+unfolding counts-kept
+returns-4 c = simp (lt-leb _ _ (c .if4 .taken), and-false)
+
+returns-5 : tie.Need-returns-5
+unfolding counts-kept
+returns-5 c = simp (lt-leb _ _ (c .if5 .taken), and-false)
+
+returns-6 : tie.Need-returns-6
+returns-6 c = counts-last _ (c .before .before .before .before .before .before .before .before .before .before .before .if1 .left) (c .before .before .before .before .before .before .before .if2 .left) (c .before .before .before .before .before .if3 .left) (c .before .before .before .if4 .left) (c .before .if5 .left)
+
+pub counts-kept-spec : {M : Type 1} → statement M
+counts-kept-spec =
+    tie.close
+    (tie.spec
+    returns
+    cast-if2
+    cast-if2-2
+    cast-if2-3
+    add-if2
+    returns-2
+    returns-3
+    returns-4
+    returns-5
+    returns-6)

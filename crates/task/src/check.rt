@@ -1,0 +1,138 @@
+// The check of lent tables: 0, or the scope's first number in order.
+ghost use Prim.Native.Nat.{ℕ, _*_, _≤_, _<_};
+ghost use mathlib.Core.Path.{_≡_};
+ghost use mathlib.Core.Bool.{not};
+ghost use lib.ListN.{length, getD};
+ghost use lib.Dec.{leb, eqb};
+ghost use Rattle.task.specs.Bounded.{every};
+ghost use Rattle.task.specs.Table.{lent};
+ghost use Rattle.task.specs.Check.{twin-kept, refusal};
+ghost use Rattle.task.specs.Tables.{words-kept, row-kept};
+use crate::Head;
+use crate::Table;
+
+// Whether the first `count` bytes are 0 or 1. Linear.
+fn bits_kept(initial: &[u8], count: usize) -> bool
+    requires { ⌜ count ≤ length (now initial) ⌝ }
+    ensures { λ r. ⌜ r ≡ every count (λ v. leb (getD (now (initial .entry)) v 0) 1) ⌝ }
+{
+    let mut v = 0;
+    while v < count {
+        if 1 < initial[v] {
+            return false;
+        }
+        v += 1;
+    }
+    true
+}
+
+// Whether no twin row before k names what row k names. Linear in k.
+fn named_first(twins: &[u16], k: usize) -> bool
+    requires { ⌜ k < length (now twins) ⌝ }
+    ensures { λ r. ⌜ r ≡ every k (λ j. not (eqb (getD (now (twins .entry)) j 0) (getD (now (twins .entry)) k 0))) ⌝ }
+{
+    let original = twins[k];
+    let mut j = k;
+    while 0 < j {
+        if twins[j - 1] == original {
+            return false;
+        }
+        j -= 1;
+    }
+    true
+}
+
+// Whether each twin row names a variable below `bound` that no row before it names. Quadratic in the count, which is at most 256.
+fn twins_kept(twins: &[u16], count: usize, bound: usize) -> bool
+    requires { ⌜ count ≤ length (now twins) ⌝ }
+    ensures { λ r. ⌜ r ≡ every count (twin-kept bound (now (twins .entry))) ⌝ }
+{
+    let mut k = 0;
+    while k < count {
+        if bound <= twins[k] as usize {
+            return false;
+        }
+        if !named_first(twins, k) {
+            return false;
+        }
+        k += 1;
+    }
+    true
+}
+
+// Whether row i of a table keeps its rule. Constant time.
+fn row_kept(table: Table, head: Head, i: usize, first: u16, second: u16, third: u16) -> bool
+    ensures { λ r. ⌜ r ≡ words-kept table head i first second third ⌝ }
+{
+    let variables = head.variables as usize;
+    let formulas = head.formulas as usize;
+    match table {
+        Table::Formulas => crate::rows::formula_kept(variables, i, first, second, third),
+        Table::Effects => crate::rows::effect_kept(variables, formulas, i, first, second, third),
+        Table::Operators => crate::rows::operator_kept(
+            formulas,
+            head.effects as usize,
+            first,
+            second,
+            third,
+        ),
+    }
+}
+
+// Whether the first `count` rows of a table keep their rule. Linear.
+fn rows_kept(table: Table, head: Head, words: &[u16], count: usize) -> bool
+    requires { ⌜ 3 * count ≤ length (now words) ⌝ }
+    ensures { λ r. ⌜ r ≡ every count (row-kept table head (now (words .entry))) ⌝ }
+{
+    let mut i = 0;
+    while i < count {
+        let at = 3 * i;
+        if !row_kept(table, head, i, words[at], words[at + 1], words[at + 2]) {
+            return false;
+        }
+        i += 1;
+    }
+    true
+}
+
+// 0, or the first number in order: 6, 7, 5, 8, 9, 10, 11, 12. Nothing is written. Linear in the counts, but for W × W of the twins.
+pub fn check(
+    head: Head,
+    initial: &[u8],
+    twins: &[u16],
+    formulas: &[u16],
+    effects: &[u16],
+    operators: &[u16],
+) -> u16
+    ensures { λ r. ⌜ r ≡ refusal (lent head (now (initial .entry)) (now (twins .entry)) (now (formulas .entry)) (now (effects .entry)) (now (operators .entry))) ⌝ }
+{
+    if !crate::counts::counts_kept(head) {
+        return 6;
+    }
+    if !crate::counts::goal_kept(head) {
+        return 7;
+    }
+    if !crate::lengths::long_enough(head, initial, twins, formulas, effects, operators) {
+        return 5;
+    }
+    if !bits_kept(initial, head.variables as usize) {
+        return 8;
+    }
+    if !twins_kept(
+        twins,
+        head.twins as usize,
+        head.variables as usize - head.twins as usize,
+    ) {
+        return 9;
+    }
+    if !rows_kept(Table::Formulas, head, formulas, head.formulas as usize) {
+        return 10;
+    }
+    if !rows_kept(Table::Effects, head, effects, head.effects as usize) {
+        return 11;
+    }
+    if !rows_kept(Table::Operators, head, operators, head.operators as usize) {
+        return 12;
+    }
+    0
+}

@@ -1,0 +1,67 @@
+// Rows of three words: the part of a table that a row is, and the rule that a row keeps.
+ghost use mathlib.Core.Path.{_≡_};
+ghost use mathlib.Core.Bool.{_&&_};
+ghost use Rattle.task.specs.Table.{row-part, formula-kind, effect-kind};
+ghost use Rattle.task.specs.Check.{formula-words-kept, effect-words-kept, operator-kept};
+
+// Row `number` as that part of the caller's table, or the empty part where the table does not hold all of it. Every number is fine.
+// Constant time; nothing is copied.
+pub fn row(table: &[u16], number: usize) -> &[u16]
+    ensures { λ r. ⌜ now r ≡ row-part (now (table .entry)) number ⌝ }
+{
+    if number < table.len() / 3 {
+        let start = 3 * number;
+        let end = start + 3;
+        &table[start..end]
+    } else {
+        &table[0..0]
+    }
+}
+
+fn both(x: bool, y: bool) -> bool
+    ensures { λ r. ⌜ r ≡ (x && y) ⌝ }
+{
+    if x { y } else { false }
+}
+
+// Whether the words of formula row i are right. Constant time, as are the two below.
+pub fn formula_kept(variables: usize, i: usize, kind: u16, a: u16, b: u16) -> bool
+    ensures { λ r. ⌜ r ≡ formula-words-kept variables i (formula-kind kind) a b ⌝ }
+{
+    match kind {
+        0 | 1 => both(a == 0, b == 0),
+        2 => both((a as usize) < variables, b == 0),
+        3 => both((a as usize) < i, b == 0),
+        4 | 5 | 6 | 7 => both((a as usize) < i, (b as usize) < i),
+        _ => false,
+    }
+}
+
+// Whether the words of effect row i are right.
+pub fn effect_kept(variables: usize, formulas: usize, i: usize, kind: u16, a: u16, b: u16) -> bool
+    ensures { λ r. ⌜ r ≡ effect-words-kept variables formulas i (effect-kind kind) a b ⌝ }
+{
+    match kind {
+        0 => both(a == 0, b == 0),
+        1 | 2 => both((a as usize) < variables, b == 0),
+        3 => both((a as usize) < i, (b as usize) < i),
+        4 => both((a as usize) < formulas, (b as usize) < i),
+        _ => false,
+    }
+}
+
+// Whether an operator's precondition and effect are rows of their tables.
+pub fn operator_kept(
+    formulas: usize,
+    effects: usize,
+    precondition: u16,
+    effect: u16,
+    cost: u16,
+) -> bool
+    ensures { λ r. ⌜ r ≡ operator-kept formulas effects (record { precondition = precondition; effect = effect; cost = cost }) ⌝ }
+{
+    both(
+        (precondition as usize) < formulas,
+        (effect as usize) < effects,
+    )
+}

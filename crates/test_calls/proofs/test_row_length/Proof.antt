@@ -1,0 +1,14 @@
+use mathlib.Core.Path.{ap}
+use lib.ListN.{length}
+use borrow.Author.Needs.{needs}
+use Rattle.test_calls.proofs.test_row_length.Statement.{statement}
+use Rattle.test_calls.proofs.test_row_length.Tie as tie
+
+row-requires : tie.Need-row-requires
+row-requires c κs = search needs
+
+returns : tie.Need-returns
+returns c = ap length (c .row .ensures)
+
+pub test-row-length-spec : {M : Type 1} → statement M
+test-row-length-spec = tie.close (tie.spec row-requires returns)

@@ -1,0 +1,18 @@
+//! Differential tests: the library against the other implementation.
+//!
+//! Arguments: `[--seed N] [GROUP ...]`.
+
+mod calls;
+mod edges;
+mod random_tables;
+mod rows;
+mod tables;
+
+fn main() {
+    let mut tests = Vec::new();
+    tests.extend(tables::tests());
+    tests.extend(edges::tests());
+    tests.extend(random_tables::tests());
+    tests.extend(rows::tests());
+    std::process::exit(saqwillo_tests::harness::run(&tests));
+}

@@ -1,0 +1,19 @@
+//! Another implementation of document 01, written from its text alone and
+//! sharing no code with the library that it is compared with.
+
+pub mod atoms;
+pub mod builder;
+pub mod by_hand;
+pub mod check;
+pub mod compile;
+pub mod damage;
+pub mod draft;
+pub mod examples;
+pub mod file;
+pub mod generate;
+pub mod harness;
+pub mod print;
+pub mod random;
+pub mod semantics;
+pub mod shrink;
+pub mod task;
