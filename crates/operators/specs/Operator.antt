@@ -11,7 +11,8 @@ use Rattle.formula_builder.specs.declared.Size.{Size}
 use Rattle.formula_builder.specs.Held.{Store}
 use Rattle.images.specs.Images.{image-at}
 use Rattle.conditions.specs.Conditions.{effect-tree}
-use Rattle.changes.specs.Stands.{StandsAt}
+use Rattle.task.specs.Table.{row-at}
+use Rattle.changes.specs.Stands.{Stands, StandsAt}
 use Rattle.touched.specs.Touched.{Untouched}
 
 -- the changes of the variables below v
@@ -35,3 +36,19 @@ pub record WalksAll (frame : Frame) (formulas effects touched : List ℕ) (at : 
 pub record BuildsOperator (frame : Frame) (formulas effects : List ℕ) (at : Size) (s : Store) (scratch : List ℕ) (p e : ℕ) : Type 0 where
   pub stands : StandsAt frame formulas effects at s scratch e
   pub formula : p < frame .formulas
+
+-- operator o: the first two words of its row are its precondition and its effect
+unfoldable pub operator-here : Frame → List ℕ → List ℕ → List ℕ → ℕ → Build (List Changes)
+operator-here frame formulas effects operators o =
+    operator-built frame formulas effects (row-at operators o .kind) (row-at operators o .a)
+
+-- the first n operators
+unfoldable pub operators-built : Frame → List ℕ → List ℕ → List ℕ → ℕ → Build (List (List Changes))
+operators-built frame formulas effects operators n = each n (operator-here frame formulas effects operators)
+
+pub record BuildsAll (frame : Frame) (formulas effects operators : List ℕ) (count : ℕ) (at : Size) (s : Store) (scratch : List ℕ) : Type 0 where
+  pub stands : Stands frame formulas effects at s scratch
+  pub words : 3 * count ≤ length operators
+  pub limit : count ≤ 256
+  pub precondition : (o : ℕ) → o < count → row-at operators o .kind < frame .formulas
+  pub effect : (o : ℕ) → o < count → row-at operators o .a < frame .effects
