@@ -1,5 +1,5 @@
 -- Demands 1 and 2, of task files: a file is accepted exactly if it is a task's, and reading and writing undo each other. The contract of
--- `task_file::read::read` cites `read-outcome`, that of `task_file::write::write` cites `write-outcome`; here `reading` is what is read of the bytes.
+-- `task_file::read::read` cites `read-outcome`, that of `task_writer::write::write` cites `write-outcome`; here `reading` is what is read of the bytes.
 use Prim.Native.Nat.{ℕ, suc, _≤_, _<_}
 use native.Mathlib.Omega.{arith}
 use mathlib.Core.Path.{_≡_, sym}
@@ -10,13 +10,13 @@ use Rattle.task.specs.Table.{Lent, Task, lent, task-of}
 use Rattle.task.specs.Check.{refusal}
 use Rattle.task.specs.Rules.{Rules}
 use Rattle.task.specs.Words.{head-of}
-use Rattle.task_file.specs.Bytes.{file-of}
-use Rattle.task_file.specs.Reading.{Lengths, Room, accepted, rejected, reading}
+use Rattle.file_format.specs.Bytes.{file-of}
+use Rattle.file_format.specs.Reading.{Lengths, Room, accepted, rejected, reading}
 use Rattle.task_file.specs.Outcome.{outcome-of, read-outcome}
-use Rattle.task_file.specs.Writing.{file-outcome, write-outcome}
-use Rattle.task_file.proofs.Parse.{Bytes}
-use Rattle.task_file.proofs.RoundTrip.{read-written, written-read, cut-short, bytes-follow, apart}
-use Rattle.task_file.proofs.Calls.{read-after-write, write-after-read}
+use Rattle.task_writer.specs.Writing.{file-outcome, write-outcome}
+use Rattle.file_format.proofs.Parse.{Bytes}
+use Rattle.file_format.proofs.RoundTrip.{read-written, written-read, cut-short, bytes-follow, apart}
+use Rattle.task_writer.proofs.Calls.{read-after-write, write-after-read}
 use Rattle.claims.specs.Statements.{OfBytes}
 
 of-bytes : (file : List ℕ) → ((i : ℕ) → i < length file → getD file i 0 < 256) → Bytes file

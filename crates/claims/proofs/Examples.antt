@@ -15,9 +15,9 @@ use Rattle.normal_form.specs.Operators.{deletes-of, changes-of, built-operator,
 use Rattle.normal_form.specs.Assembly.{rule, with-twin, rules-of, rules, atom-row, rule-rows, write-rule, write-rules, assemble-operator, assemble, unassembled}
 use Rattle.normal_form.specs.Finished.{built, assembled, twin-values, finished}
 use Rattle.normal_form.specs.Compiled.{scratch-kept, has-room, fits, compile-refusal, padded, nothing-given, task-given, outcome-by, compiling}
-use Rattle.task_file.specs.Parse.{next, kept as kept-value, byte-read, word-read, field-read, fields-read, mapped-read, table-read}
-use Rattle.task_file.specs.Bytes.{bytes-for}
-use Rattle.task_file.specs.Reading.{room, head-read, head-kept, bit-of, spare-clear, initial-read, twin-read, row-read, formula-read, effect-read, operator-fields-read, operator-read, tables-read, task-read, at-end, reading}
+use Rattle.file_format.specs.Parse.{next, kept as kept-value, byte-read, word-read, field-read, fields-read, mapped-read, table-read}
+use Rattle.file_format.specs.Bytes.{bytes-for}
+use Rattle.file_format.specs.Reading.{room, head-read, head-kept, bit-of, spare-clear, initial-read, twin-read, row-read, formula-read, effect-read, operator-fields-read, operator-read, tables-read, task-read, at-end, reading}
 use Rattle.plan.specs.Outcome.{state-kept, scratch-kept as run-scratch-kept, sequence-kept, early-refusal, run-refusal, run-refused, end-of, run-answer, run-told, run-by, ran}
 use Rattle.claims.specs.Examples.{outcome, Example, table}
 

@@ -1,17 +1,16 @@
 -- The second pass, moment by moment: the tables before each operator, and that no moment has more effect rows than the finished task. So whoever
 -- stops at the first rule without room is right that the finished task has none. Assumes nothing.
-use Prim.Native.Nat.{ℕ, zero, suc, _+_, _-_, _*_, _≤_, _<_}
+use Prim.Native.Nat.{ℕ, _+_, _≤_, _<_}
 use native.Mathlib.Numerals.{add-one}
 use native.Mathlib.Omega.{arith}
 use mathlib.Core.Path.{_≡_, refl, sym, ap, _∙_}
 use mathlib.Core.Bool.{Bool, true, false, cond}
 use mathlib.Core.List.{List, [], _∷_, _++_, append-assoc}
-use lib.ListN.{length, getD, take, drop, replicate, take-append-drop}
+use lib.ListN.{length, take, drop, take-append-drop}
 use lib.Seq.{take-all, take-suc}
 use lib.Dec.{eqb, ltb}
 use borrow.Author.Tests.{eq-eqb}
-use Rattle.task.specs.Table.{Row, Task}
-use Rattle.task.specs.Semantics.{sets, clears}
+use Rattle.task.specs.Table.{Task}
 use Rattle.normal_form.specs.Builder.{place}
 use Rattle.normal_form.specs.Growth.{Prefix}
 use Rattle.normal_form.specs.Operators.{Changes, Built}

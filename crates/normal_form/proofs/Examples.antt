@@ -2,7 +2,8 @@
 use Prim.Native.Nat.{ℕ}
 use mathlib.Core.Path.{_≡_, refl}
 use mathlib.Core.List.{[], _∷_}
-use Rattle.task.specs.Table.{Row, Operator, Task, formula-kind, effect-kind}
+use Rattle.task.specs.Bounded.{upto}
+use Rattle.task.specs.Table.{Row, Operator, Lent, Task, formula-kind, effect-kind, row-at, operator-at, task-of}
 use Rattle.task.specs.Tree.{formula-node, formula-within, formula-of, effect-node, effect-within, effect-of}
 use Rattle.task.specs.Run.{operator-of, effect-of-operator}
 use Rattle.normal_form.specs.Builder.{give, bind, each, place, kept, same-row, row, twin, variable-row, twin-row, start, choice, joined, join, pair}
@@ -12,10 +13,10 @@ use Rattle.normal_form.specs.Operators.{deletes-of, changes-of, built-op
 use Rattle.normal_form.specs.Assembly.{rule, with-twin, rules-of, rules, atom-row, rule-rows, write-rule, write-rules, assemble-operator, assemble, unassembled}
 use Rattle.normal_form.specs.Finished.{built, assembled, twin-values, finished}
 
-abbrev words : ℕ → ℕ → ℕ → Row
+abbrev pub words : ℕ → ℕ → ℕ → Row
 words k a b = record { kind = k; a = a; b = b }
 
-abbrev operator : ℕ → ℕ → ℕ → Operator
+abbrev pub operator : ℕ → ℕ → ℕ → Operator
 operator p e c = record { precondition = p; effect = e; cost = c }
 
 -- finished, computed
@@ -26,6 +27,45 @@ unfolding
     deletes-of changes-of built-operator parts rule with-twin rules-of rules atom-row rule-rows write-rule write-rules assemble-operator
     assemble unassembled built assembled twin-values finished
 result t = finished t
+
+-- The whole example, for the outcomes in ExamplesCompiled. Formulas v0; v1; not 0; not 1; 0 and 3. Effects set v0; clear v1; 1 under 1; both 0 and 2. Operator (2, 3, cost 3). Goal 4.
+abbrev pub source : Lent
+source =
+    record {
+      head = record { variables = 2; twins = 0; formulas = 5; effects = 4; operators = 1; goal = 4 };
+      initial = 0 ∷ 1 ∷ [];
+      twins = [];
+      formulas = 2 ∷ 0 ∷ 0 ∷ 2 ∷ 1 ∷ 0 ∷ 3 ∷ 0 ∷ 0 ∷ 3 ∷ 1 ∷ 0 ∷ 4 ∷ 0 ∷ 3 ∷ [];
+      effects = 1 ∷ 0 ∷ 0 ∷ 2 ∷ 1 ∷ 0 ∷ 4 ∷ 1 ∷ 1 ∷ 3 ∷ 0 ∷ 2 ∷ [];
+      operators = 2 ∷ 3 ∷ 3 ∷ [];
+    }
+
+pub whole :
+    finished (task-of source)
+    ≡ record {
+      initial = 0 ∷ 1 ∷ 1 ∷ 0 ∷ [];
+      originals = 0 ∷ 1 ∷ [];
+      formulas =
+          words 0 0 0 ∷ words 1 0 0 ∷ words 2 2 0 ∷ words 2 1 0 ∷ words 2 0 0 ∷ words 2 3 0 ∷ words 4 4 5 ∷ [];
+      effects =
+          words 0 0 0
+          ∷ words 1 0 0
+          ∷ words 4 1 1
+          ∷ words 2 2 0
+          ∷ words 4 1 3
+          ∷ words 3 2 4
+          ∷ words 2 1 0
+          ∷ words 4 3 6
+          ∷ words 3 5 7
+          ∷ words 1 3 0
+          ∷ words 4 3 9
+          ∷ words 3 8 10
+          ∷ [];
+      operators = operator 2 11 3 ∷ [];
+      goal = 6;
+    }
+unfolding result task-of upto row-at operator-at
+whole = refl
 
 -- the smallest: goal true, no variables, effects or operators
 pub smallest :

@@ -28,3 +28,5 @@ pub mod Examples
 pub mod Compiled
 pub mod Padded
 pub mod Assembling
+pub mod Over
+pub mod ExamplesCompiled

@@ -2,8 +2,8 @@
 use Prim.Native.Nat.{ℕ, suc, _+_, _-_, _≤_, _<_}
 use native.Mathlib.Numerals.{add-one}
 use native.Mathlib.Omega.{arith}
-use mathlib.Core.Path.{_≡_, refl, sym, ap, ap₂, _∙_}
-use mathlib.Core.List.{List, [], _∷_, _++_, map}
+use mathlib.Core.Path.{_≡_, refl, sym, ap, _∙_}
+use mathlib.Core.List.{List, _++_}
 use lib.ListN.{length, getD, take, drop, set, length-map, length-set}
 use lib.Seq.{length-take-le, take-all, take-at, take-suc, drop-cons, drop-append-add, drop-drop, getD-take, append-snoc, set-at, paste, paste-zero, paste-suc}
 use Rattle.normal_form.specs.Finished.{twin-values}

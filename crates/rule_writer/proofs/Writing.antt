@@ -4,7 +4,7 @@ use Prim.Native.Nat.{ℕ, _+_, _*_, _≤_, _<_}
 use native.Mathlib.Omega.{arith}
 use mathlib.Core.Path.{_≡_, refl, sym, ap, ap₂, _∙_}
 use mathlib.Core.Bool.{Bool, true, false, not, cond, true≢false}
-use mathlib.Core.List.{List, [], _∷_, _++_, append-assoc}
+use mathlib.Core.List.{List, [], _∷_, _++_, append-assoc, append-nil}
 use lib.ListN.{length, take, replicate, length-append, length-set, length-replicate}
 use lib.Seq.{length-take-le}
 use lib.Dec.{eqb, ltb}
@@ -13,12 +13,15 @@ use Rattle.task.specs.Table.{Row, Operator}
 use Rattle.task.specs.Semantics.{sets, clears}
 use Rattle.task.specs.Words.{words-of}
 use Rattle.normal_form.specs.Builder.{place}
-use Rattle.normal_form.specs.Assembly.{Rule, rule, with-twin, rules-of, Written, atom-row, rule-rows, write-rule, write-rules, unassembled}
+use Rattle.normal_form.specs.Operators.{Changes}
+use Rattle.normal_form.specs.Assembly.{Rule, rule, with-twin, rules-of, rules, Written, atom-row, rule-rows, write-rule, write-rules, unassembled}
 use Rattle.normal_form.specs.Compiled.{padded}
+use Rattle.normal_form.proofs.Assembling.{rules-none}
 use Rattle.normal_form.proofs.Growth.{longer}
 use Rattle.normal_form.proofs.Padded.{padded-empty, three, padded-row, padded-operator}
 use Rattle.normal_form.proofs.ShapeAssembled.{unwritten}
 use Rattle.normal_form.proofs.ShapeCounts.{first-length, next-length, rules-split}
+use Rattle.normal_form.proofs.ShapeRules.{rules-snoc}
 use Rattle.normal_form.proofs.ShapeWritten.{rules-prefix}
 use Rattle.rule_writer.specs.declared.Chain.{Chain}
 use Rattle.rule_writer.specs.declared.Rule.{Rule as CodeRule}
@@ -366,3 +369,20 @@ changes-written frame originals k c h e =
 
     made : (p count : ℕ) → List Rule
     made p count = rule (c .adds) (sets v) ++ (of-twin p count (c .adds) false ++ made-clear p count)
+
+-- An operator's variables, one after another: v's rules behind those of the variables before it; none if it is neither set nor cleared.
+module _ (n : ℕ) (twins : List ℕ) (cs : List Changes) (c : Changes) {room : ℕ} {at a : Chain} {before mid : List ℕ} where
+  pub writes-variable :
+      {r : Chain} {after : List ℕ}
+      → Writes (rules n twins cs) room at before mid a
+      → Writes (rules-of n twins c) room a mid after r
+      → Writes (rules n twins (cs ++ (c ∷ []))) room at before after r
+  writes-variable x y = writes-as (rules-snoc n twins cs c) (writes-both x y)
+
+  pub writes-past :
+      c .adds ≡ 0
+      → c .deletes ≡ 0
+      → Writes (rules n twins cs) room at before mid a
+      → Writes (rules n twins (cs ++ (c ∷ []))) room at before mid a
+  writes-past p q x =
+      writes-as (rules-snoc n twins cs c ∙ rw (rules-none n twins c p q) (append-nil (rules n twins cs))) x

@@ -9,8 +9,6 @@ ghost use mathlib.Core.Path.{_≡_};
 ghost use mathlib.Core.Bool.{true};
 ghost use Prim.Native.Nat.{_+_, _*_, _≤_};
 ghost use lib.ListN.{length, take};
-ghost use lib.Dec.{eqb};
-ghost use Rattle.normal_form.specs.Builder.{place};
 ghost use Rattle.normal_form.specs.Assembly.{rules-of};
 ghost use Rattle.rule_writer.specs.Writes.{kind-of, changes-in, alone, rule-in, twin-rule-in, opposed-in, two-rows, Ready, FrameReady, First, Next, Writes};
 

@@ -9,8 +9,8 @@ use Rattle.task.specs.Table.{Row, Operator, Task}
 use Rattle.task.specs.Words.{words-of, operator-words}
 use Rattle.task_file.specs.declared.Place.{Place}
 use Rattle.task_file.specs.declared.Place.the-variants.{At, Nowhere}
-use Rattle.task_file.specs.Parse.{Parsed, parsed, refused, next, table-read}
-use Rattle.task_file.specs.Reading.{initial-read, twin-read, formula-read, effect-read, operator-read, tables-read}
+use Rattle.file_format.specs.Parse.{Parsed, parsed, refused, next, table-read}
+use Rattle.file_format.specs.Reading.{initial-read, twin-read, formula-read, effect-read, operator-read, tables-read}
 use Rattle.task_file.specs.Tables.{words-read}
 use Rattle.task_file.specs.Answers.{ReadPart, place-told}
 use Rattle.task_file.specs.Filling.{RowTables, rows-behind, AllTables, all-behind, all-words, part-told, RowsFilled, AllFilled}

@@ -9,8 +9,8 @@ use lib.Dec.{ltb, leb}
 use borrow.Author.Tests.{le-ltb, lt-ltb, le-leb}
 use Rattle.task.specs.declared.Head.{Head}
 use Rattle.task.specs.Check.{counts-kept, goal-kept}
-use Rattle.task_file.specs.Parse.{Parsed, parsed, refused, next, kept, byte-read, field-read, fields-read, mapped-read}
-use Rattle.task_file.specs.Reading.{Lengths, room, head-clear, head-from, head-read, head-kept}
+use Rattle.file_format.specs.Parse.{Parsed, parsed, refused, next, kept, byte-read, field-read, fields-read, mapped-read}
+use Rattle.file_format.specs.Reading.{Lengths, room, head-clear, head-from, head-read, head-kept}
 use Rattle.task_file.proofs.Places.{byte-ends, byte-here}
 
 -- three fields, and then the others

@@ -1,12 +1,3 @@
-pub mod Parse
-pub mod Fields
-pub mod Table
-pub mod Rows
-pub mod Initial
-pub mod Tables
-pub mod Whole
-pub mod RoundTrip
-pub mod Smallest
 pub mod Places
 pub mod RowWords
 pub mod Loops
@@ -16,7 +7,3 @@ pub mod HeadWays
 pub mod Zeros
 pub mod FillWays
 pub mod ReadWays
-pub mod Puts
-pub mod PutLoops
-pub mod WriteWays
-pub mod Calls

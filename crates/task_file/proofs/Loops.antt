@@ -13,8 +13,8 @@ use Rattle.task.specs.declared.Table.{Table}
 use Rattle.task.specs.declared.Table.the-variants.{Formulas, Effects, Operators}
 use Rattle.task.specs.Words.{joined, row-words, operator-row-words, words-of, operator-words}
 use Rattle.task.proofs.Words.{joined-append}
-use Rattle.task_file.specs.Parse.{Parsed, parsed, refused, next, table-read}
-use Rattle.task_file.specs.Reading.{row-read, operator-fields-read, formula-read, effect-read, operator-read}
+use Rattle.file_format.specs.Parse.{Parsed, parsed, refused, next, table-read}
+use Rattle.file_format.specs.Reading.{row-read, operator-fields-read, formula-read, effect-read, operator-read}
 use Rattle.task_file.specs.Tables.{kept-words-read, words-read}
 use Rattle.task_file.specs.declared.Place.{Place}
 use Rattle.task_file.specs.declared.Place.the-variants.{At, Nowhere}

@@ -10,7 +10,7 @@ use lib.ListN.{length, getD, drop, drop-of-length-le}
 use lib.Seq.{drop-cons}
 use lib.Dec.{ltb}
 use borrow.Author.Tests.{le-ltb, lt-ltb}
-use Rattle.task_file.specs.Parse.{Parsed, parsed, refused, next, kept, byte-read, word-read, field-read, fields-read}
+use Rattle.file_format.specs.Parse.{Parsed, parsed, refused, next, kept, byte-read, word-read, field-read, fields-read}
 
 -- nothing stands behind the end
 pub byte-ends : (file : List ℕ) (at : ℕ) → length file ≤ at → byte-read (drop at file) ≡ refused 1

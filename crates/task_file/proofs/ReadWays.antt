@@ -18,14 +18,14 @@ use Rattle.task_file.specs.declared.Place.{Place}
 use Rattle.task_file.specs.declared.Place.the-variants.{At, Nowhere}
 use Rattle.task_file.specs.declared.ReadAnswer.{ReadAnswer}
 use Rattle.task_file.specs.declared.ReadAnswer.the-variants.{Read, Refused}
-use Rattle.task_file.specs.Parse.{Parsed, parsed, refused, next, kept}
-use Rattle.task_file.specs.Reading.{Lengths, room, head-read, head-kept, tables-read, task-read, Outcome, accepted, rejected, at-end, reading}
+use Rattle.file_format.specs.Parse.{Parsed, parsed, refused, next, kept}
+use Rattle.file_format.specs.Reading.{Lengths, room, head-read, head-kept, tables-read, task-read, Outcome, accepted, rejected, at-end, reading}
 use Rattle.task_file.specs.Answers.{lengths, Cleared}
 use Rattle.task_file.specs.Filling.{RowTables, AllTables, all-behind, all-words, part-told, RowsRoom, AllRoom, AllFilled}
 use Rattle.task_file.specs.Outcome.{ReadOutcome, padded, outcome-of, read-outcome, left, read-answer, Holds, Filled}
-use Rattle.task_file.proofs.Parse.{Bytes, bytes-behind, parsed-value, parsed-rest, refused-parsed, Steps, next-parsed, Kept, kept-parsed}
+use Rattle.file_format.proofs.Parse.{Bytes, bytes-behind, parsed-value, parsed-rest, refused-parsed, Steps, next-parsed, Kept, kept-parsed}
 use Rattle.task_file.proofs.FillWays.{all-read}
-use Rattle.task_file.proofs.Whole.{Behind, tables-parsed}
+use Rattle.file_format.proofs.Whole.{Behind, tables-parsed}
 
 pub bytes-from : (file : List ℕ) → ((i : ℕ) → getD file i 0 < 256) → Bytes file
 bytes-from [] h = tt

@@ -14,11 +14,11 @@ use Rattle.task.specs.Table.{Row, Operator}
 use Rattle.task.specs.Check.{formula-kept, effect-kept, operator-kept}
 use Rattle.task.specs.Tables.{words-kept}
 use Rattle.task.specs.Words.{row-words, operator-row-words}
-use Rattle.task_file.specs.Parse.{Parsed, parsed, refused, next, kept, byte-read, word-read, field-read, fields-read, mapped-read}
-use Rattle.task_file.specs.Reading.{row-clear, row-from, row-read, operator-from, operator-clear, operator-fields-read, formula-read, effect-read, operator-read}
+use Rattle.file_format.specs.Parse.{Parsed, parsed, refused, next, kept, byte-read, word-read, field-read, fields-read, mapped-read}
+use Rattle.file_format.specs.Reading.{row-clear, row-from, row-read, operator-from, operator-clear, operator-fields-read, formula-read, effect-read, operator-read}
 use Rattle.task_file.specs.Tables.{map-clear, own-number, row-words-read, kept-words-read}
 use Rattle.task_file.specs.Answers.{row-told, arranged-row}
-use Rattle.task_file.proofs.Parse.{parsed-value, parsed-rest, refused-parsed}
+use Rattle.file_format.proofs.Parse.{parsed-value, parsed-rest, refused-parsed}
 
 -- three fields
 module _ (m : ℕ) (bytes : List ℕ) where

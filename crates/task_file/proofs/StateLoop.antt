@@ -15,14 +15,14 @@ use Rattle.task.specs.Bounded.{upto}
 use Rattle.task.specs.Words.{joined}
 use Rattle.task_file.specs.declared.Place.{Place}
 use Rattle.task_file.specs.declared.Place.the-variants.{At, Nowhere}
-use Rattle.task_file.specs.Bytes.{bytes-for}
-use Rattle.task_file.specs.Parse.{Parsed, parsed, refused, next, kept, byte-read, table-read}
-use Rattle.task_file.specs.Reading.{bit-of, spare-clear, initial-read}
+use Rattle.file_format.specs.Bytes.{bytes-for}
+use Rattle.file_format.specs.Parse.{Parsed, parsed, refused, next, kept, byte-read, table-read}
+use Rattle.file_format.specs.Reading.{bit-of, spare-clear, initial-read}
 use Rattle.task_file.specs.Answers.{ReadPart, place-told, Unpacked}
-use Rattle.task_file.proofs.Fields.{byte-reads}
-use Rattle.task_file.proofs.Table.{table-reads}
-use Rattle.task_file.proofs.Tables.{one-byte, bytes-joined, plain-byte}
-use Rattle.task_file.proofs.Initial.{upto-same}
+use Rattle.file_format.proofs.Fields.{byte-reads}
+use Rattle.file_format.proofs.Table.{table-reads}
+use Rattle.file_format.proofs.Tables.{one-byte, bytes-joined, plain-byte}
+use Rattle.file_format.proofs.Initial.{upto-same}
 
 -- the spare bits
 pub clear-whole : (bytes : List ℕ) (v : ℕ) → v % 8 ≡ 0 → spare-clear bytes v ≡ true

@@ -13,8 +13,8 @@ use Rattle.task.specs.Bounded.{every}
 use Rattle.task.specs.Check.{twin-kept}
 use Rattle.task_file.specs.declared.Place.{Place}
 use Rattle.task_file.specs.declared.Place.the-variants.{At, Nowhere}
-use Rattle.task_file.specs.Parse.{Parsed, parsed, refused, next, kept, word-read, table-read}
-use Rattle.task_file.specs.Reading.{twin-read}
+use Rattle.file_format.specs.Parse.{Parsed, parsed, refused, next, kept, word-read, table-read}
+use Rattle.file_format.specs.Reading.{twin-read}
 use Rattle.task_file.specs.Answers.{ReadPart, place-told}
 use Rattle.task_file.proofs.Loops.{Done, done-refused, done-end, done-more}
 

@@ -17,8 +17,8 @@ use Rattle.task_file.specs.declared.HeadAnswer.the-variants.{Counts, NoH
 use Rattle.task_file.specs.declared.Place.{Place}
 use Rattle.task_file.specs.declared.Place.the-variants.{At, Nowhere}
 use Rattle.task.specs.Bounded.{upto}
-use Rattle.task_file.specs.Reading.{Lengths, bit-of}
-use Rattle.task_file.specs.Parse.{Parsed, parsed, refused}
+use Rattle.file_format.specs.Reading.{Lengths, bit-of}
+use Rattle.file_format.specs.Parse.{Parsed, parsed, refused}
 
 abbrev pub field-told : List ℕ → Field → Parsed ℕ
 field-told file (Word word next) = parsed word (drop next file)

@@ -8,7 +8,7 @@ use Rattle.task.specs.Table.{Task}
 use Rattle.task.specs.Words.{head-of, words-of, operator-words}
 use Rattle.task_file.specs.declared.ReadAnswer.{ReadAnswer}
 use Rattle.task_file.specs.declared.ReadAnswer.the-variants.{Read, Refused}
-use Rattle.task_file.specs.Reading.{Lengths, Outcome, accepted, rejected, reading}
+use Rattle.file_format.specs.Reading.{Lengths, Outcome, accepted, rejected, reading}
 
 pub record ReadOutcome : Type 0 where
   pub answer : ReadAnswer

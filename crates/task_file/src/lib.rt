@@ -1,9 +1,6 @@
-// Task files: bytes become tables, and tables bytes.
+// Reading task files: bytes become tables.
 pub mod clear;
 pub mod fill;
-pub mod put;
-pub mod put_row;
-pub mod put_tables;
 pub mod read;
 pub mod read_head;
 pub mod read_row;
@@ -11,7 +8,6 @@ pub mod read_rows;
 pub mod read_state;
 pub mod read_twins;
 pub mod word;
-pub mod write;
 
 use task::Head;
 
@@ -48,10 +44,4 @@ pub enum Place {
 pub enum HeadAnswer {
     Counts { head: Head, next: usize },
     NoHead(u16),
-}
-
-// What writing answers: the file's length, or the number of the refusal.
-pub enum WriteAnswer {
-    Written(usize),
-    NotWritten(u16),
 }

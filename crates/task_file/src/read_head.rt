@@ -1,7 +1,7 @@
 // The head of a file.
 ghost use mathlib.Core.Path.{_≡_};
-ghost use Rattle.task_file.specs.Parse.{next};
-ghost use Rattle.task_file.specs.Reading.{room, head-read, head-kept};
+ghost use Rattle.file_format.specs.Parse.{next};
+ghost use Rattle.file_format.specs.Reading.{room, head-read, head-kept};
 ghost use Rattle.task_file.specs.Answers.{head-told, lost-head, lengths};
 use crate::HeadAnswer;
 use crate::Row;

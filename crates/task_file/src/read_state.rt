@@ -3,8 +3,8 @@ ghost use mathlib.Core.Path.{_≡_};
 ghost use Prim.Native.Nat.{_+_, _-_, _≤_, _<_};
 ghost use lib.ListN.{length, take, drop};
 ghost use Rattle.task.specs.Bounded.{upto};
-ghost use Rattle.task_file.specs.Bytes.{bytes-for};
-ghost use Rattle.task_file.specs.Reading.{bit-of, spare-clear, initial-read};
+ghost use Rattle.file_format.specs.Bytes.{bytes-for};
+ghost use Rattle.file_format.specs.Reading.{bit-of, spare-clear, initial-read};
 ghost use Rattle.task_file.specs.Answers.{ReadPart, Unpacked};
 use crate::Place;
 

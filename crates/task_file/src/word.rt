@@ -1,7 +1,7 @@
 // Words and fields of a file, at a place of it.
 ghost use mathlib.Core.Path.{_≡_};
 ghost use lib.ListN.{drop};
-ghost use Rattle.task_file.specs.Parse.{word-read, field-read, fields-read};
+ghost use Rattle.file_format.specs.Parse.{word-read, field-read, fields-read};
 ghost use Rattle.task_file.specs.Answers.{field-told, row-told, carried};
 use crate::Field;
 use crate::Row;

@@ -3,7 +3,6 @@ use Rattle.rule_writer.proofs.initial.oppose.Tie as tie
 use Prim.Native.Nat.{_-_}
 use native.Mathlib.Omega.{arith}
 use lib.ListN.{getD}
-use Rattle.rule_writer.specs.Writes.{InitialReady}
 use Rattle.rule_writer.proofs.Values.{Opposed, opposed-none, opposed-more, opposed-all}
 
 abbrev Inv-loop : tie.InvT-loop
@@ -34,7 +33,11 @@ shared-slice-read-out c =
 sub-out : tie.Need-sub-out Inv-loop μ-loop
 sub-out c =
     let s = c .before .before .before .before in
-    s .pre .bits (getD (s .args .originals .now) (c .before .before .before .loop .k) 0) (s .pre .below (c .before .before .before .loop .k) (c .before .before .loop-test .taken))
+    let k = c .before .before .before .loop .k in
+    omega (
+      arith,
+      s .pre .bits (getD (s .args .originals .now) k 0) (s .pre .below k (c .before .before .loop-test .taken)),
+    )
 
 add-out : tie.Need-add-out Inv-loop μ-loop
 add-out c =

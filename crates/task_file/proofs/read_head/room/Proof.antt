@@ -2,7 +2,7 @@ use Rattle.task_file.specs.Answers.{lengths}
 use Rattle.task_file.proofs.HeadWays.{room-last}
 use mathlib.Core.Path.{_≡_, refl, sym, ap, _∙_}
 use borrow.Author.Tests.{lt-leb, le-leb}
-use Rattle.task_file.specs.Reading.{room}
+use Rattle.file_format.specs.Reading.{room}
 use borrow.Author.Needs.{needs}
 use Rattle.task_file.proofs.read_head.room.Statement.{statement}
 use Rattle.task_file.proofs.read_head.room.Tie as tie

@@ -1,7 +1,7 @@
 use mathlib.Core.Path.{_≡_, sym, ap, _∙_}
 use lib.ListN.{drop}
 use borrow.Author.Tests.{not-true, not-false}
-use Rattle.task_file.specs.Parse.{refused}
+use Rattle.file_format.specs.Parse.{refused}
 use Rattle.task_file.specs.Answers.{row-told}
 use Rattle.task_file.proofs.RowWords.{kept-refused, kept-broken, kept-there}
 use borrow.Author.Needs.{needs}

@@ -1,6 +1,6 @@
 use mathlib.Core.Path.{_≡_, refl, sym, ap, _∙_}
 use lib.ListN.{length, drop, length-set}
-use Rattle.task_file.specs.Bytes.{bytes-for}
+use Rattle.file_format.specs.Bytes.{bytes-for}
 use native.Mathlib.Omega.{arith}
 use borrow.Author.Tests.{not-true, not-false}
 use Rattle.task_file.proofs.StateLoop.{state-short, state-unclear, state-there}

@@ -1,0 +1,64 @@
+-- What the code builds from tables is what the definition builds from the task that they hold. Assumes nothing.
+use Prim.Native.Nat.{ℕ, zero, suc, _<_}
+use native.Mathlib.Omega.{arith}
+use mathlib.Core.Path.{_≡_, refl, sym, ap, _∙_}
+use lib.ListN.{length}
+use mathlib.Core.List.{List}
+use Rattle.task.specs.Table.{Task, row-at}
+use Rattle.task.specs.Run.{operator-of, effect-of-operator}
+use Rattle.task.specs.Tree.{formula-of}
+use Rattle.normal_form.specs.Builder.{St, Got, Build, give, bind, each, plain}
+use Rattle.normal_form.specs.Image.{image}
+use Rattle.normal_form.specs.Operators.{built-operator, parts}
+use Rattle.formula_builder.specs.declared.Frame.{Frame}
+use Rattle.images.specs.Images.{source-rows, tree, image-at}
+use Rattle.conditions.specs.Conditions.{effect-rows, effect-tree}
+use Rattle.operators.specs.Operator.{all-changes, operator-built, operator-here, operators-built}
+use Rattle.building.specs.Whole.{whole-built}
+
+-- steps that leave the same states leave the same state
+each-same :
+    {A B : Type 0} (n : ℕ) (f : ℕ → Build A) (g : ℕ → Build B)
+    → ((k : ℕ) → k < n → (s : St) → f k s .st ≡ g k s .st)
+    → (s : St)
+    → each n f s .st ≡ each n g s .st
+unfolding each bind give
+each-same zero f g same s = refl
+each-same {A} {B} (suc n) f g same s =
+    let before = each-same n f g (λ k h. same k (omega arith)) s in
+    ap (λ (t : St). f n t .st) before ∙ same n (omega arith) (each n g s .st)
+
+-- The task t is what the tables hold.
+module _ (t : Task) (frame : Frame) (formulas effects operators : List ℕ) (count goal : ℕ) (variables : length (t .initial) ≡ frame .variables) (its-formulas : t .formulas ≡ source-rows frame formulas) (its-effects : t .effects ≡ effect-rows frame effects) (its-count : length (t .operators) ≡ count) (precondition : (o : ℕ) → o < count → operator-of t o .precondition ≡ row-at operators o .kind) (effect : (o : ℕ) → o < count → operator-of t o .effect ≡ row-at operators o .a) (its-goal : t .goal ≡ goal) where
+  same-operator :
+      (o : ℕ) → o < count → (s : St) → built-operator t o s .st ≡ operator-here frame formulas effects operators o s .st
+  unfolding built-operator operator-here operator-built all-changes image-at tree effect-tree effect-of-operator bind give
+  same-operator o h s = rw (precondition o h, effect o h, variables, its-formulas, its-effects)
+
+  same-operators :
+      (s : St)
+      → each (length (t .operators)) (built-operator t) s .st ≡ operators-built frame formulas effects operators count s .st
+  unfolding operators-built
+  same-operators s =
+      rw its-count (each-same count (built-operator t) (operator-here frame formulas effects operators) same-operator s)
+
+  same-goal : image (length (t .initial)) plain (formula-of (t .formulas) (t .goal)) ≡ image-at frame formulas plain goal
+  unfolding image-at tree
+  same-goal = rw (variables, its-formulas, its-goal)
+
+  last : (s : St) → image-at frame formulas plain goal (each (length (t .operators)) (built-operator t) s .st) ≡ whole-built frame formulas effects operators count goal s
+  unfolding whole-built bind
+  last s = ap (image-at frame formulas plain goal) (same-operators s)
+
+  -- the state, and the goal's row
+  pub same-state : (s : St) → parts t s .st ≡ whole-built frame formulas effects operators count goal s .st
+  unfolding parts bind give
+  same-state s =
+      ap (λ (m : Build ℕ). m (each (length (t .operators)) (built-operator t) s .st) .st) same-goal
+      ∙ ap (λ (g : Got ℕ). g .st) (last s)
+
+  pub same-value : (s : St) → parts t s .value .goal ≡ whole-built frame formulas effects operators count goal s .value
+  unfolding parts bind give
+  same-value s =
+      ap (λ (m : Build ℕ). m (each (length (t .operators)) (built-operator t) s .st) .value) same-goal
+      ∙ ap (λ (g : Got ℕ). g .value) (last s)

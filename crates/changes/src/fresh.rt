@@ -1,0 +1,55 @@
+// The condition of an effect for one target, the effects' memo being empty before and after.
+use conditions::Target;
+use conditions::condition;
+use formula_builder::Frame;
+use formula_builder::Size;
+use formula_builder::Step;
+ghost use Prim.Native.Nat.{ℕ, _≤_, _<_};
+ghost use lib.ListN.{length};
+ghost use Rattle.formula_builder.specs.Held.{store};
+ghost use Rattle.images.specs.Images.{Images};
+ghost use Rattle.conditions.specs.Conditions.{condition-at};
+ghost use Rattle.changes.specs.Stands.{Cleared, StandsAt};
+
+// Sets the words from one up to another to 0.
+pub fn clear(scratch: &mut [u16], from: usize, to: usize)
+    requires { ⌜ (from ≤ to) × (to ≤ length (now scratch)) ⌝ }
+    ensures { λ _. ⌜ Cleared from to (now (scratch .entry)) (now (scratch .exit)) ⌝ }
+{
+    let mut k = from;
+    while k < to {
+        scratch[k] = 0;
+        k += 1;
+    }
+}
+
+// The condition of effect e. The memo of the rows up to e is cleared behind it.
+pub fn condition_of(
+    formulas: &[u16],
+    effects: &[u16],
+    e: usize,
+    t: Target,
+    frame: Frame,
+    at: Size,
+    table: &mut [u16],
+    originals: &mut [u16],
+    scratch: &mut [u16],
+) -> Step
+    requires { ⌜ StandsAt frame (now formulas) (now effects) at (store (now table) (now originals)) (now scratch) e ⌝ }
+    ensures { λ r. ⌜ Images (condition-at frame (now (formulas .entry)) (now (effects .entry)) t e) frame (now (formulas .entry)) at (store (now (table .entry)) (now (originals .entry))) (store (now (table .exit)) (now (originals .exit))) (now (scratch .entry)) (now (scratch .exit)) r ⌝ }
+{
+    let r = condition(
+        formulas,
+        effects,
+        e,
+        t,
+        frame,
+        at,
+        table,
+        originals,
+        scratch,
+    );
+    let from = 2 * frame.formulas;
+    clear(scratch, from, from + e + 1);
+    r
+}

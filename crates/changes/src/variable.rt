@@ -1,0 +1,164 @@
+// A, D and N of one variable.
+use crate::Change;
+use crate::fresh::condition_of;
+use conditions::Target;
+use formula_builder::Frame;
+use formula_builder::Size;
+use formula_builder::Step;
+use formula_builder::join;
+use formula_builder::standing;
+ghost use Rattle.normal_form.specs.Operators.{deletes-of, changes-of};
+ghost use Rattle.formula_builder.specs.Held.{store};
+ghost use Rattle.images.specs.Images.{Images};
+ghost use Rattle.conditions.specs.Conditions.{effect-tree};
+ghost use Rattle.changes.specs.Stands.{StandsAt, Deletes, Makes, size-after, made};
+
+// D, freed of conflict with A: if neither is row 0, D and N, with N the negated condition of set v.
+fn deletes(
+    formulas: &[u16],
+    effects: &[u16],
+    e: usize,
+    v: u16,
+    a: u16,
+    d: u16,
+    frame: Frame,
+    at: Size,
+    table: &mut [u16],
+    originals: &mut [u16],
+    scratch: &mut [u16],
+) -> Step
+    requires { ⌜ Deletes frame (now formulas) (now effects) at (store (now table) (now originals)) (now scratch) e d ⌝ }
+    ensures { λ r. ⌜ Images (deletes-of (frame .variables) (effect-tree frame (now (formulas .entry)) (now (effects .entry)) e) v a d) frame (now (formulas .entry)) at (store (now (table .entry)) (now (originals .entry))) (store (now (table .exit)) (now (originals .exit))) (now (scratch .entry)) (now (scratch .exit)) r ⌝ }
+{
+    if a == 0 {
+        return standing(at, d);
+    }
+    if d == 0 {
+        return standing(at, d);
+    }
+    let t = Target {
+        clear: false,
+        variable: v,
+        negated: true,
+    };
+    let n = condition_of(
+        formulas,
+        effects,
+        e,
+        t,
+        frame,
+        at,
+        table,
+        originals,
+        scratch,
+    );
+    if n.full {
+        return n;
+    }
+    join(
+        table,
+        frame,
+        Size {
+            rows: n.rows,
+            twins: n.twins,
+        },
+        false,
+        d,
+        n.row,
+    )
+}
+
+// What effect e does to variable v: all of A, then all of D, then N.
+pub fn change_of(
+    formulas: &[u16],
+    effects: &[u16],
+    e: usize,
+    v: u16,
+    frame: Frame,
+    at: Size,
+    table: &mut [u16],
+    originals: &mut [u16],
+    scratch: &mut [u16],
+) -> Change
+    requires { ⌜ StandsAt frame (now formulas) (now effects) at (store (now table) (now originals)) (now scratch) e ⌝ }
+    ensures { λ r. ⌜ Makes (changes-of (frame .variables) (effect-tree frame (now (formulas .entry)) (now (effects .entry)) e) v) frame (now (formulas .entry)) at (store (now (table .entry)) (now (originals .entry))) (store (now (table .exit)) (now (originals .exit))) (now (scratch .entry)) (now (scratch .exit)) (r .full) (size-after r) (made v r) ⌝ }
+{
+    let set = Target {
+        clear: false,
+        variable: v,
+        negated: false,
+    };
+    let a = condition_of(
+        formulas,
+        effects,
+        e,
+        set,
+        frame,
+        at,
+        table,
+        originals,
+        scratch,
+    );
+    if a.full {
+        return Change {
+            rows: a.rows,
+            twins: a.twins,
+            adds: 0,
+            deletes: 0,
+            full: true,
+        };
+    }
+    let mid = Size {
+        rows: a.rows,
+        twins: a.twins,
+    };
+    let unset = Target {
+        clear: true,
+        variable: v,
+        negated: false,
+    };
+    let d = condition_of(
+        formulas,
+        effects,
+        e,
+        unset,
+        frame,
+        mid,
+        table,
+        originals,
+        scratch,
+    );
+    if d.full {
+        return Change {
+            rows: d.rows,
+            twins: d.twins,
+            adds: 0,
+            deletes: 0,
+            full: true,
+        };
+    }
+    let next = Size {
+        rows: d.rows,
+        twins: d.twins,
+    };
+    let k = deletes(
+        formulas,
+        effects,
+        e,
+        v,
+        a.row,
+        d.row,
+        frame,
+        next,
+        table,
+        originals,
+        scratch,
+    );
+    Change {
+        rows: k.rows,
+        twins: k.twins,
+        adds: a.row,
+        deletes: k.row,
+        full: k.full,
+    }
+}

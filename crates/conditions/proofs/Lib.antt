@@ -1,0 +1,4 @@
+pub mod Atoms
+pub mod Rows
+pub mod Memos
+pub mod Cases

@@ -1,0 +1,281 @@
+-- The memo of effect conditions stays right while the state grows, and steps with both memos are put together. Assumes nothing.
+use Prim.Native.Nat.{ℕ, zero, suc, _+_, _-_, _*_, _≤_, _<_}
+use native.Mathlib.Omega.{arith}
+use native.Mathlib.Decide.{ℕ-discrete}
+use mathlib.Core.Path.{_≡_, refl, sym, ap, ap₂, _∙_}
+use mathlib.Core.Bool.{Bool, true, false, cond, true≢false}
+use mathlib.Core.List.{List}
+use lib.ListN.{length, getD, set}
+use lib.Seq.{getD-set-same, getD-set-other}
+use Rattle.task.specs.Bounded.{upto}
+use Rattle.task.specs.Table.{row-at}
+use Rattle.task.proofs.Bounded.{length-upto}
+use Rattle.normal_form.specs.Builder.{St, Got, Build, give, bind, join, pair, Polarity, falsity}
+use Rattle.normal_form.specs.Growth.{Grows, Steady}
+use Rattle.normal_form.proofs.Growth.{steady-bind, steady-join}
+use Rattle.normal_form.proofs.Steady.{steady-condition}
+use Rattle.formula_builder.specs.declared.Frame.{Frame}
+use Rattle.formula_builder.specs.declared.Size.{Size}
+use Rattle.formula_builder.specs.declared.Step.{Step}
+use Rattle.formula_builder.specs.Held.{Store, held, size-of, side, done-step, Ready, Done, Builds}
+use Rattle.formula_builder.proofs.Steps.{builds-done, builds-as, builds-bind, builds-stop}
+use Rattle.images.specs.Images.{Known, Memo, noted, memo-place, Source, Images}
+use Rattle.images.proofs.Memos.{known-grows, memo-grows, done-grows, done-known, place-within}
+use Rattle.conditions.specs.declared.Target.{Target}
+use Rattle.conditions.specs.Conditions.{atom-of, effect-tree, condition-at, EffectMemo, EffectSource, Asks, Conditions}
+
+pub steady-condition-at :
+    (frame : Frame) (formulas effects : List ℕ) (t : Target) (e : ℕ) → Steady (condition-at frame formulas effects t e)
+unfolding condition-at
+steady-condition-at frame formulas effects t e =
+    steady-condition (frame .variables) (side (t .negated)) (atom-of t) (effect-tree frame formulas effects e)
+
+-- the memo stays right while the state grows and its words stay
+pub effect-memo-grows :
+    {frame : Frame} {formulas effects : List ℕ} {t : Target} {scratch scratch' : List ℕ} {s s' : St}
+    → Grows s s'
+    → ((j : ℕ) → 2 * frame .formulas ≤ j → getD scratch' j 0 ≡ getD scratch j 0)
+    → EffectMemo frame formulas effects t scratch s
+    → EffectMemo frame formulas effects t scratch' s'
+effect-memo-grows {frame} {formulas} {effects} {t} g same m =
+    record {
+      known = λ e r h w.
+          known-grows (steady-condition-at frame formulas effects t e) g
+          (m .known e r h (sym (same (2 * frame .formulas + e) (omega arith)) ∙ w));
+    }
+
+pub effect-memo-noted :
+    (frame : Frame) (formulas effects : List ℕ) (t : Target) (scratch : List ℕ) (s : St) (e r : ℕ)
+    → e < frame .effects
+    → 2 * frame .formulas + e < length scratch
+    → Known (condition-at frame formulas effects t e) s r
+    → EffectMemo frame formulas effects t scratch s
+    → EffectMemo frame formulas effects t (set scratch (2 * frame .formulas + e) (r + 1)) s
+effect-memo-noted frame formulas effects t scratch s e r h room k m = record { known = known }
+  where
+    known :
+        (j x : ℕ)
+        → j < frame .effects
+        → getD (set scratch (2 * frame .formulas + e) (r + 1)) (2 * frame .formulas + j) 0 ≡ x + 1
+        → Known (condition-at frame formulas effects t j) s x
+    known j x g w = go (ℕ-discrete j e)
+      where
+        go : Dec (j ≡ e) → Known (condition-at frame formulas effects t j) s x
+        go (yes same) =
+            let now : getD (set scratch (2 * frame .formulas + e) (r + 1)) (2 * frame .formulas + j) 0 ≡ r + 1 =
+            rw same (getD-set-same scratch (2 * frame .formulas + e) (r + 1) 0 room) in
+            let d : x ≡ r = omega (arith, now, w) in
+            rw (d, same) k
+        go (no other) =
+            m .known j x g
+            (sym
+            (getD-set-other scratch (2 * frame .formulas + e) (2 * frame .formulas + j) (r + 1) 0 (λ q. other (omega arith)))
+            ∙ w)
+
+-- the memo of images does not see the words behind it
+pub memo-kept :
+    {frame : Frame} {formulas scratch scratch' : List ℕ} {s : St}
+    → ((j : ℕ) → j < 2 * frame .formulas → getD scratch' j 0 ≡ getD scratch j 0)
+    → Memo frame formulas scratch s
+    → Memo frame formulas scratch' s
+memo-kept {frame} {scratch = scratch} {scratch' = scratch'} same m =
+    record { known = λ p i r h w. m .known p i r h (sym (same (memo-place frame p i) (place-within frame p i h)) ∙ w) }
+
+module _ {m : Build ℕ} {frame : Frame} {formulas effects : List ℕ} {t : Target} {e : ℕ} {at : Size} {before after : Store} {s1 s2 : List ℕ} {r : Step} where
+  pub conditions-as :
+      {m' : Build ℕ}
+      → m ≡ m'
+      → Conditions m' frame formulas effects t e at before after s1 s2 r
+      → Conditions m frame formulas effects t e at before after s1 s2 r
+  conditions-as q x =
+      record { builds = builds-as q (x .builds); memo = x .memo; effect-memo = x .effect-memo; rest = x .rest }
+
+  -- a lower effect leaves what lies behind a higher one
+  pub conditions-wider :
+      {d : ℕ}
+      → d ≤ e
+      → Conditions m frame formulas effects t d at before after s1 s2 r
+      → Conditions m frame formulas effects t e at before after s1 s2 r
+  conditions-wider h x =
+      record {
+        builds = x .builds;
+        memo = x .memo;
+        effect-memo = x .effect-memo;
+        rest = λ j g. x .rest j (omega arith);
+      }
+
+  -- the next step finds all that it asks
+  pub asks-next :
+      {d : ℕ} (j : ℕ)
+      → Asks frame formulas effects t at before s1 d
+      → Conditions m frame formulas effects t e at before after s1 s2 r
+      → r .full ≡ false
+      → length s2 ≡ length s1
+      → j < frame .effects
+      → Asks frame formulas effects t (size-of r) after s2 j
+  asks-next j a x q long h =
+      record {
+        source =
+            record {
+              words = a .source .words;
+              memo = omega (arith, a .source .memo, long);
+              limit = a .source .limit;
+              down = a .source .down;
+            };
+        effect-source =
+            record {
+              words = a .effect-source .words;
+              memo = omega (arith, a .effect-source .memo, long);
+              limit = a .effect-source .limit;
+              down = a .effect-source .down;
+            };
+        ready = x .builds .done q .ready;
+        memo = x .memo q;
+        effect-memo = x .effect-memo q;
+        effect = h;
+      }
+
+-- a step that leaves the effects' memo
+pub conditions-of-images :
+    {m : Build ℕ} {frame : Frame} {formulas effects : List ℕ} {t : Target} {e : ℕ} {at : Size} {before after : Store} {s1 s2 : List ℕ} {r : Step}
+    → Steady m
+    → EffectMemo frame formulas effects t s1 (held at before)
+    → Images m frame formulas at before after s1 s2 r
+    → Conditions m frame formulas effects t e at before after s1 s2 r
+conditions-of-images {e = e} steady memo x =
+    record {
+      builds = x .builds;
+      memo = x .memo;
+      effect-memo = λ q. effect-memo-grows (done-grows steady (x .builds .done q)) (x .rest) memo;
+      rest = λ j h. x .rest j (omega arith);
+    }
+
+-- a step that leaves both
+pub conditions-leaf :
+    {m : Build ℕ} {frame : Frame} {formulas effects : List ℕ} {t : Target} {e : ℕ} {at : Size} {before after : Store} {scratch : List ℕ} {r : Step}
+    → Steady m
+    → Memo frame formulas scratch (held at before)
+    → EffectMemo frame formulas effects t scratch (held at before)
+    → Builds m frame at before after r
+    → Conditions m frame formulas effects t e at before after scratch scratch r
+conditions-leaf steady memo effect-memo b =
+    record {
+      builds = b;
+      memo = λ q. memo-grows (done-grows steady (b .done q)) memo;
+      effect-memo = λ q. effect-memo-grows (done-grows steady (b .done q)) (λ j h. refl) effect-memo;
+      rest = λ j h. refl;
+    }
+
+pub conditions-bind :
+    {m : Build ℕ} {frame : Frame} {formulas effects : List ℕ} {t : Target} {e : ℕ} {at : Size} {before mid after : Store} {s1 s2 s3 : List ℕ} {l r : Step}
+    (f : ℕ → Build ℕ)
+    → Conditions m frame formulas effects t e at before mid s1 s2 l
+    → l .full ≡ false
+    → Conditions (f (l .row)) frame formulas effects t e (size-of l) mid after s2 s3 r
+    → Conditions (bind m f) frame formulas effects t e at before after s1 s3 r
+conditions-bind f x q y =
+    record {
+      builds = builds-bind f (x .builds) q (y .builds);
+      memo = y .memo;
+      effect-memo = y .effect-memo;
+      rest = λ j h. y .rest j h ∙ x .rest j h;
+    }
+
+pub conditions-stop :
+    {m : Build ℕ} {frame : Frame} {formulas effects : List ℕ} {t : Target} {e : ℕ} {at : Size} {before after : Store} {s1 s2 : List ℕ} {l : Step}
+    (f : ℕ → Build ℕ)
+    → ((x : ℕ) → Steady (f x))
+    → Conditions m frame formulas effects t e at before after s1 s2 l
+    → l .full ≡ true
+    → Conditions (bind m f) frame formulas effects t e at before after s1 s2 l
+conditions-stop f steady x q =
+    record {
+      builds = builds-stop f steady (x .builds) q;
+      memo = λ g. absurd (true≢false (sym q ∙ g));
+      effect-memo = λ g. absurd (true≢false (sym q ∙ g));
+      rest = x .rest;
+    }
+
+-- Left, right, then the join.
+module _ {left right : Build ℕ} {frame : Frame} {formulas effects : List ℕ} {t : Target} {e : ℕ} {at : Size} {before mid : Store} {s1 s2 : List ℕ} {l : Step} (p : Polarity) (steady : Steady right) (x : Conditions left frame formulas effects t e at before mid s1 s2 l) where
+  pub pair-left-full : l .full ≡ true → Conditions (pair p left right) frame formulas effects t e at before mid s1 s2 l
+  unfolding pair
+  pair-left-full q =
+      conditions-stop (λ a. bind right (λ b. join p a b)) (λ a. steady-bind steady (λ b. steady-join p a b)) x q
+
+  module _ {after : Store} {s3 : List ℕ} {r : Step} (q : l .full ≡ false) (y : Conditions right frame formulas effects t e (size-of l) mid after s2 s3 r) where
+    pub pair-right-full : r .full ≡ true → Conditions (pair p left right) frame formulas effects t e at before after s1 s3 r
+    unfolding pair
+    pair-right-full g =
+        conditions-bind (λ a. bind right (λ b. join p a b)) x q
+        (conditions-stop (λ b. join p (l .row) b) (λ b. steady-join p (l .row) b) y g)
+
+    pub pair-done :
+        {last : Store} {z : Step}
+        → r .full ≡ false
+        → Builds (join p (l .row) (r .row)) frame (size-of r) after last z
+        → Conditions (pair p left right) frame formulas effects t e at before last s1 s3 z
+    unfolding pair
+    pair-done g b =
+        conditions-bind (λ a. bind right (λ b. join p a b)) x q
+        (conditions-bind (λ b. join p (l .row) b) y g
+        (conditions-leaf (steady-join p (l .row) (r .row)) (y .memo g) (y .effect-memo g) b))
+
+-- The memo has effect e.
+pub conditions-known :
+    (frame : Frame) (formulas effects : List ℕ) (t : Target) (at : Size) (before : Store) (scratch : List ℕ) (e w : ℕ)
+    → Asks frame formulas effects t at before scratch e
+    → getD scratch (2 * frame .formulas + e) 0 ≡ w
+    → 0 < w
+    → Conditions (condition-at frame formulas effects t e) frame formulas effects t e at before before scratch scratch (done-step at (w - 1))
+unfolding held
+conditions-known frame formulas effects t at before scratch e w a q h =
+    let k = a .effect-memo .known e (w - 1) (a .effect) (omega arith) in
+    let b : w - 1 < length (upto (at .rows) (row-at (before .table))) = k .below in
+    record {
+      builds =
+          builds-done refl
+          (record {
+            value = ap (λ (g : Got ℕ). g .value) (k .again);
+            state = ap (λ (g : Got ℕ). g .st) (k .again);
+            ready = a .ready;
+            below = rw (length-upto (at .rows) (row-at (before .table))) at b;
+            grew = omega arith;
+          });
+      memo = λ _. a .memo;
+      effect-memo = λ _. a .effect-memo;
+      rest = λ j g. refl;
+    }
+
+-- Effect e's condition was built and is noted.
+pub conditions-noted :
+    (frame : Frame) (formulas effects : List ℕ) (t : Target) (at : Size) (before after : Store) (scratch scratch' : List ℕ) (e : ℕ) (r : Step)
+    → e < frame .effects
+    → 2 * frame .formulas + e < length scratch'
+    → Conditions (condition-at frame formulas effects t e) frame formulas effects t e at before after scratch scratch' r
+    → Conditions (condition-at frame formulas effects t e) frame formulas effects t e at before after scratch (noted scratch' (2 * frame .formulas + e) r) r
+conditions-noted frame formulas effects t at before after scratch scratch' e r h room x =
+    record {
+      builds = x .builds;
+      memo = λ q. rw q (memo q);
+      effect-memo = λ q. rw q (effect-memo q);
+      rest = λ j g. rest (r .full) j g ∙ x .rest j g;
+    }
+  where
+    effect-memo : r .full ≡ false → EffectMemo frame formulas effects t (set scratch' (2 * frame .formulas + e) (r .row + 1)) (held (size-of r) after)
+    effect-memo q =
+        effect-memo-noted frame formulas effects t scratch' (held (size-of r) after) e (r .row) h room
+        (done-known (steady-condition-at frame formulas effects t e) (x .builds .done q)) (x .effect-memo q)
+
+    memo : r .full ≡ false → Memo frame formulas (set scratch' (2 * frame .formulas + e) (r .row + 1)) (held (size-of r) after)
+    memo q =
+        memo-kept (λ j g. getD-set-other scratch' (2 * frame .formulas + e) j (r .row + 1) 0 (λ z. omega (arith, z)))
+        (x .memo q)
+
+    rest :
+        (b : Bool) (j : ℕ)
+        → 2 * frame .formulas + e < j
+        → getD (cond b scratch' (set scratch' (2 * frame .formulas + e) (r .row + 1))) j 0 ≡ getD scratch' j 0
+    rest true j g = refl
+    rest false j g =
+        getD-set-other scratch' (2 * frame .formulas + e) j (r .row + 1) 0 (λ z. omega (arith, z))

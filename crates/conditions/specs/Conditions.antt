@@ -1,0 +1,84 @@
+-- What the memo of effect conditions holds, and what the code that builds them asks and answers.
+use Prim.Native.Nat.{ℕ, _+_, _*_, _≤_, _<_}
+use mathlib.Core.Path.{_≡_}
+use mathlib.Core.Bool.{Bool, true, false}
+use mathlib.Core.List.{List}
+use lib.ListN.{length, getD}
+use Rattle.task.specs.Bounded.{upto}
+use Rattle.task.specs.Table.{Row, row-at, EffectKind, empty-kind, set-kind, clear-kind, both-kind, under-kind, unknown-effect}
+use Rattle.task.specs.Semantics.{Atom, sets, clears, same-atom, Effect}
+use Rattle.task.specs.Tree.{effect-of}
+use Rattle.task.proofs.Trees.{EffectsDown}
+use Rattle.normal_form.specs.Builder.{St, Build}
+use Rattle.normal_form.specs.Conditions.{condition}
+use Rattle.formula_builder.specs.declared.Frame.{Frame}
+use Rattle.formula_builder.specs.declared.Size.{Size}
+use Rattle.formula_builder.specs.declared.Step.{Step}
+use Rattle.formula_builder.specs.Held.{Store, held, size-of, side, Ready, Builds}
+use Rattle.images.specs.Images.{source-rows, Known, Memo, Source}
+use Rattle.conditions.specs.declared.Target.{Target}
+
+abbrev pub atom-by : Bool → ℕ → Atom
+atom-by false v = sets v
+atom-by true v = clears v
+
+-- the atom whose condition is built
+abbrev pub atom-of : Target → Atom
+atom-of t = atom-by (t .clear) (t .variable)
+
+-- whether an effect of a kind, with word a, is the atom itself
+unfoldable pub acts : Atom → EffectKind → ℕ → Bool
+acts l empty-kind a = false
+acts l set-kind a = same-atom l (sets a)
+acts l clear-kind a = same-atom l (clears a)
+acts l both-kind a = false
+acts l under-kind a = false
+acts l unknown-effect a = false
+
+-- the source's effect rows
+unfoldable pub effect-rows : Frame → List ℕ → List Row
+effect-rows frame effects = upto (frame .effects) (row-at effects)
+
+-- the effect of row e
+unfoldable pub effect-tree : Frame → List ℕ → List ℕ → ℕ → Effect
+effect-tree frame formulas effects e = effect-of (source-rows frame formulas) (effect-rows frame effects) e
+
+-- the condition of effect e
+unfoldable pub condition-at : Frame → List ℕ → List ℕ → Target → ℕ → Build ℕ
+condition-at frame formulas effects t e =
+    condition (frame .variables) (side (t .negated)) (atom-of t) (effect-tree frame formulas effects e)
+
+-- Each word of the memo that is not 0 is the row that building gives now, plus 1.
+pub record EffectMemo (frame : Frame) (formulas effects : List ℕ) (t : Target) (scratch : List ℕ) (s : St) : Type 0 where
+  pub known :
+      (e r : ℕ)
+      → e < frame .effects
+      → getD scratch (2 * frame .formulas + e) 0 ≡ r + 1
+      → Known (condition-at frame formulas effects t e) s r
+
+-- The source keeps the rules of effects, and the scratch has two words for each behind the formulas'.
+pub record EffectSource (frame : Frame) (effects scratch : List ℕ) : Type 0 where
+  pub words : 3 * frame .effects ≤ length effects
+  pub memo : 2 * frame .formulas + 2 * frame .effects ≤ length scratch
+  pub limit : frame .effects ≤ 4096
+  pub down : EffectsDown (frame .variables) (frame .formulas) (effect-rows frame effects)
+
+pub record Asks (frame : Frame) (formulas effects : List ℕ) (t : Target) (at : Size) (before : Store) (scratch : List ℕ) (e : ℕ) : Type 0 where
+  pub source : Source frame formulas scratch
+  pub effect-source : EffectSource frame effects scratch
+  pub ready : Ready frame at before
+  pub memo : Memo frame formulas scratch (held at before)
+  pub effect-memo : EffectMemo frame formulas effects t scratch (held at before)
+  pub effect : e < frame .effects
+
+-- for a row of one kind
+pub record AsksRow (kind : ℕ) (frame : Frame) (formulas effects : List ℕ) (t : Target) (at : Size) (before : Store) (scratch : List ℕ) (e : ℕ) : Type 0 where
+  pub asks : Asks frame formulas effects t at before scratch e
+  pub is-kind : row-at effects e .kind ≡ kind
+
+-- A step with both memos: what lies behind effect e's word stays as it is.
+pub record Conditions (m : Build ℕ) (frame : Frame) (formulas effects : List ℕ) (t : Target) (e : ℕ) (at : Size) (before after : Store) (scratch scratch' : List ℕ) (r : Step) : Type 0 where
+  pub builds : Builds m frame at before after r
+  pub memo : r .full ≡ false → Memo frame formulas scratch' (held (size-of r) after)
+  pub effect-memo : r .full ≡ false → EffectMemo frame formulas effects t scratch' (held (size-of r) after)
+  pub rest : (j : ℕ) → 2 * frame .formulas + e < j → getD scratch' j 0 ≡ getD scratch j 0

@@ -1,0 +1,126 @@
+-- What a search from the front finds is the place of find-or-append. Assumes nothing.
+use Prim.Native.Nat.{ℕ, zero, suc, _+_, _≤_, _<_}
+use native.Mathlib.Nat.{not-suc-le-zero}
+use native.Mathlib.Omega.{arith}
+use mathlib.Core.Path.{_≡_, refl, sym, ap, _∙_}
+use mathlib.Core.Bool.{Bool, true, false, cond, and-false}
+use mathlib.Core.List.{List, [], _∷_, _++_}
+use lib.ListN.{length, getD, take}
+use lib.Seq.{length-take-le, getD-take}
+use lib.Dec.{eqb}
+use borrow.Author.Tests.{eq-eqb, ne-eqb}
+use Rattle.task.specs.Bounded.{upto}
+use Rattle.task.specs.Table.{Row}
+use Rattle.task.proofs.Bounded.{length-upto, getD-upto}
+use Rattle.normal_form.specs.Builder.{place, kept, same-row}
+
+module _ {A : Type 0} (same : A → A → Bool) (x d : A) where
+  pub place-first :
+      (l : List A) (i : ℕ)
+      → i < length l
+      → ((j : ℕ) → j < i → same (getD l j d) x ≡ false)
+      → same (getD l i d) x ≡ true
+      → place same x l ≡ i
+  unfolding place
+  place-first [] i h before e = absurd (not-suc-le-zero h)
+  place-first (y ∷ ys) zero h before e = rw e
+  place-first (y ∷ ys) (suc i) h before e =
+      let here : same y x ≡ false = before 0 (omega arith) in
+      rw here (ap suc (place-first ys i (omega arith) (λ j k. before (suc j) (omega arith)) e))
+
+  pub place-none :
+      (l : List A) → ((j : ℕ) → j < length l → same (getD l j d) x ≡ false) → place same x l ≡ length l
+  unfolding place
+  place-none [] none = refl
+  place-none (y ∷ ys) none =
+      let here : same y x ≡ false = none 0 (omega arith) in
+      rw here (ap suc (place-none ys (λ j k. none (suc j) (omega arith))))
+
+module _ {A : Type 0} (same : A → A → Bool) (x : A) where
+  pub place-bound : (l : List A) → place same x l ≤ length l
+  unfolding place
+  place-bound [] = omega arith
+  place-bound (y ∷ ys) = go (same y x) (place-bound ys)
+    where
+      go : (b : Bool) → place same x ys ≤ length ys → cond b 0 (suc (place same x ys)) ≤ suc (length ys)
+      go true h = omega arith
+      go false h = omega arith
+
+  pub kept-found : (l : List A) → place same x l < length l → kept same x l ≡ l
+  unfolding place kept
+  kept-found [] h = absurd (not-suc-le-zero h)
+  kept-found (y ∷ ys) h = go (same y x) h (kept-found ys)
+    where
+      go :
+          (b : Bool)
+          → cond b 0 (suc (place same x ys)) < suc (length ys)
+          → (place same x ys < length ys → kept same x ys ≡ ys)
+          → cond b (y ∷ ys) (y ∷ kept same x ys) ≡ y ∷ ys
+      go true h again = refl
+      go false h again = ap {B = List A} (λ l. y ∷ l) (again (omega arith))
+
+  pub kept-none : (l : List A) → length l ≤ place same x l → kept same x l ≡ l ++ (x ∷ [])
+  unfolding place kept
+  kept-none [] h = refl
+  kept-none (y ∷ ys) h = go (same y x) h (kept-none ys)
+    where
+      go :
+          (b : Bool)
+          → suc (length ys) ≤ cond b 0 (suc (place same x ys))
+          → (length ys ≤ place same x ys → kept same x ys ≡ ys ++ (x ∷ []))
+          → cond b (y ∷ ys) (y ∷ kept same x ys) ≡ (y ∷ ys) ++ (x ∷ [])
+      go true h again = absurd (not-suc-le-zero h)
+      go false h again = ap {B = List A} (λ l. y ∷ l) (again (omega arith))
+
+-- A loop that looks at g 0, g 1 .. up to n, which are the elements of l.
+module _ {A : Type 0} (same : A → A → Bool) (x d : A) (l : List A) (n : ℕ) (g : ℕ → A) (long : length l ≡ n) (at : (j : ℕ) → j < n → getD l j d ≡ g j) where
+  pub scan-found :
+      (i : ℕ) → i < n → ((j : ℕ) → j < i → same (g j) x ≡ false) → same (g i) x ≡ true → i ≡ place same x l
+  scan-found i h before e =
+      sym
+      (place-first same x d l i (omega arith) (λ j k. ap (λ (y : A). same y x) (at j (omega arith)) ∙ before j k)
+      (ap (λ (y : A). same y x) (at i h) ∙ e))
+
+  pub scan-none : ((j : ℕ) → j < n → same (g j) x ≡ false) → n ≡ place same x l
+  scan-none none =
+      sym
+      (place-none same x d l (λ j h. ap (λ (y : A). same y x) (at j (omega arith)) ∙ none j (omega arith)) ∙ long)
+
+-- of n rows, and of the first w words
+module _ (r d : Row) (n : ℕ) (g : ℕ → Row) where
+  pub row-found :
+      (i : ℕ)
+      → i < n
+      → ((j : ℕ) → j < i → same-row (g j) r ≡ false)
+      → same-row (g i) r ≡ true
+      → i ≡ place same-row r (upto n g)
+  row-found = scan-found same-row r d (upto n g) n g (length-upto n g) (λ j h. getD-upto n g j d h)
+
+  pub row-none : ((j : ℕ) → j < n → same-row (g j) r ≡ false) → n ≡ place same-row r (upto n g)
+  row-none = scan-none same-row r d (upto n g) n g (length-upto n g) (λ j h. getD-upto n g j d h)
+
+module _ (v w : ℕ) (o : List ℕ) (room : w ≤ length o) where
+  pub twin-found :
+      (i : ℕ) → i < w → ((j : ℕ) → j < i → getD o j 0 ≡ v → ⊥) → getD o i 0 ≡ v → i ≡ place eqb v (take w o)
+  twin-found i h before e =
+      scan-found eqb v 0 (take w o) w (λ j. getD o j 0) (length-take-le w o room) (λ j k. getD-take w o j 0 k) i h
+      (λ j k. ne-eqb (getD o j 0) v (before j k)) (eq-eqb (getD o i 0) v e)
+
+  pub twin-none : ((j : ℕ) → j < w → getD o j 0 ≡ v → ⊥) → w ≡ place eqb v (take w o)
+  twin-none none =
+      scan-none eqb v 0 (take w o) w (λ j. getD o j 0) (length-take-le w o room) (λ j k. getD-take w o j 0 k)
+      (λ j k. ne-eqb (getD o j 0) v (none j k))
+
+-- A row is compared word by word.
+module _ (t r : Row) where
+  pub other-kind : (t .kind ≡ r .kind → ⊥) → false ≡ same-row t r
+  unfolding same-row
+  other-kind h = rw (ne-eqb (t .kind) (r .kind) h)
+
+  pub other-a : t .kind ≡ r .kind → (t .a ≡ r .a → ⊥) → false ≡ same-row t r
+  unfolding same-row
+  other-a e h = rw (eq-eqb (t .kind) (r .kind) e, ne-eqb (t .a) (r .a) h)
+
+  pub by-b : t .kind ≡ r .kind → t .a ≡ r .a → eqb (t .b) (r .b) ≡ same-row t r
+  unfolding same-row
+  by-b e f = rw (eq-eqb (t .kind) (r .kind) e, eq-eqb (t .a) (r .a) f)

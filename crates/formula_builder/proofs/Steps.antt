@@ -1,0 +1,291 @@
+-- Steps of the code are steps of the definitions. Assumes nothing.
+use Prim.Native.Nat.{ℕ, zero, suc, _+_, _*_, _≤_, _<_}
+use native.Mathlib.Numerals.{add-one}
+use native.Mathlib.Omega.{arith}
+use mathlib.Core.Path.{_≡_, refl, sym, ap, ap₂, _∙_}
+use mathlib.Core.Bool.{Bool, true, false, cond, false≢true, true≢false}
+use mathlib.Core.List.{List, [], _∷_, _++_}
+use lib.ListN.{length, getD, take, set, length-append, length-set}
+use lib.Seq.{length-take-le}
+use lib.Dec.{eqb}
+use Rattle.task.specs.Bounded.{upto}
+use Rattle.task.specs.Table.{Row, row-at}
+use Rattle.task.proofs.Bounded.{length-upto}
+use Rattle.normal_form.specs.Builder.{St, Got, Build, give, bind, place, kept, same-row, row, twin, variable-row, twin-row, Polarity, plain, negated, falsity, truth, join-kind, choice, joined, join}
+use Rattle.normal_form.specs.Growth.{Prefix, Grows, Steady}
+use Rattle.normal_form.proofs.Growth.{kept-prefix, same-row-itself, eqb-itself, steady-variable-row}
+use borrow.Author.Tests.{eq-eqb, ne-eqb}
+use Rattle.formula_builder.specs.declared.Frame.{Frame}
+use Rattle.formula_builder.specs.declared.Size.{Size}
+use Rattle.formula_builder.specs.declared.Step.{Step}
+use Rattle.formula_builder.specs.Held.{three, Store, store, held, size-of, done-step, RowsReady, Ready, Within, Done, Builds}
+use Rattle.formula_builder.proofs.Found.{place-bound, kept-found, kept-none}
+use Rattle.formula_builder.proofs.Stored.{length-three, three-rows, three-past, one-more, one-past}
+
+abbrev pub full-step : Size → Step
+full-step at = record { rows = at .rows; twins = at .twins; row = 0; full = true }
+
+-- Done, or over, is all that there is to a step.
+module _ {m : Build ℕ} {frame : Frame} {at : Size} {before after : Store} {r : Step} where
+  pub builds-done : r .full ≡ false → Done m frame at before after r → Builds m frame at before after r
+  builds-done e d = record { done = λ _. d; over = λ f. absurd (true≢false (sym f ∙ e)) }
+
+  pub builds-over : r .full ≡ true → (Within frame (m (held at before) .st) → ⊥) → Builds m frame at before after r
+  builds-over e d = record { done = λ f. absurd (true≢false (sym e ∙ f)); over = λ _. d }
+
+  -- a step that comes to the same as another one from what stands
+  pub builds-from :
+      {m' : Build ℕ} {at' : Size} {before' : Store}
+      → m (held at before) ≡ m' (held at' before')
+      → at .rows ≤ at' .rows
+      → Builds m' frame at' before' after r
+      → Builds m frame at before after r
+  builds-from same grew b =
+      record {
+        done = λ e.
+            let d = b .done e in
+            record {
+              value = ap (λ (g : Got ℕ). g .value) same ∙ d .value;
+              state = ap (λ (g : Got ℕ). g .st) same ∙ d .state;
+              ready = d .ready;
+              below = d .below;
+              grew = omega (arith, d .grew);
+            };
+        over = λ e w. b .over e (rw (ap (λ (g : Got ℕ). g .st) same) at w);
+      }
+
+pub prefix-length : {A : Type 0} {l m : List A} → Prefix l m → length l ≤ length m
+prefix-length {A} {l} p = rw (p .whole, length-append l (p .rest)) (omega arith)
+
+-- what is within the frame was within it before
+pub within-before : {frame : Frame} {s t : St} → Grows s t → Within frame t → Within frame s
+within-before g w =
+    record {
+      rows = omega (arith, prefix-length (g .rows), w .rows);
+      twins = omega (arith, prefix-length (g .twins), w .twins);
+    }
+
+-- A step and what follows from its value.
+module _ {A : Type 0} {m : Build ℕ} {frame : Frame} {at : Size} {before mid : Store} {l : Step} where
+  pub bind-done :
+      (f : ℕ → Build A) → Done m frame at before mid l → bind m f (held at before) ≡ f (l .row) (held (size-of l) mid)
+  unfolding bind
+  bind-done f d = ap₂ f (d .value) (d .state)
+
+pub bind-over :
+    {A : Type 0} (m : Build ℕ) (f : ℕ → Build A) (frame : Frame) (s : St)
+    → ((x : ℕ) → Steady (f x))
+    → (Within frame (m s .st) → ⊥)
+    → Within frame (bind m f s .st)
+    → ⊥
+unfolding bind
+bind-over m f frame s steady over w =
+    let g = m s in
+    over (within-before (steady (g .value) .grow (g .st)) w)
+
+module _ {m : Build ℕ} {frame : Frame} {at : Size} {before mid after : Store} {l r : Step} where
+  -- the first is done: the second goes on
+  pub builds-bind :
+      (f : ℕ → Build ℕ)
+      → Builds m frame at before mid l
+      → l .full ≡ false
+      → Builds (f (l .row)) frame (size-of l) mid after r
+      → Builds (bind m f) frame at before after r
+  builds-bind f b e c =
+      let d = b .done e in
+      builds-from (bind-done f d) (d .grew) c
+
+-- there was no room for the first
+pub builds-stop :
+    {m : Build ℕ} {frame : Frame} {at : Size} {before mid after : Store} {l : Step} (f : ℕ → Build ℕ)
+    → ((x : ℕ) → Steady (f x))
+    → Builds m frame at before mid l
+    → l .full ≡ true
+    → Builds (bind m f) frame at before after l
+builds-stop {m} {frame} {at} {before} f steady b e =
+    builds-over e (bind-over m f frame (held at before) steady (b .over e))
+
+-- nothing is built
+pub builds-give :
+    {frame : Frame} {at : Size} {s : Store} (x : ℕ)
+    → Ready frame at s
+    → x < at .rows
+    → Builds (give x) frame at s s (done-step at x)
+unfolding give
+builds-give x ready h =
+    builds-done refl (record { value = refl; state = refl; ready = ready; below = h; grew = omega arith })
+
+-- A row: i is where it stands.
+module _ (frame : Frame) (at : Size) (table o : List ℕ) (ready : Ready frame at (store table o)) (r : Row) (i : ℕ) (e : i ≡ place same-row r (upto (at .rows) (row-at table))) where
+  pub row-stands : i < at .rows → Builds (row r) frame at (store table o) (store table o) (done-step at i)
+  unfolding row held
+  row-stands h =
+      let l = upto (at .rows) (row-at table) in
+      let found : kept same-row r l ≡ l =
+      kept-found same-row r l (omega (arith, length-upto (at .rows) (row-at table))) in
+      builds-done refl
+      (record {
+        value = sym e;
+        state = λ j. record { rows = found j; twins = take (at .twins) o };
+        ready = ready;
+        below = h;
+        grew = omega arith;
+      })
+
+  added : at .rows ≤ i → kept same-row r (upto (at .rows) (row-at table)) ≡ upto (at .rows) (row-at table) ++ (r ∷ [])
+  added h =
+      kept-none same-row r (upto (at .rows) (row-at table)) (omega (arith, length-upto (at .rows) (row-at table)))
+
+  pub row-full :
+      at .rows ≤ i → at .rows ≡ frame .rows → Builds (row r) frame at (store table o) (store table o) (full-step at)
+  unfolding row held
+  row-full h full =
+      let l = upto (at .rows) (row-at table) in
+      builds-over refl (λ w.
+      omega
+      (arith, w .rows, ap (λ (x : List Row). length x) (added h), length-append l (r ∷ []), length-upto (at .rows) (row-at table)))
+
+  pub row-appended :
+      at .rows ≤ i
+      → (at .rows ≡ frame .rows → ⊥)
+      → Builds (row r) frame at (store table o) (store (three table (at .rows) r) o)
+      (record { rows = at .rows + 1; twins = at .twins; row = at .rows; full = false })
+  unfolding row held
+  row-appended h room =
+      let l = upto (at .rows) (row-at table) in
+      let rows-ready = ready .rows in
+      let fits : 3 * at .rows + 3 ≤ length table = omega arith in
+      let whole : kept same-row r l ≡ upto (at .rows + 1) (row-at (three table (at .rows) r)) =
+      added h ∙ sym (three-rows table (at .rows) r fits) in
+      let bound = place-bound same-row r l in
+      builds-done refl
+      (record {
+        value = omega (arith, bound, length-upto (at .rows) (row-at table));
+        state = λ j. record { rows = whole j; twins = take (at .twins) o };
+        ready =
+            record {
+              rows =
+                  record {
+                    within = omega arith;
+                    room = omega (arith, length-three table (at .rows) r);
+                    limit = omega arith;
+                  };
+              two = omega (arith, ready .two);
+              twins = ready .twins;
+              originals = ready .originals;
+              variables = ready .variables;
+              past-rows = three-past table (at .rows) r (ready .past-rows);
+              past-twins = ready .past-twins;
+            };
+        below = omega arith;
+        grew = omega arith;
+      })
+
+abbrev pub one-twin : Size → Size
+one-twin at = record { rows = at .rows; twins = at .twins + 1 }
+
+-- The row of v's twin: k is where the twin stands.
+module _ (frame : Frame) (at : Size) (table o : List ℕ) (ready : Ready frame at (store table o)) (v k : ℕ) (e : k ≡ place eqb v (take (at .twins) o)) where
+  stands-long : length (take (at .twins) o) ≡ at .twins
+  stands-long = length-take-le (at .twins) o (omega (arith, ready .twins, ready .originals))
+
+  -- the twin's variable is below 512
+  pub twin-small : at .twins ≤ frame .twins → k ≤ at .twins
+  twin-small h = omega (arith, place-bound eqb v (take (at .twins) o), stands-long)
+
+  pub twin-stands :
+      {after : Store} {s : Step}
+      → k < at .twins
+      → Builds (variable-row (frame .variables + k)) frame at (store table o) after s
+      → Builds (twin-row (frame .variables) v) frame at (store table o) after s
+  unfolding twin-row bind twin held
+  twin-stands h b =
+      let l = take (at .twins) o in
+      let found : kept eqb v l ≡ l = kept-found eqb v l (omega (arith, stands-long)) in
+      let back : place eqb v l ≡ k = sym e in
+      builds-from
+      (λ j. variable-row (frame .variables + back j) (record { rows = upto (at .rows) (row-at table); twins = found j }))
+      (omega arith) b
+
+  met : at .twins ≤ k → kept eqb v (take (at .twins) o) ≡ take (at .twins) o ++ (v ∷ [])
+  met h = kept-none eqb v (take (at .twins) o) (omega (arith, stands-long))
+
+  pub twin-full :
+      at .twins ≤ k
+      → at .twins ≡ frame .twins
+      → Builds (twin-row (frame .variables) v) frame at (store table o) (store table o) (full-step at)
+  unfolding twin-row twin held
+  twin-full h full =
+      let l = take (at .twins) o in
+      builds-over refl
+      (bind-over (twin v) (λ k. variable-row (frame .variables + k)) frame (held at (store table o))
+      (λ x. steady-variable-row (frame .variables + x))
+      (λ w. omega (arith, w .twins, ap (λ (x : List ℕ). length x) (met h), length-append l (v ∷ []), stands-long)))
+
+  pub twin-ready : (at .twins ≡ frame .twins → ⊥) → Ready frame (one-twin at) (store table (set o (at .twins) v))
+  twin-ready room =
+      let t = ready .twins in
+      record {
+        rows = ready .rows;
+        two = ready .two;
+        twins = omega arith;
+        originals = omega (arith, length-set o (at .twins) v, ready .originals);
+        variables = ready .variables;
+        past-rows = ready .past-rows;
+        past-twins = one-past o (at .twins) v (ready .past-twins);
+      }
+
+  pub twin-appended :
+      {after : Store} {s : Step}
+      → at .twins ≤ k
+      → (at .twins ≡ frame .twins → ⊥)
+      → Builds (variable-row (frame .variables + k)) frame (one-twin at) (store table (set o (at .twins) v)) after s
+      → Builds (twin-row (frame .variables) v) frame at (store table o) after s
+  unfolding twin-row bind twin held
+  twin-appended h room b =
+      let l = take (at .twins) o in
+      let t = ready .twins in
+      let whole : kept eqb v l ≡ take (at .twins + 1) (set o (at .twins) v) =
+      met h ∙ sym (one-more o (at .twins) v (omega (arith, ready .originals))) in
+      let back : place eqb v l ≡ k = sym e in
+      builds-from
+      (λ j. variable-row (frame .variables + back j) (record { rows = upto (at .rows) (row-at table); twins = whole j }))
+      (omega arith) b
+
+-- How a join comes out.
+module _ (p : Polarity) (a b : ℕ) where
+  pub join-left-false : a ≡ falsity p → join p a b ≡ give (falsity p)
+  unfolding join choice joined
+  join-left-false e = rw (eq-eqb a (falsity p) e)
+
+  pub join-right-false : (a ≡ falsity p → ⊥) → b ≡ falsity p → join p a b ≡ give (falsity p)
+  unfolding join choice joined
+  join-right-false h e = rw (ne-eqb a (falsity p) h, eq-eqb b (falsity p) e)
+
+  module _ (h : a ≡ falsity p → ⊥) (g : b ≡ falsity p → ⊥) where
+    pub join-left-true : a ≡ truth p → join p a b ≡ give b
+    unfolding join choice joined
+    join-left-true e = rw (ne-eqb a (falsity p) h, ne-eqb b (falsity p) g, eq-eqb a (truth p) e)
+
+    pub join-right-true : (a ≡ truth p → ⊥) → b ≡ truth p → join p a b ≡ give a
+    unfolding join choice joined
+    join-right-true k e =
+        rw (ne-eqb a (falsity p) h, ne-eqb b (falsity p) g, ne-eqb a (truth p) k, eq-eqb b (truth p) e)
+
+    pub join-fresh :
+        (a ≡ truth p → ⊥) → (b ≡ truth p → ⊥) → join p a b ≡ row (record { kind = join-kind p; a = a; b = b })
+    unfolding join choice joined
+    join-fresh k i =
+        rw (ne-eqb a (falsity p) h, ne-eqb b (falsity p) g, ne-eqb a (truth p) k, ne-eqb b (truth p) i)
+
+pub falsity-small : (p : Polarity) → falsity p < 2
+falsity-small plain = omega arith
+falsity-small negated = omega arith
+
+-- a step that is another one
+pub builds-as :
+    {m m' : Build ℕ} {frame : Frame} {at : Size} {before after : Store} {r : Step}
+    → m ≡ m'
+    → Builds m' frame at before after r
+    → Builds m frame at before after r
+builds-as {at = at} {before = before} e b = builds-from (ap (λ (m : Build ℕ). m (held at before)) e) (omega arith) b

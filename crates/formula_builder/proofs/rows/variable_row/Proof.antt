@@ -1,0 +1,23 @@
+use borrow.Author.Needs.{needs}
+use Rattle.formula_builder.proofs.rows.variable_row.Statement.{statement}
+use Rattle.formula_builder.proofs.rows.variable_row.Tie as tie
+use Rattle.formula_builder.proofs.rows.variable_row.Reads as reads
+use Rattle.formula_builder.proofs.rows.variable_row.Lts as lts
+use Rattle.formula_builder.proofs.rows.row.Reads as row-reads
+use Rattle.normal_form.specs.Builder.{variable-row}
+
+-- src/rows.rt:103:5
+row-requires : tie.Need-row-requires
+row-requires c κs = search needs
+
+-- src/rows.rt:99:1
+same-length : tie.Need-same-length
+same-length c = search needs
+
+-- src/rows.rt:99:1
+returns : tie.Need-returns
+unfolding variable-row
+returns c = c .before .before .row .ensures
+
+pub variable-row-spec : {M : Type 1} → statement M
+variable-row-spec = tie.close (tie.spec row-requires same-length returns)

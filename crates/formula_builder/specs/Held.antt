@@ -1,0 +1,84 @@
+-- What lent tables hold of a builder's state, and what a step of the code answers: what the definition gives, or that it does not fit.
+use Prim.Native.Nat.{ℕ, _+_, _*_, _≤_, _<_}
+use mathlib.Core.Path.{_≡_}
+use mathlib.Core.Bool.{Bool, true, false}
+use mathlib.Core.List.{List}
+use lib.ListN.{length, getD, take, set}
+use Rattle.task.specs.Bounded.{upto}
+use Rattle.task.specs.Table.{Row, row-at}
+use Rattle.normal_form.specs.Builder.{St, Build, Polarity, plain, negated}
+use Rattle.formula_builder.specs.declared.Words.{Words}
+use Rattle.formula_builder.specs.declared.Frame.{Frame}
+use Rattle.formula_builder.specs.declared.Size.{Size}
+use Rattle.formula_builder.specs.declared.Step.{Step}
+
+abbrev pub row-of : Words → Row
+row-of w = record { kind = w .kind; a = w .a; b = w .b }
+
+-- the polarity that a flag stands for
+abbrev pub side : Bool → Polarity
+side false = plain
+side true = negated
+
+-- row r stored behind n rows
+abbrev pub three : List ℕ → ℕ → Row → List ℕ
+three t n r = set (set (set t (3 * n) (r .kind)) (3 * n + 1) (r .a)) (3 * n + 2) (r .b)
+
+-- The two tables that building writes: formula words, and originals of twins.
+pub record Store : Type 0 where
+  pub table : List ℕ
+  pub originals : List ℕ
+
+abbrev pub store : List ℕ → List ℕ → Store
+store t o = record { table = t; originals = o }
+
+-- the builder's state that the tables hold
+unfoldable pub held : Size → Store → St
+held at s = record { rows = upto (at .rows) (row-at (s .table)); twins = take (at .twins) (s .originals) }
+
+abbrev pub size-of : Step → Size
+size-of r = record { rows = r .rows; twins = r .twins }
+
+-- a step that answers row x and adds nothing
+abbrev pub done-step : Size → ℕ → Step
+done-step at x = record { rows = at .rows; twins = at .twins; row = x; full = false }
+
+-- The table has room for the rows of the frame, and what stands is within it.
+pub record RowsReady (frame : Frame) (stand : ℕ) (table : List ℕ) : Type 0 where
+  pub within : stand ≤ frame .rows
+  pub room : 3 * frame .rows ≤ length table
+  pub limit : frame .rows ≤ 4096
+
+pub record JoinReady (frame : Frame) (at : Size) (table : List ℕ) (a b : ℕ) : Type 0 where
+  pub rows : RowsReady frame (at .rows) table
+  pub two : 2 ≤ at .rows
+  pub left : a < at .rows
+  pub right : b < at .rows
+
+-- Both tables are ready: false and true stand, and behind what stands all words are 0.
+pub record Ready (frame : Frame) (at : Size) (s : Store) : Type 0 where
+  pub rows : RowsReady frame (at .rows) (s .table)
+  pub two : 2 ≤ at .rows
+  pub twins : at .twins ≤ frame .twins
+  pub originals : frame .twins ≤ length (s .originals)
+  pub variables : frame .variables + frame .twins ≤ 512
+  pub past-rows : (j : ℕ) → 3 * at .rows ≤ j → getD (s .table) j 0 ≡ 0
+  pub past-twins : (j : ℕ) → at .twins ≤ j → getD (s .originals) j 0 ≡ 0
+
+-- A state within the frame.
+pub record Within (frame : Frame) (s : St) : Type 0 where
+  pub rows : length (s .rows) ≤ frame .rows
+  pub twins : length (s .twins) ≤ frame .twins
+
+-- A step that is done: the tables hold what the definition gives, and the answer is its value.
+pub record Done (m : Build ℕ) (frame : Frame) (at : Size) (before after : Store) (r : Step) : Type 0 where
+  pub value : m (held at before) .value ≡ r .row
+  pub state : m (held at before) .st ≡ held (size-of r) after
+  pub ready : Ready frame (size-of r) after
+  pub below : r .row < r .rows
+  pub grew : at .rows ≤ r .rows
+
+-- A step is done, or there is no room and what the definition gives is not within the frame.
+pub record Builds (m : Build ℕ) (frame : Frame) (at : Size) (before after : Store) (r : Step) : Type 0 where
+  pub done : r .full ≡ false → Done m frame at before after r
+  pub over : r .full ≡ true → Within frame (m (held at before) .st) → ⊥

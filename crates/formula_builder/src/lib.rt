@@ -1,0 +1,43 @@
+// Building the formula table of a compiled task: a row or a twin is found in the tables that are lent, or appended.
+mod joins;
+mod rows;
+mod twins;
+
+pub use joins::falsity;
+pub use joins::join;
+pub use joins::standing;
+pub use joins::truth;
+pub use rows::read_row;
+pub use rows::row;
+pub use rows::variable_row;
+pub use twins::twin_row;
+
+// A row's three words.
+pub struct Words {
+    pub kind: u16,
+    pub a: u16,
+    pub b: u16,
+}
+
+// The source's counts of variables, formulas and effects, and how many rows and twins the compiled task has room for.
+pub struct Frame {
+    pub variables: usize,
+    pub formulas: usize,
+    pub effects: usize,
+    pub rows: usize,
+    pub twins: usize,
+}
+
+// How many rows and twins stand.
+pub struct Size {
+    pub rows: usize,
+    pub twins: usize,
+}
+
+// What a step answers: the size after it and the row that it built; or that there was no room.
+pub struct Step {
+    pub rows: usize,
+    pub twins: usize,
+    pub row: u16,
+    pub full: bool,
+}

@@ -1,0 +1,34 @@
+use borrow.Author.Needs.{needs}
+use Rattle.images.proofs.memo.note.Statement.{statement}
+use Rattle.images.proofs.memo.note.Tie as tie
+use Rattle.images.proofs.memo.note.Reads as reads
+use Rattle.images.proofs.memo.note.Lts as lts
+use native.Mathlib.Omega.{arith}
+
+-- src/memo.rt:14:9
+returns : tie.Need-returns
+returns c = rw (c .if1 .taken)
+
+-- src/memo.rt:16:18
+add-scratch : tie.Need-add-scratch
+add-scratch c = omega (arith, c .before .before .pre .small (c .before .if1 .left))
+
+-- src/memo.rt:16:5
+mul-scratch : tie.Need-mul-scratch
+mul-scratch c = search needs
+
+-- src/memo.rt:16:5
+slice-write-scratch : tie.Need-slice-write-scratch
+slice-write-scratch c = search needs
+
+-- src/memo.rt:9:1
+same-length : tie.Need-same-length
+same-length c = search needs
+
+-- src/memo.rt:9:1
+returns-2 : tie.Need-returns-2
+returns-2 c = rw (c .before .if1 .left)
+
+pub note-spec : {M : Type 1} → statement M
+note-spec =
+    tie.close (tie.spec returns add-scratch mul-scratch slice-write-scratch same-length returns-2)

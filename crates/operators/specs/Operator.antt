@@ -1,0 +1,54 @@
+-- What building one operator asks and gives.
+use Prim.Native.Nat.{ℕ, _+_, _*_, _≤_, _<_}
+use mathlib.Core.Path.{_≡_}
+use mathlib.Core.Bool.{Bool, true, false}
+use mathlib.Core.List.{List}
+use lib.ListN.{length, getD}
+use Rattle.normal_form.specs.Builder.{Build, bind, each, plain}
+use Rattle.normal_form.specs.Operators.{Changes, changes-of}
+use Rattle.formula_builder.specs.declared.Frame.{Frame}
+use Rattle.formula_builder.specs.declared.Size.{Size}
+use Rattle.formula_builder.specs.Held.{Store}
+use Rattle.images.specs.Images.{image-at}
+use Rattle.conditions.specs.Conditions.{effect-tree}
+use Rattle.task.specs.Table.{row-at}
+use Rattle.changes.specs.Stands.{Stands, StandsAt}
+use Rattle.touched.specs.Touched.{Untouched}
+
+-- the changes of the variables below v
+unfoldable pub all-changes : Frame → List ℕ → List ℕ → ℕ → ℕ → Build (List Changes)
+all-changes frame formulas effects e v = each v (changes-of (frame .variables) (effect-tree frame formulas effects e))
+
+-- the precondition, then all changes
+unfoldable pub operator-built : Frame → List ℕ → List ℕ → ℕ → ℕ → Build (List Changes)
+operator-built frame formulas effects p e =
+    bind (image-at frame formulas plain p) (λ f. all-changes frame formulas effects e (frame .variables))
+
+pub record WalksVariable (walked : Bool) (frame : Frame) (formulas effects : List ℕ) (at : Size) (s : Store) (scratch : List ℕ) (e v : ℕ) : Type 0 where
+  pub stands : StandsAt frame formulas effects at s scratch e
+  pub passed : walked ≡ false → Untouched frame formulas effects v e
+
+pub record WalksAll (frame : Frame) (formulas effects touched : List ℕ) (at : Size) (s : Store) (scratch : List ℕ) (e : ℕ) : Type 0 where
+  pub stands : StandsAt frame formulas effects at s scratch e
+  pub room : frame .variables ≤ length touched
+  pub passed : (v : ℕ) → getD touched v 0 ≡ 0 → Untouched frame formulas effects v e
+
+pub record BuildsOperator (frame : Frame) (formulas effects : List ℕ) (at : Size) (s : Store) (scratch : List ℕ) (p e : ℕ) : Type 0 where
+  pub stands : StandsAt frame formulas effects at s scratch e
+  pub formula : p < frame .formulas
+
+-- operator o: the first two words of its row are its precondition and its effect
+unfoldable pub operator-here : Frame → List ℕ → List ℕ → List ℕ → ℕ → Build (List Changes)
+operator-here frame formulas effects operators o =
+    operator-built frame formulas effects (row-at operators o .kind) (row-at operators o .a)
+
+-- the first n operators
+unfoldable pub operators-built : Frame → List ℕ → List ℕ → List ℕ → ℕ → Build (List (List Changes))
+operators-built frame formulas effects operators n = each n (operator-here frame formulas effects operators)
+
+pub record BuildsAll (frame : Frame) (formulas effects operators : List ℕ) (count : ℕ) (at : Size) (s : Store) (scratch : List ℕ) : Type 0 where
+  pub stands : Stands frame formulas effects at s scratch
+  pub words : 3 * count ≤ length operators
+  pub limit : count ≤ 256
+  pub precondition : (o : ℕ) → o < count → row-at operators o .kind < frame .formulas
+  pub effect : (o : ℕ) → o < count → row-at operators o .a < frame .effects

@@ -1,0 +1,4 @@
+pub mod Puts
+pub mod PutLoops
+pub mod WriteWays
+pub mod Calls

@@ -1,0 +1,385 @@
+-- Marking finds every variable that an effect touches. Assumes nothing.
+use Prim.Native.Nat.{ℕ, zero, suc, _+_, _*_, _≤_, _<_}
+use native.Mathlib.Omega.{arith}
+use native.Mathlib.Decide.{decLt, ℕ-discrete}
+use mathlib.Core.Path.{_≡_, refl, sym, ap, ap₂, _∙_}
+use mathlib.Core.Bool.{Bool, true, false, cond}
+use mathlib.Core.List.{List, [], _∷_}
+use lib.ListN.{length, getD, set, length-set}
+use lib.Seq.{getD-set-same, getD-set-other, ext-getD, set-set, set-getD}
+use Rattle.task.specs.Table.{Row, row-at, effect-kind}
+use Rattle.task.specs.Semantics.{Formula}
+use Rattle.task.specs.Rules.{no-row, EffectRule}
+use Rattle.task.proofs.Bounded.{length-upto, getD-upto}
+use Rattle.normal_form.specs.Builder.{Build, give, bind, join, pair, Polarity, plain, negated, opposite, falsity, truth}
+use Rattle.normal_form.specs.Conditions.{guarded}
+use Rattle.formula_builder.specs.declared.Words.{Words}
+use Rattle.formula_builder.specs.declared.Frame.{Frame}
+use Rattle.formula_builder.specs.Held.{side, row-of}
+use Rattle.formula_builder.proofs.Steps.{join-left-true}
+use Rattle.images.specs.Images.{tree}
+use Rattle.conditions.specs.declared.Target.{Target}
+use Rattle.conditions.specs.Conditions.{atom-of, atom-by, acts, condition-at, effect-rows, EffectSource}
+use Rattle.conditions.proofs.Atoms.{touch-other}
+use Rattle.conditions.proofs.Rows.{both-lower, under-lower, of-atom, of-both, of-under}
+use borrow.Author.Tests.{eq-eqb}
+use Rattle.touched.specs.Touched.{Untouched, mark-place, LeftAlone, LooksAt, Looked, Marks}
+
+-- a join of what folds away folds away
+idle-pair : (p : Polarity) → pair (opposite p) (give (falsity p)) (give (falsity p)) ≡ give (falsity p)
+unfolding pair bind give
+idle-pair plain = join-left-true negated 0 0 (λ e. omega arith) (λ e. omega arith) refl
+idle-pair negated = join-left-true plain 1 1 (λ e. omega arith) (λ e. omega arith) refl
+
+-- and a formula over what folds away is not built
+idle-guard : (n : ℕ) (p : Polarity) (f : Formula) → bind (give (falsity p)) (λ c. guarded n p f c) ≡ give (falsity p)
+unfolding bind give guarded
+idle-guard n plain f = refl
+idle-guard n negated f = refl
+
+-- Row i with the words w, of a variable v.
+module _ (frame : Frame) (formulas effects scratch : List ℕ) (source : EffectSource frame effects scratch) (i : ℕ) (h : i < frame .effects) (w : Words) (q : row-of w ≡ row-at effects i) (v : ℕ) where
+  kind-read : row-at effects i .kind ≡ w .kind
+  kind-read = ap (λ (r : Row). r .kind) (sym q)
+
+  pub idle-both :
+      w .kind ≡ 3 → Untouched frame formulas effects v (w .a) → Untouched frame formulas effects v (w .b) → Untouched frame formulas effects v i
+  idle-both k l r =
+      record {
+        idle = λ t e.
+            let p = side (t .negated) in
+            of-both frame formulas effects scratch source i h t (kind-read ∙ k)
+            ∙ rw (← q)
+            (ap₂ (pair (opposite p)) (l .idle t e) (r .idle t e) ∙ idle-pair p);
+      }
+
+  pub idle-under : w .kind ≡ 4 → Untouched frame formulas effects v (w .b) → Untouched frame formulas effects v i
+  idle-under k l =
+      record {
+        idle = λ t e.
+            let p = side (t .negated) in
+            let f = tree frame formulas (w .a) in
+            of-under frame formulas effects scratch source i h t (kind-read ∙ k)
+            ∙ ap (λ (r : Row). bind (condition-at frame formulas effects t (r .b)) (λ c. guarded (frame .variables) p (tree frame formulas (r .a)) c)) (sym q)
+            ∙ ap (λ (m : Build ℕ). bind m (λ c. guarded (frame .variables) p f c)) (l .idle t e)
+            ∙ idle-guard (frame .variables) p f;
+      }
+
+  pub idle-empty : w .kind ≡ 0 → Untouched frame formulas effects v i
+  unfolding acts effect-kind
+  idle-empty k =
+      record {
+        idle = λ t e.
+            of-atom frame formulas effects scratch source i h t (λ z. omega (arith, z, kind-read)) (λ z. omega (arith, z, kind-read))
+            ∙ rw (kind-read ∙ k);
+      }
+
+  pub idle-atom :
+      (w .kind ≡ 3 → ⊥) → (w .kind ≡ 4 → ⊥) → (v ≡ w .a → ⊥) → Untouched frame formulas effects v i
+  idle-atom three four other =
+      record {
+        idle = λ t e.
+            of-atom frame formulas effects scratch source i h t (λ z. three (sym kind-read ∙ z)) (λ z. four (sym kind-read ∙ z))
+            ∙ ap
+            (λ (b : Bool). give (cond b (truth (side (t .negated))) (falsity (side (t .negated)))))
+            (sym
+            (touch-other (t .clear) (t .variable) (row-at effects i .a) (effect-kind (row-at effects i .kind))
+            (λ z. other (sym e ∙ sym z ∙ ap (λ (r : Row). r .a) (sym q)))));
+      }
+
+  pub both-within : w .kind ≡ 3 → (w .a < i) × (w .b < i)
+  both-within k =
+      let l = both-lower frame formulas effects scratch source i h (kind-read ∙ k) in
+      (omega (arith, l .0, ap (λ (r : Row). r .a) q), omega (arith, l .1, ap (λ (r : Row). r .b) q))
+
+  pub under-within : w .kind ≡ 4 → w .b < i
+  under-within k =
+      let l = under-lower frame formulas effects scratch source i h (kind-read ∙ k) in
+      omega (arith, l .1, ap (λ (r : Row). r .b) q)
+
+-- a mark that stands stays when another is made
+mark-keeps : (l : List ℕ) (k j : ℕ) → (getD l j 0 ≡ 0 → ⊥) → getD (set l k 1) j 0 ≡ 0 → ⊥
+mark-keeps [] k j h e = h e
+mark-keeps (x ∷ xs) zero zero h e = omega (arith, e)
+mark-keeps (x ∷ xs) zero (suc j) h e = h e
+mark-keeps (x ∷ xs) (suc k) zero h e = h e
+mark-keeps (x ∷ xs) (suc k) (suc j) h e = mark-keeps xs k j h e
+
+-- an atom names a variable
+atom-rule : (v f i k a b : ℕ) → EffectRule v f i (effect-kind k) a b → (k ≡ 0 → ⊥) → (k ≡ 3 → ⊥) → (k ≡ 4 → ⊥) → a < v
+unfolding effect-kind
+atom-rule v f i zero a b r x y z = absurd (x refl)
+atom-rule v f i (suc zero) a b r x y z = r .0
+atom-rule v f i (suc (suc zero)) a b r x y z = r .0
+atom-rule v f i (suc (suc (suc zero))) a b r x y z = absurd (y refl)
+atom-rule v f i (suc (suc (suc (suc zero)))) a b r x y z = absurd (z refl)
+atom-rule v f i (suc (suc (suc (suc (suc k))))) a b r x y z = absurd r
+
+pub atom-within :
+    (frame : Frame) (effects scratch : List ℕ) (source : EffectSource frame effects scratch) (i : ℕ) (h : i < frame .effects) (w : Words) (q : row-of w ≡ row-at effects i)
+    → (w .kind ≡ 0 → ⊥)
+    → (w .kind ≡ 3 → ⊥)
+    → (w .kind ≡ 4 → ⊥)
+    → w .a < frame .variables
+unfolding effect-rows
+atom-within frame effects scratch source i h w q x y z =
+    let there : i < length (effect-rows frame effects) = rw (length-upto (frame .effects) (row-at effects)) h in
+    let same : getD (effect-rows frame effects) i no-row ≡ row-of w =
+    getD-upto (frame .effects) (row-at effects) i no-row h ∙ sym q in
+    atom-rule (frame .variables) (frame .formulas) i (w .kind) (w .a) (w .b) (rw same at (source .down .row i there)) x y z
+
+-- Row i was looked at, in general: the marks below it stay, and its own is answered for.
+module _ (frame : Frame) (effects : List ℕ) (i : ℕ) (before after touched touched' : List ℕ) where
+  looked :
+      ((j : ℕ) → j < i → (getD before (mark-place frame j) 0 ≡ 0 → ⊥) → getD after (mark-place frame j) 0 ≡ 0 → ⊥)
+      → ((formulas : List ℕ) (v : ℕ)
+      → getD touched' v 0 ≡ 0
+      → LeftAlone frame formulas effects after v i
+      → (getD before (mark-place frame i) 0 ≡ 0 → ⊥)
+      → Untouched frame formulas effects v i)
+      → ((v : ℕ) → getD touched' v 0 ≡ 0 → getD touched v 0 ≡ 0)
+      → getD after (mark-place frame i) 0 ≡ 0
+      → ((j : ℕ) → j < 2 * frame .formulas + frame .effects → getD after j 0 ≡ getD before j 0)
+      → ((j : ℕ) → mark-place frame i < j → getD after j 0 ≡ getD before j 0)
+      → Looked frame effects i before after touched touched'
+  looked keeps here stays cleared below above =
+      record { goes-on = goes-on; stays = stays; cleared = cleared; below = below; above = above }
+    where
+      goes-on :
+          (formulas : List ℕ) (v : ℕ)
+          → getD touched' v 0 ≡ 0
+          → LeftAlone frame formulas effects after v i
+          → LeftAlone frame formulas effects before v (i + 1)
+      goes-on formulas v z alone j h m = go (decLt j i)
+        where
+          go : Dec (j < i) → Untouched frame formulas effects v j
+          go (yes l) = alone j l (keeps j l m)
+          go (no l) =
+              let e : j ≡ i = omega arith in
+              rw e (here formulas v z alone (λ x. m (rw e x)))
+
+-- the mark of row i is taken away
+module _ (frame : Frame) (l : List ℕ) (i : ℕ) (room : mark-place frame i < length l) where
+  gone : List ℕ
+  gone = set l (mark-place frame i) 0
+
+  gone-here : getD gone (mark-place frame i) 0 ≡ 0
+  unfolding gone
+  gone-here = getD-set-same l (mark-place frame i) 0 0 room
+
+  gone-other : (j : ℕ) → (j ≡ mark-place frame i → ⊥) → getD gone j 0 ≡ getD l j 0
+  unfolding gone
+  gone-other j h = getD-set-other l (mark-place frame i) j 0 0 h
+
+module _ (frame : Frame) (effects : List ℕ) (i : ℕ) (l touched : List ℕ) (a : LooksAt frame effects l touched i) where
+  room : mark-place frame i < length l
+  room = omega (arith, a .source .memo, a .effect)
+
+  -- it has no mark
+  pub look-unmarked : getD l (mark-place frame i) 0 ≡ 0 → Looked frame effects i l l touched touched
+  look-unmarked z =
+      looked frame effects i l l touched touched (λ j h m. m) (λ formulas v t alone m. absurd (m z)) (λ v e. e) z (λ j h. refl)
+      (λ j h. refl)
+
+  module _ (w : Words) (q : row-of w ≡ row-at effects i) where
+    pub look-empty : w .kind ≡ 0 → Looked frame effects i l (set l (mark-place frame i) 0) touched touched
+    unfolding gone
+    look-empty k =
+        looked frame effects i l (gone frame l i room) touched touched
+        (λ j h m e. m (sym (gone-other frame l i room (mark-place frame j) (λ z. omega arith)) ∙ e))
+        (λ formulas v t alone m. idle-empty frame formulas effects l (a .source) i (a .effect) w q v k) (λ v e. e)
+        (gone-here frame l i room) (λ j h. gone-other frame l i room j (λ z. omega arith))
+        (λ j h. gone-other frame l i room j (λ z. omega arith))
+
+    pub look-atom :
+        (w .kind ≡ 0 → ⊥)
+        → (w .kind ≡ 3 → ⊥)
+        → (w .kind ≡ 4 → ⊥)
+        → Looked frame effects i l (set l (mark-place frame i) 0) touched (set touched (w .a) 1)
+    unfolding gone
+    look-atom x y z =
+        let within = atom-within frame effects l (a .source) i (a .effect) w q x y z in
+        looked frame effects i l (gone frame l i room) touched (set touched (w .a) 1)
+        (λ j h m e. m (sym (gone-other frame l i room (mark-place frame j) (λ z. omega arith)) ∙ e))
+        (λ formulas v t alone m.
+        idle-atom frame formulas effects l (a .source) i (a .effect) w q v y z
+        (λ e.
+        let one = getD-set-same touched (w .a) 1 0 (omega (arith, within, a .room)) in
+        let now : getD (set touched (w .a) 1) (w .a) 0 ≡ 0 = ap (λ (x : ℕ). getD (set touched (w .a) 1) x 0) (sym e) ∙ t in
+        omega (arith, one, now)))
+        (λ v t. go v t (ℕ-discrete v (w .a)) within)
+        (gone-here frame l i room) (λ j h. gone-other frame l i room j (λ z. omega arith))
+        (λ j h. gone-other frame l i room j (λ z. omega arith))
+      where
+        go : (v : ℕ) → getD (set touched (w .a) 1) v 0 ≡ 0 → Dec (v ≡ w .a) → w .a < frame .variables → getD touched v 0 ≡ 0
+        go v t (yes e) b =
+            let now : getD (set touched (w .a) 1) (w .a) 0 ≡ 0 = ap (λ (x : ℕ). getD (set touched (w .a) 1) x 0) (sym e) ∙ t in
+            absurd (omega (arith, now, getD-set-same touched (w .a) 1 0 (omega (arith, b, a .room))))
+        go v t (no e) b = sym (getD-set-other touched (w .a) v 1 0 e) ∙ t
+
+    pub look-under :
+        w .kind ≡ 4
+        → Looked frame effects i l (set (set l (mark-place frame i) 0) (mark-place frame (w .b)) 1) touched touched
+    unfolding gone
+    look-under k =
+        let b = under-within frame [] effects l (a .source) i (a .effect) w q 0 k in
+        let one = gone frame l i room in
+        let two = set one (mark-place frame (w .b)) 1 in
+        looked frame effects i l two touched touched
+        (λ j h m.
+        mark-keeps one (mark-place frame (w .b)) (mark-place frame j)
+        (λ e. m (sym (gone-other frame l i room (mark-place frame j) (λ z. omega arith)) ∙ e)))
+        (λ formulas v t alone m.
+        idle-under frame formulas effects l (a .source) i (a .effect) w q v k
+        (alone (w .b) b
+        (λ e.
+        omega
+        (arith, e, getD-set-same one (mark-place frame (w .b)) 1 0 (omega (arith, b, room, length-set l (mark-place frame i) 0))))))
+        (λ v e. e)
+        (getD-set-other one (mark-place frame (w .b)) (mark-place frame i) 1 0 (λ e. omega arith) ∙ gone-here frame l i room)
+        (λ j h.
+        getD-set-other one (mark-place frame (w .b)) j 1 0 (λ e. omega arith) ∙ gone-other frame l i room j (λ z. omega arith))
+        (λ j h.
+        getD-set-other one (mark-place frame (w .b)) j 1 0 (λ e. omega arith) ∙ gone-other frame l i room j (λ z. omega arith))
+
+    pub look-both :
+        w .kind ≡ 3
+        → Looked frame effects i l
+        (set (set (set l (mark-place frame i) 0) (mark-place frame (w .a)) 1) (mark-place frame (w .b)) 1) touched touched
+    unfolding gone
+    look-both k =
+        let lower = both-within frame [] effects l (a .source) i (a .effect) w q 0 k in
+        let left = mark-place frame (w .a) in
+        let right = mark-place frame (w .b) in
+        let one = gone frame l i room in
+        let two = set one left 1 in
+        let three = set two right 1 in
+        let long = length-set l (mark-place frame i) 0 in
+        let longer = length-set one left 1 in
+        let la = lower .0 in
+        let lb = lower .1 in
+        looked frame effects i l three touched touched
+        (λ j h m.
+        mark-keeps two right (mark-place frame j)
+        (mark-keeps one left (mark-place frame j)
+        (λ e. m (sym (gone-other frame l i room (mark-place frame j) (λ z. omega arith)) ∙ e))))
+        (λ formulas v t alone m.
+        idle-both frame formulas effects l (a .source) i (a .effect) w q v k
+        (alone (w .a) la
+        (mark-keeps two right left (λ e. omega (arith, e, getD-set-same one left 1 0 (omega (arith, la, room, long))))))
+        (alone (w .b) lb (λ e. omega (arith, e, getD-set-same two right 1 0 (omega (arith, lb, room, long, longer))))))
+        (λ v e. e)
+        (getD-set-other two right (mark-place frame i) 1 0 (λ e. omega arith)
+        ∙ getD-set-other one left (mark-place frame i) 1 0 (λ e. omega arith)
+        ∙ gone-here frame l i room)
+        (λ j h.
+        getD-set-other two right j 1 0 (λ e. omega arith)
+        ∙ getD-set-other one left j 1 0 (λ e. omega arith)
+        ∙ gone-other frame l i room j (λ z. omega arith))
+        (λ j h.
+        getD-set-other two right j 1 0 (λ e. omega arith)
+        ∙ getD-set-other one left j 1 0 (λ e. omega arith)
+        ∙ gone-other frame l i room j (λ z. omega arith))
+
+-- The loop's invariant: the rows from i on have been looked at.
+pub record Marking (frame : Frame) (effects : List ℕ) (e i : ℕ) (before scratch touched : List ℕ) : Type 0 where
+  pub bound : i ≤ e + 1
+  pub long : length scratch ≡ length before
+  pub goes :
+      (formulas : List ℕ) (v : ℕ)
+      → getD touched v 0 ≡ 0
+      → LeftAlone frame formulas effects scratch v i
+      → Untouched frame formulas effects v e
+  pub below : (j : ℕ) → j < 2 * frame .formulas + frame .effects → getD scratch j 0 ≡ getD before j 0
+  pub above : (j : ℕ) → mark-place frame i ≤ j → getD scratch j 0 ≡ 0
+
+pub marking-begins :
+    (frame : Frame) (effects : List ℕ) (e : ℕ) (before touched : List ℕ)
+    → Marks frame effects before touched e
+    → Marking frame effects e (e + 1) before (set before (mark-place frame e) 1) touched
+marking-begins frame effects e before touched m =
+    record {
+      bound = omega arith;
+      long = length-set before (mark-place frame e) 1;
+      goes = λ formulas v t alone.
+          alone e (omega arith)
+          (λ z.
+          omega (
+            arith,
+            z,
+            getD-set-same before (mark-place frame e) 1 0
+                (omega (arith, m .looks .source .memo, m .looks .effect)),
+          ));
+      below = λ j h. getD-set-other before (mark-place frame e) j 1 0 (λ z. omega arith);
+      above = λ j h. getD-set-other before (mark-place frame e) j 1 0 (λ z. omega arith) ∙ m .clean j (omega arith);
+    }
+
+-- what looking at row k asks
+pub marking-looks :
+    (frame : Frame) (effects : List ℕ) (e i k : ℕ) (before scratch touched first : List ℕ)
+    → Marks frame effects before first e
+    → length touched ≡ length first
+    → Marking frame effects e i before scratch touched
+    → k < i
+    → LooksAt frame effects scratch touched k
+marking-looks frame effects e i k before scratch touched first m same x h =
+    record {
+      source =
+          record {
+            words = m .looks .source .words;
+            memo = omega (arith, m .looks .source .memo, x .long);
+            limit = m .looks .source .limit;
+            down = m .looks .source .down;
+          };
+      formulas = m .looks .formulas;
+      room = omega (arith, m .looks .room);
+      effect = omega (arith, m .looks .effect, x .bound);
+    }
+
+pub marking-more :
+    (frame : Frame) (effects : List ℕ) (e i k : ℕ) (before scratch scratch' touched touched' : List ℕ)
+    → k + 1 ≡ i
+    → length scratch' ≡ length scratch
+    → Marking frame effects e i before scratch touched
+    → Looked frame effects k scratch scratch' touched touched'
+    → Marking frame effects e k before scratch' touched'
+marking-more frame effects e i k before scratch scratch' touched touched' n same x l =
+    record {
+      bound = omega (arith, x .bound);
+      long = same ∙ x .long;
+      goes = λ formulas v t alone.
+          x .goes formulas v (l .stays v t) (λ j h m. l .goes-on formulas v t alone j (omega arith) m);
+      below = λ j h. l .below j h ∙ x .below j h;
+      above = λ j h. go j h (ℕ-discrete j (mark-place frame k));
+    }
+  where
+    go : (j : ℕ) → mark-place frame k ≤ j → Dec (j ≡ mark-place frame k) → getD scratch' j 0 ≡ 0
+    go j h (yes z) = rw z (l .cleared)
+    go j h (no z) =
+        let up : mark-place frame k < j = omega arith in
+        l .above j up ∙ x .above j (omega arith)
+
+pub marking-ends :
+    (frame : Frame) (effects : List ℕ) (e i : ℕ) (before scratch touched first : List ℕ)
+    → Marks frame effects before first e
+    → Marking frame effects e i before scratch touched
+    → i ≤ 0
+    → (scratch ≡ before) × ((formulas : List ℕ) (v : ℕ) → getD touched v 0 ≡ 0 → Untouched frame formulas effects v e)
+marking-ends frame effects e i before scratch touched first m x z = (
+  ext-getD 0 scratch before (x .long) (λ j h. go j (decLt j (2 * frame .formulas + frame .effects))),
+  λ formulas v t. x .goes formulas v t (λ j h k. absurd (omega arith)),
+)
+  where
+    go : (j : ℕ) → Dec (j < 2 * frame .formulas + frame .effects) → getD scratch j 0 ≡ getD before j 0
+    go j (yes b) = x .below j b
+    go j (no b) = x .above j (omega arith) ∙ sym (m .clean j (omega arith))
+
+-- the root's mark taken away again
+pub unmarked :
+    (frame : Frame) (effects : List ℕ) (e : ℕ) (before touched : List ℕ)
+    → Marks frame effects before touched e
+    → set (set before (mark-place frame e) 1) (mark-place frame e) 0 ≡ before
+unmarked frame effects e before touched m =
+    set-set before (mark-place frame e) 1 0
+    ∙ ap (λ (x : ℕ). set before (mark-place frame e) x) (sym (m .clean (mark-place frame e) (omega arith)))
+    ∙ set-getD before (mark-place frame e) 0
