@@ -8,6 +8,7 @@ pub mod check;
 pub mod compile;
 pub mod damage;
 pub mod draft;
+pub mod entries;
 pub mod examples;
 pub mod file;
 pub mod generate;
