@@ -9,6 +9,10 @@ pub mod compile;
 pub mod damage;
 pub mod draft;
 pub mod entries;
+#[cfg(feature = "entries")]
+pub mod entry_calls;
+#[cfg(feature = "entries")]
+pub mod entry_trial;
 pub mod examples;
 pub mod file;
 pub mod generate;
