@@ -21,4 +21,5 @@ pub mod print;
 pub mod random;
 pub mod semantics;
 pub mod shrink;
+pub mod stored;
 pub mod task;

@@ -1,8 +1,6 @@
 //! Group `entries`: the three C entries against the other implementation.
 //! Group `corpus`: the same on the files of examples and tests/corpus.
 
-use std::path::{Path, PathBuf};
-
 use saqwillo_tests::damage;
 use saqwillo_tests::entries as other;
 use saqwillo_tests::entry_calls as library;
@@ -12,6 +10,7 @@ use saqwillo_tests::file::file_of;
 use saqwillo_tests::generate::{self, Shape};
 use saqwillo_tests::harness::{Test, Trial, Verdict};
 use saqwillo_tests::random::Random;
+use saqwillo_tests::stored;
 use saqwillo_tests::task::{Head, Task};
 
 pub fn tests() -> Vec<Test> {
@@ -332,28 +331,11 @@ fn alike(trial: &mut Trial) -> Verdict {
     }
 }
 
-/// The task files of a folder, in the order of their names.
-fn task_files(folder: &Path) -> std::io::Result<Vec<PathBuf>> {
-    let mut paths = Vec::new();
-    for entry in std::fs::read_dir(folder)? {
-        let path = entry?.path();
-        if path.extension().is_some_and(|word| word == "task") {
-            paths.push(path);
-        }
-    }
-    paths.sort();
-    Ok(paths)
-}
-
 fn corpus(trial: &mut Trial) -> Verdict {
-    let tests = Path::new(env!("CARGO_MANIFEST_DIR"));
-    for folder in [tests.join("../examples"), tests.join("corpus")] {
-        let paths = task_files(&folder).map_err(|e| format!("  {}: {e}", folder.display()))?;
-        for path in paths {
-            let file = std::fs::read(&path).map_err(|e| format!("  {}: {e}", path.display()))?;
-            let verdict = try_file(trial, &file);
-            verdict.map_err(|dump| format!("  {}\n{dump}", path.display()))?;
-        }
+    let files = stored::files().map_err(|error| format!("  {error}"))?;
+    for (path, file) in files {
+        let verdict = try_file(trial, &file);
+        verdict.map_err(|dump| format!("  {}\n{dump}", path.display()))?;
     }
     Ok(())
 }

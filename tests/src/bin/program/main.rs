@@ -13,6 +13,7 @@ use saqwillo_tests::file::file_of;
 use saqwillo_tests::generate::{self, Shape};
 use saqwillo_tests::harness::{self, Test, Trial, Verdict};
 use saqwillo_tests::print::program;
+use saqwillo_tests::stored;
 
 fn main() {
     let test = |name, body| Test {
@@ -30,15 +31,11 @@ fn main() {
     std::process::exit(harness::run(&tests));
 }
 
-fn tests_folder() -> &'static Path {
-    Path::new(env!("CARGO_MANIFEST_DIR"))
-}
-
 /// What the program prints, given its input in pieces of so many bytes.
 fn printed(input: &[u8], piece: usize) -> std::io::Result<String> {
     let path = match std::env::var_os("PNF_PROGRAM") {
         Some(path) => PathBuf::from(path),
-        None => tests_folder().join("../target/bin/pnf"),
+        None => Path::new(env!("CARGO_MANIFEST_DIR")).join("../target/bin/pnf"),
     };
     let mut command = Command::new(path);
     let mut child = command
@@ -72,13 +69,9 @@ fn agree(trial: &mut Trial, input: &[u8], piece: usize) -> Verdict {
 }
 
 fn stored_files(trial: &mut Trial) -> Verdict {
-    for folder in ["../examples", "corpus"] {
-        let folder = tests_folder().join(folder);
-        let listed = std::fs::read_dir(&folder).map_err(|e| format!("  {folder:?}: {e}"))?;
-        for path in listed.flatten().map(|entry| entry.path()) {
-            let input = std::fs::read(&path).map_err(|e| format!("  {path:?}: {e}"))?;
-            agree(trial, &input, 70_000)?;
-        }
+    let files = stored::files().map_err(|error| format!("  {error}"))?;
+    for (_, input) in files {
+        agree(trial, &input, 70_000)?;
     }
     Ok(())
 }
