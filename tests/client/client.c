@@ -31,9 +31,9 @@ static unsigned long long number(const uint8_t *at, int bytes)
     return sum;
 }
 
-static void refused(const char *what, uint32_t number)
+static void refused(const char *what, uint32_t given)
 {
-    printf("%s refused: %u\n", what, (unsigned)number);
+    printf("%s refused: %u\n", what, (unsigned)given);
     exit(2);
 }
 
