@@ -1,1 +1,6 @@
 -- Laws that the proofs of printing cite.
+pub mod Puts
+pub mod Decimal
+pub mod Texts
+pub mod Settled
+pub mod Ready

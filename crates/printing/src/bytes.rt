@@ -1,5 +1,5 @@
 // Bytes, numbers and words at a place of a buffer. What is past the buffer's end is counted and not stored, so nothing here fails.
-ghost use Prim.Native.Nat.{_+_, _≤_, _<_};
+ghost use Prim.Native.Nat.{_+_, _≤_};
 ghost use mathlib.Core.Path.{_≡_};
 ghost use mathlib.Core.List.{[], _∷_, _++_};
 ghost use lib.ListN.{length, replicate};
@@ -20,7 +20,7 @@ pub fn clear(out: &mut [u8])
 
 // One byte. Constant time; the others here take a step for each byte.
 pub fn put(out: &mut [u8], at: usize, byte: u8) -> usize
-    requires { ⌜ at < 1000000 ⌝ }
+    requires { ⌜ at ≤ 1000000 ⌝ }
     ensures { λ r. ⌜ Put (now (out .entry)) at (byte ∷ []) 1 (now (out .exit)) r ⌝ }
 {
     if at < out.len() {

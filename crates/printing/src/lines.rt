@@ -13,7 +13,7 @@ use crate::bytes::{put, three, word};
 use task::Head;
 
 // A line's letter and its first number.
-fn start(out: &mut [u8], at: usize, letter: u8, n: u16) -> usize
+fn opening(out: &mut [u8], at: usize, letter: u8, n: u16) -> usize
     requires { ⌜ at + 7 ≤ 1000000 ⌝ }
     ensures { λ r. ⌜ Put (now (out .entry)) at (letter ∷ word-text n) 7 (now (out .exit)) r ⌝ }
 {
@@ -26,7 +26,7 @@ pub fn line_of_one(out: &mut [u8], at: usize, letter: u8, n: u16) -> usize
     requires { ⌜ at + 8 ≤ 1000000 ⌝ }
     ensures { λ r. ⌜ Put (now (out .entry)) at (line letter (n ∷ [])) 8 (now (out .exit)) r ⌝ }
 {
-    let next = start(out, at, letter, n);
+    let next = opening(out, at, letter, n);
     put(out, next, b'\n')
 }
 
@@ -35,7 +35,7 @@ fn line_of_two(out: &mut [u8], at: usize, letter: u8, n: u16, a: u16) -> usize
     requires { ⌜ at + 14 ≤ 1000000 ⌝ }
     ensures { λ r. ⌜ Put (now (out .entry)) at (line letter (n ∷ a ∷ [])) 14 (now (out .exit)) r ⌝ }
 {
-    let second = start(out, at, letter, n);
+    let second = opening(out, at, letter, n);
     let end = word(out, second, a);
     put(out, end, b'\n')
 }
@@ -45,7 +45,7 @@ fn line_of_four(out: &mut [u8], at: usize, letter: u8, n: u16, a: u16, b: u16, c
     requires { ⌜ at + 26 ≤ 1000000 ⌝ }
     ensures { λ r. ⌜ Put (now (out .entry)) at (line letter (n ∷ a ∷ b ∷ c ∷ [])) 26 (now (out .exit)) r ⌝ }
 {
-    let second = start(out, at, letter, n);
+    let second = opening(out, at, letter, n);
     let end = three(out, second, a, b, c);
     put(out, end, b'\n')
 }
