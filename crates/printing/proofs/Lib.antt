@@ -4,3 +4,6 @@ pub mod Decimal
 pub mod Texts
 pub mod Settled
 pub mod Ready
+pub mod Short
+pub mod Examples
+pub mod Suffices

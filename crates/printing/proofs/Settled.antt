@@ -57,7 +57,7 @@ drop-zeros (suc k) (suc n) =
     drop-zeros k n ∙ ap (λ (j : ℕ). replicate {A = ℕ} j 0) e
 
 module _ (text : List ℕ) (n : ℕ) where
-  placed-whole :
+  pub placed-whole :
       length text ≤ n
       → placed text n ≡ record { answer = Printed (length text); out = text ++ replicate (n - length text) 0 }
   unfolding placed
@@ -113,7 +113,7 @@ module _ (l : Lent) (n : ℕ) where
   stopped h =
       ap (λ (b : Bool). cond b (placed (lines (task-of l)) n) (refused (refusal l) n)) (ne-eqb (refusal l) 0 h)
 
-  passes : refusal l ≡ 0 → printing l n ≡ placed (lines (task-of l)) n
+  pub passes : refusal l ≡ 0 → printing l n ≡ placed (lines (task-of l)) n
   unfolding printing
   passes e =
       ap (λ (b : Bool). cond b (placed (lines (task-of l)) n) (refused (refusal l) n)) (eq-eqb (refusal l) 0 e)

@@ -162,15 +162,15 @@ module _ (l : Lent) (long : LongEnough l) where
   unfolding head-line task-of
   head-held =
       let e : head-line (task-of l) ≡ line 116 (counts-of (l .head)) =
-          λ j.
-          line 116
-          (length-initial l long j
-          ∷ length-originals l long j
-          ∷ length-formulas l j
-          ∷ length-effects l j
-          ∷ length-operators l j
-          ∷ l .head .goal
-          ∷ [])
+      λ j.
+      line 116
+      (length-initial l long j
+      ∷ length-originals l long j
+      ∷ length-formulas l j
+      ∷ length-effects l j
+      ∷ length-operators l j
+      ∷ l .head .goal
+      ∷ [])
       in
       sym e
 

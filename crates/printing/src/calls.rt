@@ -9,7 +9,8 @@ ghost use Rattle.printing.specs.Put.{Put};
 ghost use Rattle.printing.specs.Printing.{Gives, placed, printing, printing-refusal};
 use crate::PrintAnswer;
 use crate::bytes::clear;
-use crate::lines::{line_of_one, task_lines};
+use crate::lines::line_of_one;
+use crate::lines::task_lines;
 use task::Head;
 
 // The answer for a text of `length` bytes that was put into a clear buffer: if it is not whole there, 20, and the buffer is clear again.

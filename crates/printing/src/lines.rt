@@ -9,7 +9,9 @@ ghost use Rattle.task.specs.Table.{lent, task-of};
 ghost use Rattle.task.specs.Check.{refusal};
 ghost use Rattle.printing.specs.Lines.{digit, word as word-text, line, numbered, values as values-text, initial-line, lines};
 ghost use Rattle.printing.specs.Put.{Put, counts-of, words-at, original-at, front-text, tables-text, BitsReady, TwinsReady, RowsReady, FrontReady, TablesReady};
-use crate::bytes::{put, three, word};
+use crate::bytes::put;
+use crate::bytes::three;
+use crate::bytes::word;
 use task::Head;
 
 // A line's letter and its first number.
@@ -128,7 +130,15 @@ fn row_lines(out: &mut [u8], at: usize, letter: u8, words: &[u16], count: usize)
     let mut i = 0;
     while i < count {
         let k = 3 * i;
-        next = line_of_four(out, next, letter, i as u16, words[k], words[k + 1], words[k + 2]);
+        next = line_of_four(
+            out,
+            next,
+            letter,
+            i as u16,
+            words[k],
+            words[k + 1],
+            words[k + 2],
+        );
         i += 1;
     }
     next
@@ -141,11 +151,24 @@ fn front(out: &mut [u8], head: Head, initial: &[u8], twins: &[u16]) -> usize
 {
     let after_head = head_line(out, 0, head);
     let after_state = state_line(out, after_head, initial, head.variables as usize);
-    twin_lines(out, after_state, head.variables - head.twins, twins, head.twins as usize)
+    twin_lines(
+        out,
+        after_state,
+        head.variables - head.twins,
+        twins,
+        head.twins as usize,
+    )
 }
 
 // Lines f, e and o.
-fn tables(out: &mut [u8], at: usize, head: Head, formulas: &[u16], effects: &[u16], operators: &[u16]) -> usize
+fn tables(
+    out: &mut [u8],
+    at: usize,
+    head: Head,
+    formulas: &[u16],
+    effects: &[u16],
+    operators: &[u16],
+) -> usize
     requires { ⌜ TablesReady at head (now formulas) (now effects) (now operators) ⌝ }
     ensures { λ r. ⌜ Put (now (out .entry)) at (tables-text head (now (formulas .entry)) (now (effects .entry)) (now (operators .entry))) 220000 (now (out .exit)) r ⌝ }
 {
@@ -155,7 +178,15 @@ fn tables(out: &mut [u8], at: usize, head: Head, formulas: &[u16], effects: &[u1
 }
 
 // All lines of tables that pass the check.
-pub fn task_lines(out: &mut [u8], head: Head, initial: &[u8], twins: &[u16], formulas: &[u16], effects: &[u16], operators: &[u16]) -> usize
+pub fn task_lines(
+    out: &mut [u8],
+    head: Head,
+    initial: &[u8],
+    twins: &[u16],
+    formulas: &[u16],
+    effects: &[u16],
+    operators: &[u16],
+) -> usize
     requires { ⌜ refusal (lent head (now initial) (now twins) (now formulas) (now effects) (now operators)) ≡ 0 ⌝ }
     ensures { λ r. ⌜ Put (now (out .entry)) 0 (lines (task-of (lent head (now (initial .entry)) (now (twins .entry)) (now (formulas .entry)) (now (effects .entry)) (now (operators .entry))))) 225000 (now (out .exit)) r ⌝ }
 {
