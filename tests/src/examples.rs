@@ -1,4 +1,4 @@
-//! Worked examples: 01's "Sheets to try" and the tasks of 000 and 002.
+//! Worked examples: 01's "Sheets to try" and the tasks of 000, 001 and 002.
 
 use crate::draft::Draft;
 use crate::task::*;
@@ -178,6 +178,23 @@ pub fn flat_effect() -> Task {
     let effect = draft.all(&[set_c, middle, last]);
     draft.operator(yes, effect, 1);
     draft.finish(yes)
+}
+
+/// 001's effect before its normal form; a, b, c, d, e are variables 0 to 4.
+pub fn effect_normal_form() -> Task {
+    let mut draft = Draft::new(&[1, 0, 1, 1, 0]);
+    let yes = draft.yes();
+    let [a, b, c, e] = [0, 1, 2, 4].map(|v| draft.variable(v));
+    let not_b = draft.not(b);
+    let (set_b, set_e, clear_d) = (draft.set(1), draft.set(4), draft.clear(3));
+    let inner = draft.all(&[clear_d, set_e]);
+    let inner = draft.under(c, inner);
+    let outer = draft.all(&[set_b, inner]);
+    let outer = draft.under(a, outer);
+    let last = draft.under(not_b, set_e);
+    let effect = draft.all(&[outer, last]);
+    draft.operator(yes, effect, 1);
+    draft.finish(e)
 }
 
 /// Formula i is "i - 1 equivalent to i - 1": trees of exponential size.

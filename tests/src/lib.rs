@@ -8,6 +8,11 @@ pub mod check;
 pub mod compile;
 pub mod damage;
 pub mod draft;
+pub mod entries;
+#[cfg(feature = "entries")]
+pub mod entry_calls;
+#[cfg(feature = "entries")]
+pub mod entry_trial;
 pub mod examples;
 pub mod file;
 pub mod generate;
@@ -16,4 +21,5 @@ pub mod print;
 pub mod random;
 pub mod semantics;
 pub mod shrink;
+pub mod stored;
 pub mod task;

@@ -4,6 +4,8 @@
 
 mod calls;
 mod edges;
+#[cfg(feature = "entries")]
+mod entries;
 mod random_tables;
 mod rows;
 mod tables;
@@ -14,5 +16,7 @@ fn main() {
     tests.extend(edges::tests());
     tests.extend(random_tables::tests());
     tests.extend(rows::tests());
+    #[cfg(feature = "entries")]
+    tests.extend(entries::tests());
     std::process::exit(saqwillo_tests::harness::run(&tests));
 }

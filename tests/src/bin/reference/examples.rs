@@ -1,4 +1,4 @@
-//! Group `examples`: 01's "Sheets to try", and the examples of 000 and 002.
+//! Group `examples`: 01's "Sheets to try", and the examples of 000 to 002.
 
 use saqwillo_tests::by_hand;
 use saqwillo_tests::check::{check, number};
@@ -31,6 +31,7 @@ pub fn tests() -> Vec<Test> {
         test("running example", running),
         test("bicycle", bicycle),
         test("flat effect", flat_effect),
+        test("effect normal form", effect_normal_form),
         test("refusals printed", refusals_printed),
     ]
 }
@@ -198,6 +199,23 @@ fn flat_effect(trial: &mut Trial) -> Verdict {
         same("b", holds((effect::SET, 1)), a && c)?;
         same("not d", holds((effect::CLEAR, 3)), a && c)?;
         same("not a", holds((effect::CLEAR, 0)), !b || (a && c))?;
+    }
+    Ok(())
+}
+
+/// 001's effect normal form, in every state.
+fn effect_normal_form(trial: &mut Trial) -> Verdict {
+    let task = examples::effect_normal_form();
+    let compiled = finished(&task);
+    let all = rules(&compiled, 0)?;
+    for state in all_states(5) {
+        trial.case();
+        let [a, b, c] = [0, 1, 2].map(|v| state[v] == 1);
+        let values = formula_values(&compiled, &corresponding(&compiled, &state));
+        let holds = |atom| values[condition_of(&all, atom)];
+        same("b", holds((effect::SET, 1)), a)?;
+        same("not d", holds((effect::CLEAR, 3)), a && c)?;
+        same("e", holds((effect::SET, 4)), !b || (a && c))?;
     }
     Ok(())
 }

@@ -1,0 +1,28 @@
+use native.Mathlib.Omega.{arith}
+use borrow.Author.Needs.{needs}
+use Rattle.printing.specs.Lines.{word}
+use Rattle.printing.proofs.Puts.{then-put}
+use Rattle.printing.proofs.bytes.word.Statement.{statement}
+use Rattle.printing.proofs.bytes.word.Tie as tie
+
+put-requires : tie.Need-put-requires
+put-requires c κs = omega (arith, c .before .before .pre)
+
+number-requires : tie.Need-number-requires
+number-requires c κs = omega (arith, c .before .before .before .before .before .before .pre, c .before .before .before .put .ensures .counted, c .before .before .before .put .ensures .short)
+
+same-length : tie.Need-same-length
+same-length c = search needs
+
+returns : tie.Need-returns
+unfolding word
+returns c = then-put (c .before .before .before .before .before .before .put .ensures) (c .before .before .number .ensures)
+
+pub word-spec : {M : Type 1} → statement M
+word-spec =
+    tie.close
+    (tie.spec
+    put-requires
+    number-requires
+    same-length
+    returns)

@@ -1,0 +1,25 @@
+use borrow.Author.Needs.{needs}
+use Rattle.printing.proofs.Settled.{settled-whole, settled-over}
+use Rattle.printing.proofs.calls.settled.Statement.{statement}
+use Rattle.printing.proofs.calls.settled.Tie as tie
+
+clear-requires : tie.Need-clear-requires
+clear-requires c κs = search needs
+
+same-length : tie.Need-same-length
+same-length c = search needs
+
+returns : tie.Need-returns
+returns c = λ text n most p. settled-over text n p (c .before .before .before .before .if1 .taken) (c .before .before .clear .ensures)
+
+returns-2 : tie.Need-returns-2
+returns-2 c = λ text n most p. settled-whole text n p (c .if1 .left)
+
+pub settled-spec : {M : Type 1} → statement M
+settled-spec =
+    tie.close
+    (tie.spec
+    clear-requires
+    same-length
+    returns
+    returns-2)

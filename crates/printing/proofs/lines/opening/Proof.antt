@@ -1,0 +1,27 @@
+use native.Mathlib.Omega.{arith}
+use borrow.Author.Needs.{needs}
+use Rattle.printing.specs.Lines.{word}
+use Rattle.printing.proofs.Puts.{then-put}
+use Rattle.printing.proofs.lines.opening.Statement.{statement}
+use Rattle.printing.proofs.lines.opening.Tie as tie
+
+put-requires : tie.Need-put-requires
+put-requires c κs = omega (arith, c .before .before .pre)
+
+word-requires : tie.Need-word-requires
+word-requires c κs = omega (arith, c .before .before .before .before .before .before .pre, c .before .before .before .put .ensures .counted, c .before .before .before .put .ensures .short)
+
+same-length : tie.Need-same-length
+same-length c = search needs
+
+returns : tie.Need-returns
+returns c = then-put (c .before .before .before .before .before .before .put .ensures) (c .before .before .word .ensures)
+
+pub opening-spec : {M : Type 1} → statement M
+opening-spec =
+    tie.close
+    (tie.spec
+    put-requires
+    word-requires
+    same-length
+    returns)
