@@ -7,7 +7,7 @@ mod examples;
 mod files;
 mod runs;
 
-use saqwillo_tests::harness::{self, Verdict};
+use saqwillo_tests::harness::{self, same};
 
 fn main() {
     let mut tests = Vec::new();
@@ -16,14 +16,4 @@ fn main() {
     tests.extend(runs::tests());
     tests.extend(compiling::tests());
     std::process::exit(harness::run(&tests));
-}
-
-/// Fails with both values unless they are equal.
-fn same<T: PartialEq + std::fmt::Debug>(what: &str, found: T, expected: T) -> Verdict {
-    if found == expected {
-        return Ok(());
-    }
-    Err(format!(
-        "  {what}\n  found {found:?}\n  expected {expected:?}"
-    ))
 }

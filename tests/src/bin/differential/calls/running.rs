@@ -1,0 +1,103 @@
+//! Stepping and running plans.
+
+use saqwillo_tests::lent::Lent;
+use saqwillo_tests::random::Random;
+use saqwillo_tests::task::{Head, Tables, Task};
+
+use super::{call_on_tables, on_tables};
+
+on_tables! {
+    fn test_step(
+        state: *mut u8,
+        state_len: usize,
+        number: u16,
+        scratch: *mut u8,
+        scratch_len: usize,
+        result: *mut u64,
+        result_len: usize
+    ) -> u16;
+    fn test_run(
+        state: *mut u8,
+        state_len: usize,
+        sequence: *const u16,
+        sequence_len: usize,
+        scratch: *mut u8,
+        scratch_len: usize,
+        result: *mut u64,
+        result_len: usize
+    ) -> u16;
+}
+
+/// What a call leaves: 0 or the refusal, and its buffers. The words of a
+/// step's result are steps, cost, goal; of a run's further the stop's number
+/// and step, and the goal if it ended.
+#[derive(Clone, Debug, PartialEq, Eq)]
+pub struct Left {
+    pub number: u16,
+    pub result: Vec<u64>,
+    pub state: Vec<u8>,
+    pub scratch: Vec<u8>,
+}
+
+/// The library's step, with a dirty scratch of this length.
+pub fn step(
+    random: &mut Random,
+    task: &Task,
+    state: &[u8],
+    scratch_length: usize,
+    operator: u16,
+    mut result: Lent<u64>,
+) -> Left {
+    let mut state = Lent::of(state);
+    let mut scratch = Lent::dirty(random, scratch_length);
+    let number = call_on_tables!(
+        test_step,
+        &task.head,
+        &task.tables,
+        state.pointer(),
+        state.len(),
+        operator,
+        scratch.pointer(),
+        scratch.len(),
+        result.pointer(),
+        result.len()
+    );
+    Left {
+        number,
+        result: result.taken(),
+        state: state.taken(),
+        scratch: scratch.taken(),
+    }
+}
+
+/// The library's run, with a dirty scratch of this length.
+pub fn run(
+    random: &mut Random,
+    task: &Task,
+    state: &[u8],
+    scratch_length: usize,
+    sequence: &[u16],
+    mut result: Lent<u64>,
+) -> Left {
+    let mut state = Lent::of(state);
+    let mut scratch = Lent::dirty(random, scratch_length);
+    let number = call_on_tables!(
+        test_run,
+        &task.head,
+        &task.tables,
+        state.pointer(),
+        state.len(),
+        sequence.as_ptr(),
+        sequence.len(),
+        scratch.pointer(),
+        scratch.len(),
+        result.pointer(),
+        result.len()
+    );
+    Left {
+        number,
+        result: result.taken(),
+        state: state.taken(),
+        scratch: scratch.taken(),
+    }
+}
