@@ -79,8 +79,9 @@ impl<T: Element> Lent<T> {
         self.len() == 0
     }
 
-    pub fn pointer(&mut self) -> *mut T {
-        self.all[GUARDS..].as_mut_ptr()
+    pub fn slice(&mut self) -> &mut [T] {
+        let end = self.all.len() - GUARDS;
+        &mut self.all[GUARDS..end]
     }
 
     /// What it holds now. Panics if a guard was touched.

@@ -2,11 +2,13 @@
 //! sharing no code with the library that it is compared with.
 
 pub mod atoms;
+pub mod best;
 pub mod builder;
 pub mod by_hand;
 pub mod check;
 pub mod compile;
 pub mod damage;
+pub mod deep;
 pub mod draft;
 pub mod examples;
 pub mod file;

@@ -154,6 +154,18 @@ fn one_row(trial: &mut Trial) -> Verdict {
         ("a 0, b cut", &[], &[0x43, 0x00, 0x00, 0x01], 3),
         ("wrong a, b 0", &[], &[0x43, 0x09, 0x00, 0x00, 0x00], 3),
         ("wrong a, b cut", &[], &[0x43, 0x09, 0x00, 0x01], 1),
+        (
+            "wrong a, b cut, row 1",
+            &[0x10],
+            &[0x43, 0x09, 0x00, 0x01],
+            1,
+        ),
+        (
+            "wrong a, b 0, row 1",
+            &[0x10],
+            &[0x43, 0x09, 0x00, 0x00, 0x00],
+            3,
+        ),
         ("unused a present", &[], &[0x11, 0x01, 0x00], 10),
         ("unused a 0", &[], &[0x11, 0x00, 0x00], 3),
         ("unused b present", &[], &[0x22, 0x01, 0x00], 10),

@@ -2,6 +2,8 @@
 //!
 //! Arguments: `[--seed N] [GROUP ...]`.
 
+// the comparison of times calls more of them
+#[allow(dead_code)]
 mod calls;
 mod edges;
 mod random_tables;

@@ -2,6 +2,7 @@
 //!
 //! Arguments: `[--seed N] [GROUP ...]`.
 
+mod best;
 mod compiling;
 mod examples;
 mod files;
@@ -15,5 +16,6 @@ fn main() {
     tests.extend(files::tests());
     tests.extend(runs::tests());
     tests.extend(compiling::tests());
+    tests.extend(best::tests());
     std::process::exit(harness::run(&tests));
 }

@@ -48,24 +48,13 @@ pub fn compile_into(
     let mut tables = LentTables::dirty(random, lent);
     let mut scratch = Lent::dirty(random, scratch);
     let [twins, formulas, effects, operators] = &mut tables.words;
-    let number = call_on_tables!(
-        test_compile,
-        &task.head,
-        &task.tables,
-        tables.initial.pointer(),
-        tables.initial.len(),
-        twins.pointer(),
-        twins.len(),
-        formulas.pointer(),
-        formulas.len(),
-        effects.pointer(),
-        effects.len(),
-        operators.pointer(),
-        operators.len(),
-        scratch.pointer(),
-        scratch.len(),
-        head.pointer(),
-        head.len()
+    let words = [twins, formulas, effects, operators].map(|table| table.slice());
+    let number = compile_slices(
+        task,
+        tables.initial.slice(),
+        words,
+        scratch.slice(),
+        head.slice(),
     );
     let compiled = Compiled {
         number,
@@ -74,4 +63,49 @@ pub fn compile_into(
         scratch: scratch.taken(),
     };
     (compiled, head.taken())
+}
+
+/// The same into these buffers, for the comparison of times.
+pub fn compile_quickly(
+    task: &Task,
+    tables: &mut Tables,
+    scratch: &mut [u16],
+    head: &mut [u16],
+) -> u16 {
+    let words = [
+        &mut tables.twins[..],
+        &mut tables.formulas,
+        &mut tables.effects,
+        &mut tables.operators,
+    ];
+    compile_slices(task, &mut tables.initial, words, scratch, head)
+}
+
+fn compile_slices(
+    task: &Task,
+    initial: &mut [u8],
+    words: [&mut [u16]; 4],
+    scratch: &mut [u16],
+    head: &mut [u16],
+) -> u16 {
+    let [twins, formulas, effects, operators] = words;
+    call_on_tables!(
+        test_compile,
+        &task.head,
+        &task.tables,
+        initial.as_mut_ptr(),
+        initial.len(),
+        twins.as_mut_ptr(),
+        twins.len(),
+        formulas.as_mut_ptr(),
+        formulas.len(),
+        effects.as_mut_ptr(),
+        effects.len(),
+        operators.as_mut_ptr(),
+        operators.len(),
+        scratch.as_mut_ptr(),
+        scratch.len(),
+        head.as_mut_ptr(),
+        head.len()
+    )
 }

@@ -3,7 +3,7 @@
 use saqwillo_tests::file::{Reading, Writing};
 use saqwillo_tests::lent::{Lent, LentTables};
 use saqwillo_tests::random::Random;
-use saqwillo_tests::task::{Head, Lengths, Tables};
+use saqwillo_tests::task::{Head, Lengths, Tables, Task};
 
 use super::{call_on_tables, on_tables};
 
@@ -55,33 +55,49 @@ pub fn read_into(
 ) -> (u16, Vec<u16>, Tables) {
     let mut tables = LentTables::dirty(random, lent);
     let [twins, formulas, effects, operators] = &mut tables.words;
-    // Each pointer and length come from one buffer; no two overlap.
-    let number = unsafe {
+    let words = [twins, formulas, effects, operators].map(|table| table.slice());
+    let number = read_slices(file, head.slice(), tables.initial.slice(), words);
+    (number, head.taken(), tables.taken())
+}
+
+/// The same into these tables, for the comparison of times.
+pub fn read_quickly(file: &[u8], head: &mut [u16], tables: &mut Tables) -> u16 {
+    let words = [
+        &mut tables.twins[..],
+        &mut tables.formulas,
+        &mut tables.effects,
+        &mut tables.operators,
+    ];
+    read_slices(file, head, &mut tables.initial, words)
+}
+
+fn read_slices(file: &[u8], head: &mut [u16], initial: &mut [u8], words: [&mut [u16]; 4]) -> u16 {
+    let [twins, formulas, effects, operators] = words;
+    // Each pointer and length come from one slice; no two overlap.
+    unsafe {
         test_read(
             file.as_ptr(),
             file.len(),
-            head.pointer(),
+            head.as_mut_ptr(),
             head.len(),
-            tables.initial.pointer(),
-            tables.initial.len(),
-            twins.pointer(),
+            initial.as_mut_ptr(),
+            initial.len(),
+            twins.as_mut_ptr(),
             twins.len(),
-            formulas.pointer(),
+            formulas.as_mut_ptr(),
             formulas.len(),
-            effects.pointer(),
+            effects.as_mut_ptr(),
             effects.len(),
-            operators.pointer(),
+            operators.as_mut_ptr(),
             operators.len(),
         )
-    };
-    (number, head.taken(), tables.taken())
+    }
 }
 
 /// The library's writing of a task into a dirty output of this length.
 pub fn write(random: &mut Random, head: &Head, tables: &Tables, length: usize) -> Writing {
     let mut output = Lent::dirty(random, length);
-    let (pointer, length) = (output.pointer(), output.len());
-    let answer = call_on_tables!(test_write, head, tables, pointer, length);
+    let answer = write_slice(head, tables, output.slice());
     let (number, length) = match answer.checked_sub(REFUSED) {
         Some(number) => (number as u16, 0),
         None => (0, answer as usize),
@@ -91,4 +107,13 @@ pub fn write(random: &mut Random, head: &Head, tables: &Tables, length: usize) -
         length,
         output: output.taken(),
     }
+}
+
+/// The same into this output, for the comparison of times: the length.
+pub fn write_quickly(task: &Task, out: &mut [u8]) -> u32 {
+    write_slice(&task.head, &task.tables, out)
+}
+
+fn write_slice(head: &Head, tables: &Tables, out: &mut [u8]) -> u32 {
+    call_on_tables!(test_write, head, tables, out.as_mut_ptr(), out.len())
 }

@@ -50,16 +50,17 @@ pub fn step(
 ) -> Left {
     let mut state = Lent::of(state);
     let mut scratch = Lent::dirty(random, scratch_length);
+    let [bytes, work] = [state.slice(), scratch.slice()];
     let number = call_on_tables!(
         test_step,
         &task.head,
         &task.tables,
-        state.pointer(),
-        state.len(),
+        bytes.as_mut_ptr(),
+        bytes.len(),
         operator,
-        scratch.pointer(),
-        scratch.len(),
-        result.pointer(),
+        work.as_mut_ptr(),
+        work.len(),
+        result.slice().as_mut_ptr(),
         result.len()
     );
     Left {
@@ -81,18 +82,12 @@ pub fn run(
 ) -> Left {
     let mut state = Lent::of(state);
     let mut scratch = Lent::dirty(random, scratch_length);
-    let number = call_on_tables!(
-        test_run,
-        &task.head,
-        &task.tables,
-        state.pointer(),
-        state.len(),
-        sequence.as_ptr(),
-        sequence.len(),
-        scratch.pointer(),
-        scratch.len(),
-        result.pointer(),
-        result.len()
+    let number = run_quickly(
+        task,
+        state.slice(),
+        sequence,
+        scratch.slice(),
+        result.slice(),
     );
     Left {
         number,
@@ -100,4 +95,27 @@ pub fn run(
         state: state.taken(),
         scratch: scratch.taken(),
     }
+}
+
+/// The same on these buffers, for the comparison of times.
+pub fn run_quickly(
+    task: &Task,
+    state: &mut [u8],
+    sequence: &[u16],
+    scratch: &mut [u8],
+    result: &mut [u64],
+) -> u16 {
+    call_on_tables!(
+        test_run,
+        &task.head,
+        &task.tables,
+        state.as_mut_ptr(),
+        state.len(),
+        sequence.as_ptr(),
+        sequence.len(),
+        scratch.as_mut_ptr(),
+        scratch.len(),
+        result.as_mut_ptr(),
+        result.len()
+    )
 }
