@@ -135,6 +135,27 @@ module _ (v f : ℕ) (formulas effects : List Row) (down : EffectsDown v f effec
       (λ l. effect-deep i (suc (r .a)) (r .a) l (omega arith) (omega arith))
       (λ l. effect-deep i (suc (r .b)) (r .b) l (omega arith) (omega arith))
 
+  effect-appends-within :
+      (d : ℕ) (more : List Row) (i : ℕ)
+      → i < length effects
+      → effect-within d formulas (effects ++ more) i ≡ effect-within d formulas effects i
+  unfolding effect-within
+  effect-appends-within zero more i b = refl
+  effect-appends-within (suc d) more i b =
+      let r = getD effects i no-row in
+      rw (List·getD-append effects more no-row i b)
+      (effect-node-same v f i (effect-kind (r .kind)) (r .a) (r .b) (down .row i b) (λ l. refl)
+      (λ l. effect-appends-within d more (r .a) (omega arith))
+      (λ l. effect-appends-within d more (r .b) (omega arith)))
+
+  -- whatever the formulas are
+  pub effect-appends :
+      (more : List Row) (i : ℕ)
+      → i < length effects
+      → effect-of formulas (effects ++ more) i ≡ effect-of formulas effects i
+  unfolding effect-of
+  effect-appends more i b = effect-appends-within (suc i) more i b
+
   -- also when the formulas grow: an effect names formulas that are there
   module _ (w : ℕ) (formulas-down : FormulasDown w formulas) (there : f ≤ length formulas) where
     effect-grows-within :

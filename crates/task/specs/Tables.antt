@@ -1,4 +1,4 @@
--- The three tables of rows, side by side: what the check asks of row i of a table of words, for one loop over any of them.
+-- The three tables of rows, side by side: what the check asks of row i of a table of words.
 use Prim.Native.Nat.{ℕ}
 use mathlib.Core.Bool.{Bool}
 use mathlib.Core.List.{List}
