@@ -1,0 +1,62 @@
+use borrow.Author.Needs.{needs}
+use Rattle.plan.proofs.steps.step_ready.Statement.{statement}
+use Rattle.plan.proofs.steps.step_ready.Tie as tie
+use Rattle.plan.proofs.steps.step_ready.Reads as reads
+use Rattle.plan.proofs.steps.step_ready.Lts as lts
+use Rattle.plan.proofs.steps.holds.Reads as holds-reads
+use Rattle.plan.proofs.steps.refused.Reads as refused-reads
+use Rattle.plan.proofs.steps.take.Reads as take-reads
+use mathlib.Core.Path.{_∙_}
+use Rattle.plan.specs.Steps.{running}
+use Rattle.plan.proofs.Taking.{valuable, ready-again}
+use Rattle.plan.proofs.Running.{taken-ready, goal-told}
+use Rattle.plan.proofs.Calls.{step-stopped, step-finished}
+
+take-requires : tie.Need-take-requires
+take-requires c κs = search needs
+
+refused-requires : tie.Need-refused-requires
+refused-requires c κs = search needs
+
+same-length : tie.Need-same-length
+same-length c = search needs
+
+same-length-2 : tie.Need-same-length-2
+same-length-2 c = search needs
+
+returns : tie.Need-returns
+returns c = step-stopped (running (c .before .before .before .before .before .before .before .before .before .before .before .before .before .before .before .args .head) (c .before .before .before .before .before .before .before .before .before .before .before .before .before .before .before .args .formulas .now) (c .before .before .before .before .before .before .before .before .before .before .before .before .before .before .before .args .effects .now) (c .before .before .before .before .before .before .before .before .before .before .before .before .before .before .before .args .operators .now)) (c .before .before .before .before .before .before .before .before .before .before .before .before .before .before .before .args .state .now) (c .before .before .before .before .before .before .before .before .before .before .before .before .before .before .before .args .number) (c .before .before .before .before .before .before .before .take .result) (c .before .before .before .before .before .before .before .take .last .1 .1 .1 .1 .0) (c .before .before .before .before .before .before .before .take .ensures) (c .before .if1 .taken) (c .refused .result) (c .refused .ensures)
+
+cast-count : tie.Need-cast-count
+cast-count c = search needs
+
+cast-goal : tie.Need-cast-goal
+cast-goal c = search needs
+
+holds-requires : tie.Need-holds-requires
+holds-requires c κs = (valuable (c .before .before .before .before .before .before .before .before .before .before .before .before .before .before .before .before .before .before .args .head) (c .before .before .before .before .before .before .before .before .before .before .before .before .before .before .before .before .before .before .args .formulas .now) (c .before .before .before .before .before .before .before .before .before .before .before .before .before .before .before .before .before .before .args .effects .now) (c .before .before .before .before .before .before .before .before .before .before .before .before .before .before .before .before .before .before .args .operators .now) (c .before .before .before .before .before .before .before .before .before .before .take .last .1 .1 .1 .1 .0) (c .before .before .before .before .before .before .before .before .before .before .take .last .1 .1 .1 .1 .1 .1 .0) (ready-again (c .before .before .before .before .before .before .before .before .before .before .before .before .before .before .before .before .before .before .args .head) (c .before .before .before .before .before .before .before .before .before .before .before .before .before .before .before .before .before .before .args .formulas .now) (c .before .before .before .before .before .before .before .before .before .before .before .before .before .before .before .before .before .before .args .effects .now) (c .before .before .before .before .before .before .before .before .before .before .before .before .before .before .before .before .before .before .args .operators .now) (c .before .before .before .before .before .before .before .before .before .before .before .before .before .before .before .before .before .before .args .state .now) (c .before .before .before .before .before .before .before .before .before .before .before .before .before .before .before .before .before .before .args .scratch .now) (c .before .before .before .before .before .before .before .before .before .before .take .last .1 .1 .1 .1 .0) (c .before .before .before .before .before .before .before .before .before .before .take .last .1 .1 .1 .1 .1 .1 .0) (c .before .before .before .before .before .before .before .before .before .before .before .before .before .before .before .before .before .before .pre) (taken-ready (c .before .before .before .before .before .before .before .before .before .before .before .before .before .before .before .before .before .before .args .head) (running (c .before .before .before .before .before .before .before .before .before .before .before .before .before .before .before .before .before .before .args .head) (c .before .before .before .before .before .before .before .before .before .before .before .before .before .before .before .before .before .before .args .formulas .now) (c .before .before .before .before .before .before .before .before .before .before .before .before .before .before .before .before .before .before .args .effects .now) (c .before .before .before .before .before .before .before .before .before .before .before .before .before .before .before .before .before .before .args .operators .now)) (c .before .before .before .before .before .before .before .before .before .before .before .before .before .before .before .before .before .before .args .state .now) (c .before .before .before .before .before .before .before .before .before .before .before .before .before .before .before .before .before .before .args .number) (c .before .before .before .before .before .before .before .before .before .before .take .result) (c .before .before .before .before .before .before .before .before .before .before .take .last .1 .1 .1 .1 .0) (c .before .before .before .before .before .before .before .before .before .before .take .ensures) (c .before .before .before .before .before .before .before .before .before .before .before .before .before .before .before .before .before .before .pre .state)) (c .before .before .before .before .before .before .before .before .before .before .take .kept .1 .1 .1 .1 .1 .1 .0)), c .before .before .before .before .before .before .before .before .before .before .before .before .before .before .before .before .before .before .pre .tables .goal)
+
+same-length-3 : tie.Need-same-length-3
+same-length-3 c = search needs
+
+same-length-4 : tie.Need-same-length-4
+same-length-4 c = search needs
+
+returns-2 : tie.Need-returns-2
+returns-2 c = step-finished (running (c .before .before .before .before .before .before .before .before .before .before .before .before .before .before .before .before .before .before .before .before .before .args .head) (c .before .before .before .before .before .before .before .before .before .before .before .before .before .before .before .before .before .before .before .before .before .args .formulas .now) (c .before .before .before .before .before .before .before .before .before .before .before .before .before .before .before .before .before .before .before .before .before .args .effects .now) (c .before .before .before .before .before .before .before .before .before .before .before .before .before .before .before .before .before .before .before .before .before .args .operators .now)) (c .before .before .before .before .before .before .before .before .before .before .before .before .before .before .before .before .before .before .before .before .before .args .state .now) (c .before .before .before .before .before .before .before .before .before .before .before .before .before .before .before .before .before .before .before .before .before .args .number) (c .before .before .before .before .before .before .before .before .before .before .before .before .before .take .result) (c .before .before .before .before .before .before .before .before .before .before .before .before .before .take .last .1 .1 .1 .1 .0) (c .before .before .before .before .before .before .before .before .before .before .before .before .before .take .ensures) (c .before .before .before .before .before .before .before .if1 .left) (c .before .before .holds .result) (c .before .before .holds .ensures ∙ goal-told (c .before .before .before .before .before .before .before .before .before .before .before .before .before .before .before .before .before .before .before .before .before .args .head) (c .before .before .before .before .before .before .before .before .before .before .before .before .before .before .before .before .before .before .before .before .before .args .formulas .now) (c .before .before .before .before .before .before .before .before .before .before .before .before .before .before .before .before .before .before .before .before .before .args .effects .now) (c .before .before .before .before .before .before .before .before .before .before .before .before .before .before .before .before .before .before .before .before .before .args .operators .now) (c .before .before .before .before .before .before .before .before .before .before .before .before .before .take .last .1 .1 .1 .1 .0))
+
+pub step-ready-spec : {M : Type 1} → statement M
+step-ready-spec =
+    tie.close
+    (tie.spec
+    take-requires
+    refused-requires
+    same-length
+    same-length-2
+    returns
+    cast-count
+    cast-goal
+    holds-requires
+    same-length-3
+    same-length-4
+    returns-2)

@@ -1,0 +1,4 @@
+pub mod Outcome
+pub mod Values
+pub mod Marks
+pub mod Steps

@@ -1,0 +1,69 @@
+// What refuses a step or a run before an operator is looked at.
+ghost use mathlib.Core.Path.{_≡_};
+ghost use Rattle.task.specs.Table.{lent};
+ghost use Rattle.plan.specs.Outcome.{early-refusal, run-refusal};
+use task::Head;
+
+// 0, or the first in order: the tables' own number, 16, 14. Linear in the tables and the state.
+pub fn refused_early(
+    head: Head,
+    initial: &[u8],
+    twins: &[u16],
+    formulas: &[u16],
+    effects: &[u16],
+    operators: &[u16],
+    state: &[u8],
+    scratch: &[u8],
+) -> u16
+    ensures { λ r. ⌜ r ≡ early-refusal (lent head (now (initial .entry)) (now (twins .entry)) (now (formulas .entry)) (now (effects .entry)) (now (operators .entry))) (now (state .entry)) (now (scratch .entry)) ⌝ }
+{
+    let number = task::check::check(head, initial, twins, formulas, effects, operators);
+    if number != 0 {
+        return number;
+    }
+    let variables = head.variables as usize;
+    if state.len() != variables {
+        return 16;
+    }
+    if !crate::buffers::bits(state) {
+        return 16;
+    }
+    let rows = head.formulas as usize + head.effects as usize;
+    if scratch.len() < rows {
+        return 14;
+    }
+    0
+}
+
+// 0, or the first in order: the same, then 19.
+pub fn refused_run(
+    head: Head,
+    initial: &[u8],
+    twins: &[u16],
+    formulas: &[u16],
+    effects: &[u16],
+    operators: &[u16],
+    state: &[u8],
+    sequence: &[u16],
+    scratch: &[u8],
+) -> u16
+    ensures { λ r. ⌜ r ≡ run-refusal (lent head (now (initial .entry)) (now (twins .entry)) (now (formulas .entry)) (now (effects .entry)) (now (operators .entry))) (now (state .entry)) (now (sequence .entry)) (now (scratch .entry)) ⌝ }
+{
+    let number = refused_early(
+        head,
+        initial,
+        twins,
+        formulas,
+        effects,
+        operators,
+        state,
+        scratch,
+    );
+    if number != 0 {
+        return number;
+    }
+    if 65535 < sequence.len() {
+        return 19;
+    }
+    0
+}
