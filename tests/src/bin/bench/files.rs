@@ -51,7 +51,7 @@ fn writing(name: &str, task: &Task, length: usize) {
     let mut theirs = vec![0; length];
     let rows = Rows::of(task);
     let written = calls::write_quickly(task, &mut ours);
-    assert_eq!(Ok(written as usize), write::write(&rows, &mut theirs));
+    assert_eq!(Ok(written), write::write(&rows, &mut theirs));
     assert!(ours == theirs);
     times::compare(
         name,

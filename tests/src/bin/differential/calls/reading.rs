@@ -8,7 +8,7 @@ use saqwillo_tests::task::{Head, Lengths, Tables, Task};
 use super::{call_on_tables, on_tables};
 
 /// `test_write` answers the length, or this and the refusal.
-const REFUSED: u32 = 65_536;
+const REFUSED: usize = 65_536;
 
 #[link(name = "test_calls", kind = "static")]
 extern "C" {
@@ -31,7 +31,7 @@ extern "C" {
 }
 
 on_tables! {
-    fn test_write(out: *mut u8, out_len: usize) -> u32;
+    fn test_write(out: *mut u8, out_len: usize) -> usize;
 }
 
 /// The library's reading of a file into dirty tables of these lengths.
@@ -100,7 +100,7 @@ pub fn write(random: &mut Random, head: &Head, tables: &Tables, length: usize) -
     let answer = write_slice(head, tables, output.slice());
     let (number, length) = match answer.checked_sub(REFUSED) {
         Some(number) => (number as u16, 0),
-        None => (0, answer as usize),
+        None => (0, answer),
     };
     Writing {
         number,
@@ -110,10 +110,10 @@ pub fn write(random: &mut Random, head: &Head, tables: &Tables, length: usize) -
 }
 
 /// The same into this output, for the comparison of times: the length.
-pub fn write_quickly(task: &Task, out: &mut [u8]) -> u32 {
+pub fn write_quickly(task: &Task, out: &mut [u8]) -> usize {
     write_slice(&task.head, &task.tables, out)
 }
 
-fn write_slice(head: &Head, tables: &Tables, out: &mut [u8]) -> u32 {
+fn write_slice(head: &Head, tables: &Tables, out: &mut [u8]) -> usize {
     call_on_tables!(test_write, head, tables, out.as_mut_ptr(), out.len())
 }
