@@ -27,7 +27,7 @@ fn bits_kept(initial: &[u8], count: usize) -> bool
 }
 
 // Whether no twin row before k names what row k names. Linear in k.
-fn named_first(twins: &[u16], k: usize) -> bool
+pub fn named_first(twins: &[u16], k: usize) -> bool
     requires { ⌜ k < length (now twins) ⌝ }
     ensures { λ r. ⌜ r ≡ every k (λ j. not (eqb (getD (now (twins .entry)) j 0) (getD (now (twins .entry)) k 0))) ⌝ }
 {
@@ -61,7 +61,7 @@ fn twins_kept(twins: &[u16], count: usize, bound: usize) -> bool
 }
 
 // Whether row i of a table keeps its rule. Constant time.
-fn row_kept(table: Table, head: Head, i: usize, first: u16, second: u16, third: u16) -> bool
+pub fn row_kept(table: Table, head: Head, i: usize, first: u16, second: u16, third: u16) -> bool
     ensures { λ r. ⌜ r ≡ words-kept table head i first second third ⌝ }
 {
     let variables = head.variables as usize;

@@ -1,0 +1,68 @@
+-- Reading at a place of a file: what stands at `at` and behind it. Assumes nothing.
+use Prim.Native.Nat.{ℕ, zero, suc, _+_, _-_, _*_, _/_, _%_, _<_, _≤_}
+use native.Mathlib.Omega.{arith}
+use native.Mathlib.Numerals.{add-one}
+use native.Mathlib.Decide.{decLt}
+use mathlib.Core.Path.{_≡_, refl, sym, ap, _∙_}
+use mathlib.Core.Bool.{Bool, true, false}
+use mathlib.Core.List.{List, [], _∷_, _++_}
+use lib.ListN.{length, getD, drop, drop-of-length-le}
+use lib.Seq.{drop-cons}
+use lib.Dec.{ltb}
+use borrow.Author.Tests.{le-ltb, lt-ltb}
+use Rattle.task_file.specs.Parse.{Parsed, parsed, refused, next, kept, byte-read, word-read, field-read, fields-read}
+
+-- nothing stands behind the end
+pub byte-ends : (file : List ℕ) (at : ℕ) → length file ≤ at → byte-read (drop at file) ≡ refused 1
+unfolding byte-read
+byte-ends file at h = rw (drop-of-length-le file h)
+
+pub byte-here : (file : List ℕ) (at : ℕ) → at < length file → byte-read (drop at file) ≡ parsed (getD file at 0) (drop (at + 1) file)
+unfolding byte-read
+byte-here file at h = rw (add-one at, drop-cons file at 0 h)
+
+pub word-ends : (file : List ℕ) (at : ℕ) → length file ≤ at + 1 → word-read (drop at file) ≡ refused 1
+unfolding word-read next
+word-ends file at h = go (decLt at (length file))
+  where
+    go : Dec (at < length file) → word-read (drop at file) ≡ refused 1
+    go (yes l) = rw (byte-here file at l, byte-ends file (at + 1) h)
+    go (no m) =
+        let past : length file ≤ at = omega arith in
+        rw (byte-ends file at past)
+
+pub word-here :
+    (file : List ℕ) (at : ℕ)
+    → at + 1 < length file
+    → word-read (drop at file) ≡ parsed (getD file at 0 + 256 * getD file (at + 1) 0) (drop (at + 2) file)
+unfolding word-read next
+word-here file at h =
+    let l : at < length file = omega arith in
+    let e : at + 1 + 1 ≡ at + 2 = omega arith in
+    rw (byte-here file at l, byte-here file (at + 1) h, e)
+
+-- a field by its bit and the word that stands there
+pub field-absent : (bit : ℕ) (bytes : List ℕ) → bit ≡ 0 → field-read bit bytes ≡ parsed 0 bytes
+unfolding field-read
+field-absent bit bytes e = rw e
+
+module _ (bit : ℕ) (bytes : List ℕ) (there : bit ≡ 0 → ⊥) where
+  field-present : field-read bit bytes ≡ next (word-read bytes) (λ w. kept (ltb 0 w) 3 w)
+  unfolding field-read
+  field-present = go bit refl
+    where
+      go : (b : ℕ) → bit ≡ b → field-read bit bytes ≡ next (word-read bytes) (λ w. kept (ltb 0 w) 3 w)
+      go zero e = absurd (there e)
+      go (suc b) e = rw e
+
+  pub field-refused : {n : ℕ} → word-read bytes ≡ refused n → field-read bit bytes ≡ refused n
+  unfolding next
+  field-refused e = rw (field-present, e)
+
+  pub field-zero : {w : ℕ} {rest : List ℕ} → w ≡ 0 → word-read bytes ≡ parsed w rest → field-read bit bytes ≡ refused 3
+  unfolding next kept
+  field-zero z e = rw (field-present, e, z)
+
+  pub field-there : {w : ℕ} {rest : List ℕ} → (w ≡ 0 → ⊥) → word-read bytes ≡ parsed w rest → field-read bit bytes ≡ parsed w rest
+  unfolding next kept
+  field-there {w} z e = rw (field-present, e, lt-ltb 0 w (omega arith))

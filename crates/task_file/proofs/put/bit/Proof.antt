@@ -1,0 +1,16 @@
+use Rattle.task_file.proofs.Puts.{present-zero, present-one}
+use Rattle.task_file.proofs.put.bit.Statement.{statement}
+use Rattle.task_file.proofs.put.bit.Tie as tie
+use Rattle.task_file.proofs.put.bit.Reads as reads
+use Rattle.task_file.proofs.put.bit.Lts as lts
+
+-- src/put.rt:52:1
+returns : tie.Need-returns
+returns c = present-zero (c .before .args .w) (c .if1 .taken)
+
+-- src/put.rt:52:1
+returns-2 : tie.Need-returns-2
+returns-2 c = present-one (c .before .args .w) (c .if1 .left)
+
+pub bit-spec : {M : Type 1} → statement M
+bit-spec = tie.close (tie.spec returns returns-2)

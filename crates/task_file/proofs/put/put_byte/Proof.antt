@@ -1,0 +1,34 @@
+use Rattle.task_file.proofs.Puts.{byte-put, byte-counted}
+use borrow.Author.Needs.{needs}
+use Rattle.task_file.proofs.put.put_byte.Statement.{statement}
+use Rattle.task_file.proofs.put.put_byte.Tie as tie
+use Rattle.task_file.proofs.put.put_byte.Reads as reads
+use Rattle.task_file.proofs.put.put_byte.Lts as lts
+
+-- src/put.rt:15:9
+slice-write-out : tie.Need-slice-write-out
+slice-write-out c = search needs
+
+-- src/put.rt:16:16
+add-result : tie.Need-add-result
+add-result c = search needs
+
+-- src/put.rt:16:9
+same-length : tie.Need-same-length
+same-length c = search needs
+
+-- src/put.rt:16:9
+returns : tie.Need-returns
+returns c = byte-put (c .before .args .out .now) (c .before .args .at) (c .before .args .x)
+
+-- src/put.rt:18:5
+add-result-2 : tie.Need-add-result-2
+add-result-2 c = search needs
+
+-- src/put.rt:10:1
+returns-2 : tie.Need-returns-2
+returns-2 c = byte-counted (c .before .args .out .now) (c .before .args .at) (c .before .args .x) (c .if1 .left)
+
+pub put-byte-spec : {M : Type 1} → statement M
+put-byte-spec =
+    tie.close (tie.spec slice-write-out add-result same-length returns add-result-2 returns-2)

@@ -1,0 +1,27 @@
+use Rattle.task_file.proofs.Puts.{put-then}
+use borrow.Author.Needs.{needs}
+use Rattle.task_file.proofs.put_row.put_mapped.Statement.{statement}
+use Rattle.task_file.proofs.put_row.put_mapped.Tie as tie
+use Rattle.task_file.proofs.put_row.put_mapped.Reads as reads
+use Rattle.task_file.proofs.put_row.put_mapped.Lts as lts
+use Rattle.task_file.proofs.put.put_byte.Reads as put-byte-reads
+use Rattle.task_file.proofs.put.put_three.Reads as put-three-reads
+
+-- src/put_row.rt:16:9
+put-byte-requires : tie.Need-put-byte-requires
+put-byte-requires c κs = search needs
+
+-- src/put_row.rt:17:5
+put-three-requires : tie.Need-put-three-requires
+put-three-requires c κs = search needs
+
+-- src/put_row.rt:12:1
+same-length : tie.Need-same-length
+same-length c = search needs
+
+-- src/put_row.rt:12:1
+returns : tie.Need-returns
+returns c = put-then (c .before .before .before .before .before .before .put-byte .ensures) (c .before .before .put-three .ensures)
+
+pub put-mapped-spec : {M : Type 1} → statement M
+put-mapped-spec = tie.close (tie.spec put-byte-requires put-three-requires same-length returns)

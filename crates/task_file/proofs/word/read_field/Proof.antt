@@ -1,0 +1,43 @@
+use mathlib.Core.Path.{_≡_, sym, ap, _∙_}
+use lib.ListN.{drop}
+use borrow.Author.Needs.{needs}
+use Rattle.task_file.specs.Answers.{field-told}
+use Rattle.task_file.proofs.Places.{field-absent, field-refused, field-zero, field-there}
+use Rattle.task_file.proofs.word.read_field.Statement.{statement}
+use Rattle.task_file.proofs.word.read_field.Tie as tie
+use Rattle.task_file.proofs.word.read_field.Reads as reads
+use Rattle.task_file.proofs.word.read_field.Lts as lts
+use Rattle.task_file.proofs.word.read_word.Reads as read-word-reads
+
+-- src/word.rt:28:9
+returns : tie.Need-returns
+returns c = sym (field-absent (c .before .before .args .bit) (drop (c .before .before .args .at) (c .before .before .args .file .now)) (c .if1 .taken))
+
+-- src/word.rt:30:9
+read-word-requires : tie.Need-read-word-requires
+read-word-requires c κs = search needs
+
+-- src/word.rt:31:23
+enum-known-f : tie.Need-enum-known-f
+enum-known-f c = search needs
+
+-- src/word.rt:32:9
+enum-told : tie.Need-enum-told
+enum-told c = search needs
+
+-- src/word.rt:32:9
+returns-2 : tie.Need-returns-2
+returns-2 c = let s = c .before .before .before .before .before in ap (field-told (s .args .file .now)) (c .enum-told .given .1) ∙ sym (field-refused (s .args .bit) (drop (s .args .at) (s .args .file .now)) (c .before .before .before .if1 .left) (sym (c .before .before .read-word .ensures) ∙ ap (field-told (s .args .file .now)) (c .enum-told .given .1)))
+
+-- src/word.rt:35:9
+returns-3 : tie.Need-returns-3
+returns-3 c = let s = c .before .before .before .before .before .before .before in sym (field-zero (s .args .bit) (drop (s .args .at) (s .args .file .now)) (c .before .before .before .before .before .if1 .left) (c .if2 .taken) (sym (c .before .before .before .before .read-word .ensures) ∙ ap (field-told (s .args .file .now)) (c .before .before .f .given .1)))
+
+-- src/word.rt:24:1
+returns-4 : tie.Need-returns-4
+returns-4 c = let s = c .before .before .before .before .before .before .before in sym (field-there (s .args .bit) (drop (s .args .at) (s .args .file .now)) (c .before .before .before .before .before .if1 .left) (c .if2 .left) (sym (c .before .before .before .before .read-word .ensures) ∙ ap (field-told (s .args .file .now)) (c .before .before .f .given .1)))
+
+pub read-field-spec : {M : Type 1} → statement M
+read-field-spec =
+    tie.close
+    (tie.spec returns read-word-requires enum-known-f enum-told returns-2 returns-3 returns-4)

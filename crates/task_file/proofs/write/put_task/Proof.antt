@@ -1,0 +1,85 @@
+use mathlib.Core.Path.{_≡_, refl, sym, ap, _∙_}
+use native.Mathlib.Omega.{arith}
+use Rattle.task.specs.declared.Table.the-variants.{Formulas, Effects, Operators}
+use Rattle.task.specs.Table.{lent, task-of}
+use Rattle.task_file.proofs.Puts.{put-size}
+use Rattle.task_file.proofs.WriteWays.{head-size, state-size, words-size, rows-size, task-put}
+use borrow.Author.Needs.{needs}
+use Rattle.task_file.proofs.write.put_task.Statement.{statement}
+use Rattle.task_file.proofs.write.put_task.Tie as tie
+use Rattle.task_file.proofs.write.put_task.Reads as reads
+use Rattle.task_file.proofs.write.put_task.Lts as lts
+use Rattle.task_file.proofs.put_row.put_head.Reads as put-head-reads
+use Rattle.task_file.proofs.put_tables.put_rows.Reads as put-rows-reads
+use Rattle.task_file.proofs.put_tables.put_state.Reads as put-state-reads
+use Rattle.task_file.proofs.put_tables.put_words.Reads as put-words-reads
+
+-- src/write.rt:25:9
+put-head-requires : tie.Need-put-head-requires
+put-head-requires c κs = search needs
+
+-- src/write.rt:26:58
+cast-put-state : tie.Need-cast-put-state
+cast-put-state c = search needs
+
+-- src/write.rt:26:9
+put-state-requires : tie.Need-put-state-requires
+put-state-requires c κs = let a = c .before .before .before .before .before .before .before .before .before .before .before .before .args in let p = c .before .before .before .before .before .before .before .before .before .before .before .before .pre in (p .state, omega (arith, p .variables, p .twins, p .formulas, p .effects, p .operators, c .before .before .before .before .put-head .ensures .next, head-size (a .head)))
+
+-- src/write.rt:27:59
+cast-put-words : tie.Need-cast-put-words
+cast-put-words c = search needs
+
+-- src/write.rt:27:9
+put-words-requires : tie.Need-put-words-requires
+put-words-requires c κs = let a = c .before .before .before .before .before .before .before .before .before .before .before .before .before .before .before .before .before .args in let p = c .before .before .before .before .before .before .before .before .before .before .before .before .before .before .before .before .before .pre in (p .long .twins, omega (arith, p .variables, p .twins, p .formulas, p .effects, p .operators, c .before .before .before .before .before .before .before .before .before .put-head .ensures .next, head-size (a .head), c .before .before .before .before .put-state .ensures .next, state-size (a .initial .now) (a .head .variables) (p .long .initial)))
+
+-- src/write.rt:28:77
+cast-put-rows : tie.Need-cast-put-rows
+cast-put-rows c = search needs
+
+-- src/write.rt:28:9
+put-rows-requires : tie.Need-put-rows-requires
+put-rows-requires c κs = let a = c .before .before .before .before .before .before .before .before .before .before .before .before .before .before .before .before .before .before .before .before .before .before .args in let p = c .before .before .before .before .before .before .before .before .before .before .before .before .before .before .before .before .before .before .before .before .before .before .pre in record { fit = p .long .formulas; room = omega (arith, p .variables, p .twins, p .formulas, p .effects, p .operators, c .before .before .before .before .before .before .before .before .before .before .before .before .before .before .put-head .ensures .next, head-size (a .head), c .before .before .before .before .before .before .before .before .before .put-state .ensures .next, state-size (a .initial .now) (a .head .variables) (p .long .initial), c .before .before .before .before .put-words .ensures .next, words-size (a .twins .now) (a .head .twins) (p .long .twins)); maps = p .formula-maps }
+
+-- src/write.rt:29:77
+cast-put-rows-2 : tie.Need-cast-put-rows-2
+cast-put-rows-2 c = search needs
+
+-- src/write.rt:29:9
+put-rows-requires-2 : tie.Need-put-rows-requires-2
+put-rows-requires-2 c κs = let a = c .before .before .before .before .before .before .before .before .before .before .before .before .before .before .before .before .before .before .before .before .before .before .before .before .before .before .before .args in let p = c .before .before .before .before .before .before .before .before .before .before .before .before .before .before .before .before .before .before .before .before .before .before .before .before .before .before .before .pre in record { fit = p .long .effects; room = omega (arith, p .variables, p .twins, p .formulas, p .effects, p .operators, c .before .before .before .before .before .before .before .before .before .before .before .before .before .before .before .before .before .before .before .put-head .ensures .next, head-size (a .head), c .before .before .before .before .before .before .before .before .before .before .before .before .before .before .put-state .ensures .next, state-size (a .initial .now) (a .head .variables) (p .long .initial), c .before .before .before .before .before .before .before .before .before .put-words .ensures .next, words-size (a .twins .now) (a .head .twins) (p .long .twins), c .before .before .before .before .put-rows .ensures .next, rows-size Formulas (a .formulas .now) (a .head .formulas)); maps = p .effect-maps }
+
+-- src/write.rt:30:62
+cast-put-rows-3 : tie.Need-cast-put-rows-3
+cast-put-rows-3 c = search needs
+
+-- src/write.rt:30:5
+put-rows-requires-3 : tie.Need-put-rows-requires-3
+put-rows-requires-3 c κs = let a = c .before .before .before .before .before .before .before .before .before .before .before .before .before .before .before .before .before .before .before .before .before .before .before .before .before .before .before .before .before .before .before .before .args in let p = c .before .before .before .before .before .before .before .before .before .before .before .before .before .before .before .before .before .before .before .before .before .before .before .before .before .before .before .before .before .before .before .before .pre in record { fit = p .long .operators; room = omega (arith, p .variables, p .twins, p .formulas, p .effects, p .operators, c .before .before .before .before .before .before .before .before .before .before .before .before .before .before .before .before .before .before .before .before .before .before .before .before .put-head .ensures .next, head-size (a .head), c .before .before .before .before .before .before .before .before .before .before .before .before .before .before .before .before .before .before .before .put-state .ensures .next, state-size (a .initial .now) (a .head .variables) (p .long .initial), c .before .before .before .before .before .before .before .before .before .before .before .before .before .before .put-words .ensures .next, words-size (a .twins .now) (a .head .twins) (p .long .twins), c .before .before .before .before .before .before .before .before .before .put-rows .ensures .next, rows-size Formulas (a .formulas .now) (a .head .formulas), c .before .before .before .before .put-rows2 .ensures .next, rows-size Effects (a .effects .now) (a .head .effects)); maps = λ i h. tt }
+
+-- src/write.rt:13:1
+same-length : tie.Need-same-length
+same-length c = put-size (c .before .before .put-rows3 .ensures) ∙ put-size (c .before .before .before .before .before .before .before .put-rows2 .ensures) ∙ put-size (c .before .before .before .before .before .before .before .before .before .before .before .before .put-rows .ensures) ∙ put-size (c .before .before .before .before .before .before .before .before .before .before .before .before .before .before .before .before .before .put-words .ensures) ∙ put-size (c .before .before .before .before .before .before .before .before .before .before .before .before .before .before .before .before .before .before .before .before .before .before .put-state .ensures) ∙ put-size (c .before .before .before .before .before .before .before .before .before .before .before .before .before .before .before .before .before .before .before .before .before .before .before .before .before .before .before .put-head .ensures)
+
+-- src/write.rt:13:1
+returns : tie.Need-returns
+returns c = let a = c .before .before .before .before .before .before .before .before .before .before .before .before .before .before .before .before .before .before .before .before .before .before .before .before .before .before .before .before .before .before .before .before .before .before .before .args in let p = c .before .before .before .before .before .before .before .before .before .before .before .before .before .before .before .before .before .before .before .before .before .before .before .before .before .before .before .before .before .before .before .before .before .before .before .pre in task-put (lent (a .head) (a .initial .now) (a .twins .now) (a .formulas .now) (a .effects .now) (a .operators .now)) p (c .before .before .before .before .before .before .before .before .before .before .before .before .before .before .before .before .before .before .before .before .before .before .before .before .before .before .before .put-head .ensures) (c .before .before .before .before .before .before .before .before .before .before .before .before .before .before .before .before .before .before .before .before .before .before .put-state .ensures) (c .before .before .before .before .before .before .before .before .before .before .before .before .before .before .before .before .before .put-words .ensures) (c .before .before .before .before .before .before .before .before .before .before .before .before .put-rows .ensures) (c .before .before .before .before .before .before .before .put-rows2 .ensures) (c .before .before .put-rows3 .ensures)
+
+pub put-task-spec : {M : Type 1} → statement M
+put-task-spec =
+    tie.close
+    (tie.spec
+    put-head-requires
+    cast-put-state
+    put-state-requires
+    cast-put-words
+    put-words-requires
+    cast-put-rows
+    put-rows-requires
+    cast-put-rows-2
+    put-rows-requires-2
+    cast-put-rows-3
+    put-rows-requires-3
+    same-length
+    returns)

@@ -1,0 +1,69 @@
+-- What the call that reads leaves: its answer and each lent table (01, "Where each number is given": after a refusal every output buffer is all 0; after
+-- success, all past the answer is 0).
+use Prim.Native.Nat.{ℕ, _-_}
+use mathlib.Core.Path.{_≡_}
+use mathlib.Core.List.{List, [], _++_}
+use lib.ListN.{length, drop, replicate}
+use Rattle.task.specs.Table.{Task}
+use Rattle.task.specs.Words.{head-of, words-of, operator-words}
+use Rattle.task_file.specs.declared.ReadAnswer.{ReadAnswer}
+use Rattle.task_file.specs.declared.ReadAnswer.the-variants.{Read, Refused}
+use Rattle.task_file.specs.Reading.{Lengths, Outcome, accepted, rejected, reading}
+
+pub record ReadOutcome : Type 0 where
+  pub answer : ReadAnswer
+  pub initial : List ℕ
+  pub twins : List ℕ
+  pub formulas : List ℕ
+  pub effects : List ℕ
+  pub operators : List ℕ
+
+-- words in front of a table of n, and 0 behind them
+unfoldable pub padded : ℕ → List ℕ → List ℕ
+padded n words = words ++ replicate (n - length words) 0
+
+unfoldable pub outcome-of : Lengths → Outcome → ReadOutcome
+outcome-of l (accepted t) =
+    record {
+      answer = Read (head-of t);
+      initial = padded (l .initial) (t .initial);
+      twins = padded (l .twins) (t .originals);
+      formulas = padded (l .formulas) (words-of (t .formulas));
+      effects = padded (l .effects) (words-of (t .effects));
+      operators = padded (l .operators) (operator-words (t .operators));
+    }
+outcome-of l (rejected n) =
+    record {
+      answer = Refused n;
+      initial = replicate (l .initial) 0;
+      twins = replicate (l .twins) 0;
+      formulas = replicate (l .formulas) 0;
+      effects = replicate (l .effects) 0;
+      operators = replicate (l .operators) 0;
+    }
+
+-- from the lent tables' lengths and the file alone
+unfoldable pub read-outcome : Lengths → List ℕ → ReadOutcome
+read-outcome l file = outcome-of l (reading l file)
+
+-- what a call left, as one value
+abbrev pub left : ReadAnswer → (initial twins formulas effects operators : List ℕ) → ReadOutcome
+left r initial twins formulas effects operators =
+    record { answer = r; initial = initial; twins = twins; formulas = formulas; effects = effects; operators = operators }
+
+abbrev pub read-answer : Outcome → ReadAnswer
+read-answer (accepted t) = Read (head-of t)
+read-answer (rejected n) = Refused n
+
+-- a task's words in front of tables, and all behind them as it was
+pub record Holds (t : Task) (i w f e o i′ w′ f′ e′ o′ : List ℕ) : Type 0 where
+  pub initial : i′ ≡ t .initial ++ drop (length (t .initial)) i
+  pub twins : w′ ≡ t .originals ++ drop (length (t .originals)) w
+  pub formulas : f′ ≡ words-of (t .formulas) ++ drop (length (words-of (t .formulas))) f
+  pub effects : e′ ≡ words-of (t .effects) ++ drop (length (words-of (t .effects))) e
+  pub operators : o′ ≡ operator-words (t .operators) ++ drop (length (operator-words (t .operators))) o
+
+-- what filling leaves: the answer, and on success the task's words
+pub record Filled (l : Lengths) (file : List ℕ) (r : ReadAnswer) (i w f e o i′ w′ f′ e′ o′ : List ℕ) : Type 0 where
+  pub answer : r ≡ read-answer (reading l file)
+  pub tables : (t : Task) → reading l file ≡ accepted t → Holds t i w f e o i′ w′ f′ e′ o′

@@ -1,0 +1,78 @@
+// A row's bytes, and the head's, into an output.
+ghost use mathlib.Core.Path.{_≡_};
+ghost use mathlib.Core.List.{[], _∷_};
+ghost use Prim.Native.Nat.{_≤_};
+ghost use Rattle.task.specs.Words.{joined};
+ghost use Rattle.task_file.specs.Bytes.{field-bytes, head-bytes};
+ghost use Rattle.task_file.specs.Putting.{Put, MapFits, three-bytes};
+use task::Head;
+use task::Table;
+
+// A map and the three fields by it. Constant time.
+fn put_mapped(out: &mut [u8], at: usize, map: u8, a: u16, b: u16, c: u16) -> usize
+    requires { ⌜ at ≤ 1600000 ⌝ }
+    ensures { λ r. ⌜ Put (map ∷ joined field-bytes (a ∷ b ∷ c ∷ [])) at r (now (out .entry)) (now (out .exit)) ⌝ }
+{
+    let next = crate::put::put_byte(out, at, map);
+    crate::put::put_three(out, next, a, b, c)
+}
+
+// A formula's or an effect's row. Constant time.
+fn put_kind(out: &mut [u8], at: usize, kind: u16, a: u16, b: u16) -> usize
+    requires { ⌜ (at ≤ 1500000) × (MapFits Table.Formulas kind) ⌝ }
+    ensures { λ r. ⌜ Put (three-bytes Table.Formulas kind a b) at r (now (out .entry)) (now (out .exit)) ⌝ }
+{
+    let map = crate::put::bit(a) + 2 * crate::put::bit(b) + 16 * (kind as u8);
+    put_mapped(out, at, map, a, b, 0)
+}
+
+// An operator's row. Constant time.
+fn put_operator(out: &mut [u8], at: usize, precondition: u16, effect: u16, cost: u16) -> usize
+    requires { ⌜ at ≤ 1500000 ⌝ }
+    ensures { λ r. ⌜ Put (three-bytes Table.Operators precondition effect cost) at r (now (out .entry)) (now (out .exit)) ⌝ }
+{
+    let map = crate::put::bit(precondition)
+        + 2 * crate::put::bit(effect)
+        + 4 * crate::put::bit(cost);
+    put_mapped(out, at, map, precondition, effect, cost)
+}
+
+// A row by its three words. Constant time.
+pub fn put_row(
+    table: Table,
+    out: &mut [u8],
+    at: usize,
+    first: u16,
+    second: u16,
+    third: u16,
+) -> usize
+    requires { ⌜ (at ≤ 1400000) × (MapFits table first) ⌝ }
+    ensures { λ r. ⌜ Put (three-bytes table first second third) at r (now (out .entry)) (now (out .exit)) ⌝ }
+{
+    match table {
+        Table::Formulas => put_kind(out, at, first, second, third),
+        Table::Effects => put_kind(out, at, first, second, third),
+        Table::Operators => put_operator(out, at, first, second, third),
+    }
+}
+
+// The head's bytes, at the front. Constant time.
+pub fn put_head(out: &mut [u8], head: Head) -> usize
+    ensures { λ r. ⌜ Put (head-bytes head) 0 r (now (out .entry)) (now (out .exit)) ⌝ }
+{
+    let low = crate::put::bit(head.variables)
+        + 2 * crate::put::bit(head.twins)
+        + 4 * crate::put::bit(head.formulas);
+    let high = crate::put::bit(head.effects)
+        + 2 * crate::put::bit(head.operators)
+        + 4 * crate::put::bit(head.goal);
+    let next = put_mapped(
+        out,
+        0,
+        low + 8 * high,
+        head.variables,
+        head.twins,
+        head.formulas,
+    );
+    crate::put::put_three(out, next, head.effects, head.operators, head.goal)
+}
