@@ -1,17 +1,16 @@
 -- Values, marks, clears, sets: what the passes of a step leave is what `apply` gives. Assumes nothing.
 use Prim.Native.Nat.{ℕ, zero, suc, _+_, _-_, _≤_, _<_}
-use native.Mathlib.Numerals.{add-one}
 use native.Mathlib.Nat.{add-zero, add-suc}
 use native.Mathlib.Omega.{arith}
 use mathlib.Core.Path.{_≡_, refl, sym, ap, ap₂, _∙_}
 use mathlib.Core.Logic.{_↔_}
-use mathlib.Core.Bool.{Bool, true, false, cond, not, _&&_, false≢true}
+use mathlib.Core.Bool.{Bool, true, false, not, _&&_}
 use mathlib.Core.List.{List}
-use lib.ListN.{length, getD, set}
+use lib.ListN.{length, getD}
 use lib.Dec.{leb, eqb}
 use borrow.Author.Tests.{ne-eqb, eq-eqb, eqb-true, le-leb, lt-leb, leb-true}
 use Rattle.task.specs.Bounded.{upto}
-use Rattle.task.specs.Table.{Row, row-at, EffectKind, both-kind, under-kind, effect-kind}
+use Rattle.task.specs.Table.{Row, row-at, under-kind, effect-kind}
 use Rattle.task.specs.Rules.{no-row}
 use Rattle.task.specs.Semantics.{holds, apply}
 use Rattle.task.specs.Tree.{formula-of, effect-of}

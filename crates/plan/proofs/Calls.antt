@@ -1,12 +1,10 @@
 -- Laws of the two calls: each way out gives what the call's definition gives. Assumes nothing.
-use Prim.Native.Nat.{ℕ, zero, suc, _+_}
+use Prim.Native.Nat.{ℕ, zero, suc}
 use native.Mathlib.Nat.{zero-add}
-use native.Mathlib.Omega.{arith}
 use mathlib.Core.Path.{_≡_, refl, sym, ap, _∙_}
-use mathlib.Core.Bool.{Bool, true, false, cond}
+use mathlib.Core.Bool.{Bool, false}
 use mathlib.Core.List.{List, [], _∷_}
-use lib.ListN.{length, getD, replicate}
-use lib.Dec.{ltb}
+use lib.ListN.{length, replicate}
 use Rattle.task.specs.Table.{Lent, Task, task-of}
 use Rattle.task.specs.Run.{Run, Progress, Stop, ended, stopped, goal-holds, operator-of, effect-of-operator, applicable, charge, after-step, answer, run-on, plain-run}
 use Rattle.plan.specs.declared.outcome.StepOutcome.{StepOutcome}
@@ -33,7 +31,7 @@ module _ (l : Lent) where
   same-run s numbers = sym (same-run-on (record { state = s; steps = 0; cost = 0 }) numbers)
 
 -- the ways out of `step_ready`
-module _ (t : Task) (s : List ℕ) (o : ℕ) (r : Taken) (after : List ℕ) (taken : Takes t s o r after) where
+module _ {t : Task} {s : List ℕ} {o : ℕ} {r : Taken} {after : List ℕ} (taken : Takes t s o r after) where
   start : Progress
   start = record { state = s; steps = 0; cost = 0 }
 
@@ -50,11 +48,11 @@ module _ (t : Task) (s : List ℕ) (o : ℕ) (r : Taken) (after : List ℕ) (tak
 
   pub step-stopped :
       (r .stop ≡ 0 → ⊥)
-      → (x : StepOutcome)
+      → {x : StepOutcome}
       → x ≡ record { refusal = r .stop; steps = 0; cost = 0; goal = false }
       → StepDone t s o x after
   unfolding plain-run answer step-told step-refused start
-  step-stopped d x e =
+  step-stopped d {x} e =
       as-told x (answer t start (stopped (r .stop))) whole e (taken .state ∙ ways .1)
     where
       ways :
@@ -66,11 +64,11 @@ module _ (t : Task) (s : List ℕ) (o : ℕ) (r : Taken) (after : List ℕ) (tak
 
   pub step-finished :
       r .stop ≡ 0
-      → (goal : Bool)
+      → {goal : Bool}
       → goal ≡ goal-holds t after
       → StepDone t s o (record { refusal = 0; steps = 1; cost = r .charge; goal = goal }) after
   unfolding plain-run run-on answer step-told start
-  step-finished e goal told =
+  step-finished e {goal} told =
       as-told (record { refusal = 0; steps = 1; cost = r .charge; goal = goal }) (answer t done ended) whole (rw told) refl
     where
       done : Progress

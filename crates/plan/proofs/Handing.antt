@@ -1,10 +1,10 @@
 -- Laws of handing on a mark: what a store of 1 among the marks adds, and the ways out of handing on, by the kind of the row.
 -- Assumes nothing.
-use Prim.Native.Nat.{ℕ, zero, suc, _+_, _*_, _≤_, _<_}
+use Prim.Native.Nat.{ℕ, _+_, _<_}
 use native.Mathlib.Decide.{ℕ-discrete}
 use native.Mathlib.Omega.{arith}
 use mathlib.Core.Path.{_≡_, refl, sym, subst, _∙_}
-use mathlib.Core.Bool.{Bool, true, false, not, false≢true}
+use mathlib.Core.Bool.{true, false, not, false≢true}
 use mathlib.Core.List.{List}
 use mathlib.Core.Logic.{_⊎_, inl, inr, ⊎-elim}
 use lib.ListN.{length, getD, set, length-set}
@@ -72,7 +72,7 @@ unfolding effect-kind
 under-kind-of e = rw e
 
 -- by the number of row k's kind: what is asked of it, and what handing on leaves
-module _ (words : List ℕ) (v at k : ℕ) (s : List ℕ) (m : Markable words v at k s) where
+module _ {words : List ℕ} {v at k : ℕ} {s : List ℕ} (m : Markable words v at k s) where
   pub both-refs : row-at words k .kind ≡ 3 → (row-at words k .a < k) × (row-at words k .b < k)
   unfolding effect-kind
   both-refs e = rw e at (m .rule k (omega arith))

@@ -7,3 +7,4 @@ pub mod Taking
 pub mod Running
 pub mod Refusing
 pub mod Calls
+pub mod Promises

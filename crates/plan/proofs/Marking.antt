@@ -1,15 +1,15 @@
 -- Laws of marking from the root down: how it begins, what a turn of the loop leaves, and what it comes to. Assumes nothing.
-use Prim.Native.Nat.{ℕ, zero, suc, _+_, _-_, _*_, _≤_, _<_}
+use Prim.Native.Nat.{ℕ, _+_, _-_, _≤_, _<_}
 use native.Mathlib.Omega.{arith}
 use native.Mathlib.Decide.{decLt}
 use mathlib.Core.Path.{_≡_, refl, sym, ap, subst, _∙_}
 use mathlib.Core.Logic.{⊎-elim}
-use mathlib.Core.Bool.{Bool, true, false, false≢true}
+use mathlib.Core.Bool.{Bool, true, false≢true}
 use mathlib.Core.List.{List, _++_}
-use lib.ListN.{length, getD, set, take, drop, replicate, length-set, length-append, length-drop, length-replicate, getD-replicate, List·getD-append}
+use lib.ListN.{length, getD, set, take, drop, replicate, length-set, length-drop, length-replicate, getD-replicate, List·getD-append}
 use lib.Seq.{getD-set-same, getD-set-other, getD-take, getD-append-add, length-take-le}
 use borrow.Rule.Slice.PartMut.{midOf, putMid, same-len-mid}
-use Rattle.task.specs.Table.{Row, row-at, EffectKind, empty-kind, set-kind, clear-kind, both-kind, under-kind, unknown-effect, effect-kind}
+use Rattle.task.specs.Table.{row-at, EffectKind, both-kind, under-kind, effect-kind}
 use Rattle.task.specs.Rules.{EffectRule}
 use Rattle.plan.specs.Marks.{on, marked, HandsTo, to-left, to-right, to-inner, Reached, at-root, handed, Markable, Marked, HandedOn, Begun}
 use Rattle.plan.proofs.Handing.{on-same, not-zero-on, zero-off}
@@ -101,8 +101,8 @@ pub record Going (words : List ℕ) (at root : ℕ) (before : List ℕ) (left : 
   pub passed :
       (k j : ℕ) → left ≤ k → k ≤ root → marked after at k ≡ true → HandsTo words (on before) k j → marked after at j ≡ true
 
-pub starts : (words : List ℕ) (at root : ℕ) (before after : List ℕ) → Begun at root before after → Going words at root after (root + 1) after
-starts words at root before after g =
+pub starts : {words : List ℕ} {at root : ℕ} {before after : List ℕ} → Begun at root before after → Going words at root after (root + 1) after
+starts {words} {at} {root} {before} {after} g =
     record {
       same = refl;
       values = λ i l. refl;
@@ -116,15 +116,15 @@ starts words at root before after g =
     only-root k l m (no h) = let e : k ≡ root = omega arith in rw e at-root
 
 pub first-markable :
-    (words : List ℕ) (v at root : ℕ) (before after : List ℕ)
+    {words : List ℕ} {v at root : ℕ} {before after : List ℕ}
     → Markable words v at root before
     → Begun at root before after
     → Markable words v at root after
-first-markable words v at root before after m b =
+first-markable m b =
     record { rows = m .rows; marks = omega (arith, m .marks, b .same); rule = m .rule }
 
 module _
-    (words : List ℕ) (v at root : ℕ) (before : List ℕ) (left : ℕ) (s : List ℕ)
+    {words : List ℕ} {v at root : ℕ} {before : List ℕ} {left : ℕ} {s : List ℕ}
     (m : Markable words v at root before) (some-left : 0 < left) (inside : left ≤ root + 1)
     (g : Going words at root before left s) where
   pub markable-here : Markable words v at (left - 1) s
@@ -190,12 +190,12 @@ module _
 
 -- what the loop comes to, from the first mark on
 pub finished :
-    (words : List ℕ) (v at root : ℕ) (before first after : List ℕ)
+    {words : List ℕ} {v at root : ℕ} {before first after : List ℕ}
     → Markable words v at root before
     → Begun at root before first
     → Going words at root first 0 after
     → Marked words at root before after
-finished words v at root before first after m b g =
+finished {words} {v} {at} {root} {before} {first} {after} m b g =
     record {
       same = g .same ∙ b .same;
       values = λ i l. g .values i l ∙ b .values i l;

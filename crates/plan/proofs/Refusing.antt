@@ -1,22 +1,20 @@
 -- Laws of the refusals: which number each way out gives, and what stands once none is given. Assumes nothing.
-use Prim.Native.Nat.{ℕ, zero, suc, _+_, _*_, _≤_, _<_}
+use Prim.Native.Nat.{ℕ, zero, suc, _+_, _≤_, _<_}
 use native.Mathlib.Omega.{arith}
-use mathlib.Core.Path.{_≡_, refl, sym, ap, _∙_}
+use mathlib.Core.Path.{_≡_, refl, sym, _∙_}
 use mathlib.Core.Bool.{Bool, true, false, _&&_}
 use mathlib.Core.List.{List}
 use lib.ListN.{length, getD}
 use lib.Dec.{leb, eqb}
 use borrow.Author.Tests.{eq-eqb, ne-eqb, eqb-true, le-leb, lt-leb, leb-true}
-use Rattle.task.specs.declared.Head.{Head}
 use Rattle.task.specs.Bounded.{every}
-use Rattle.task.specs.Table.{Lent, row-at, operator-at, lent, task-of}
+use Rattle.task.specs.Table.{Lent}
 use Rattle.task.specs.Check.{refusal, unless}
-use Rattle.task.specs.Rules.{Rules, LongEnough}
 use Rattle.task.proofs.Bounded.{and-left, and-right, every-at}
 use Rattle.task.proofs.Held.{length-initial, length-formulas, length-effects, length-operators, formula-held, effect-held, operator-held, goal-held}
 use Rattle.task.proofs.Kept.{kept-rules}
 use Rattle.plan.specs.Outcome.{state-kept, scratch-kept, sequence-kept, first-of, early-refusal, run-refusal}
-use Rattle.plan.specs.Steps.{TablesReady, StateReady, Ready}
+use Rattle.plan.specs.Steps.{TablesReady, Ready}
 
 first : (n rest : ℕ) → (n ≡ 0 → ⊥) → n ≡ first-of n rest
 first zero rest d = absurd (d refl)

@@ -1,10 +1,10 @@
 -- Laws of the run: from step to step it is the plain run, and its two ends tell what the plain run answers. Assumes nothing.
-use Prim.Native.Nat.{ℕ, zero, suc, _+_, _*_, _≤_, _<_}
+use Prim.Native.Nat.{ℕ, suc, _+_, _*_, _≤_, _<_}
 use native.Mathlib.Numerals.{add-one}
 use native.Mathlib.Omega.{arith}
 use mathlib.Core.Path.{_≡_, refl, sym, ap, _∙_}
 use mathlib.Core.Bool.{Bool, true, false, cond}
-use mathlib.Core.List.{List, [], _∷_}
+use mathlib.Core.List.{List, _∷_}
 use lib.ListN.{length, getD, drop}
 use lib.Seq.{drop-cons, drop-length}
 use lib.Dec.{ltb}
@@ -12,14 +12,13 @@ use Rattle.task.specs.declared.Head.{Head}
 use Rattle.task.specs.Table.{Task, task-of}
 use Rattle.task.specs.Semantics.{effcond, sets, clears, holds, value-after, apply}
 use Rattle.task.specs.Tree.{formula-of}
-use Rattle.task.specs.Run.{Run, Progress, Stop, ended, stopped, effect-of-operator, goal-holds, applicable, charge, after-step, answer, run-on, plain-run}
+use Rattle.task.specs.Run.{Run, Progress, ended, stopped, effect-of-operator, goal-holds, applicable, charge, after-step, answer, run-on, plain-run}
 use Rattle.task.proofs.Bounded.{length-upto, getD-upto}
-use Rattle.plan.specs.declared.outcome.RunOutcome.{RunOutcome}
 use Rattle.plan.specs.declared.outcome.End.the-variants.{Ended, Stopped}
 use Rattle.plan.specs.declared.steps.Taken.{Taken}
 use Rattle.plan.specs.Outcome.{run-answer, end-of}
 use Rattle.plan.specs.Values.{rows-of}
-use Rattle.plan.specs.Steps.{running, StateReady, TablesReady, Ready, Took, took, Takes, RunDone}
+use Rattle.plan.specs.Steps.{running, StateReady, Took, took, Takes, RunDone}
 
 -- a step of the plain run, by what a step gives
 module _ (t : Task) (p : Progress) (o : ℕ) (rest : List ℕ) where
@@ -95,11 +94,11 @@ module _ (h : Head) (t : Task) (s : List ℕ) (ready : StateReady h s) (o : ℕ)
       go false c = ready
 
 pub taken-ready :
-    (h : Head) (t : Task) (s : List ℕ) (o : ℕ) (r : Taken) (after : List ℕ)
+    {h : Head} {t : Task} {s : List ℕ} {o : ℕ} {r : Taken} {after : List ℕ}
     → Takes t s o r after
     → StateReady h s
     → StateReady h after
-taken-ready h t s o r after taken ready = rw (taken .state) (took-ready h t s ready o)
+taken-ready {h} {t} {s} {o} taken ready = rw (taken .state) (took-ready h t s ready o)
 
 -- the loop: what is left of the plain run stands before the numbers that are left
 pub record Goes (h : Head) (t : Task) (s numbers : List ℕ) (steps cost : ℕ) (now : List ℕ) : Type 0 where
@@ -107,16 +106,16 @@ pub record Goes (h : Head) (t : Task) (s numbers : List ℕ) (steps cost : ℕ) 
   pub state : StateReady h now
   pub costs : cost ≤ 65535 * steps
 
-module _ (h : Head) (t : Task) (s numbers : List ℕ) where
+module _ {h : Head} {t : Task} {s numbers : List ℕ} where
   pub starts : StateReady h s → Goes h t s numbers 0 0 s
   unfolding plain-run
   starts ready = record { rest = refl; state = ready; costs = omega arith }
 
   module _
-      (steps cost : ℕ) (now : List ℕ)
+      {steps cost : ℕ} {now : List ℕ}
       (g : Goes h t s numbers steps cost now)
       (l : steps < length numbers)
-      (r : Taken) (after : List ℕ)
+      {r : Taken} {after : List ℕ}
       (taken : Takes t now (getD numbers steps 0) r after) where
     here :
         plain-run t s numbers
@@ -126,7 +125,7 @@ module _ (h : Head) (t : Task) (s numbers : List ℕ) where
         ∙ ap (run-on t (record { state = now; steps = steps; cost = cost })) (drop-cons numbers steps 0 l)
 
     pub after-ready : StateReady h after
-    after-ready = taken-ready h t now (getD numbers steps 0) r after taken (g .state)
+    after-ready = taken-ready taken (g .state)
 
     pub one-more : r .stop ≡ 0 → Goes h t s numbers (steps + 1) (cost + r .charge) after
     one-more e =
@@ -140,7 +139,7 @@ module _ (h : Head) (t : Task) (s numbers : List ℕ) where
           costs = omega (arith, g .costs, taken .small);
         }
 
-    module _ (goal : Bool) where
+    module _ {goal : Bool} where
       pub stopped-run :
           (r .stop ≡ 0 → ⊥)
           → goal ≡ goal-holds t after
@@ -171,13 +170,13 @@ module _ (h : Head) (t : Task) (s numbers : List ℕ) where
           whole = here ∙ ways .0 ∙ ap (λ (x : ℕ). answer t at (stopped x)) (sym stop-same)
 
   pub ended-run :
-      (steps cost : ℕ) (now : List ℕ) (goal : Bool)
+      {steps cost : ℕ} {now : List ℕ} {goal : Bool}
       → Goes h t s numbers steps cost now
       → steps ≡ length numbers
       → goal ≡ goal-holds t now
       → RunDone t s numbers (record { steps = steps; cost = cost; goal = goal; end = Ended goal }) now
   unfolding run-answer end-of answer run-on
-  ended-run steps cost now goal g e told =
+  ended-run {steps} {cost} {now} g e told =
       record {
         answer = rw (whole, told);
         state = sym (ap (λ (x : Run). x .state) whole);

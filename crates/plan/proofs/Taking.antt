@@ -1,11 +1,10 @@
 -- Laws of one step: what each way out gives is what the definition of a step gives. Assumes nothing.
-use Prim.Native.Nat.{ℕ, _+_, _*_, _≤_, _<_}
+use Prim.Native.Nat.{ℕ, _+_, _≤_, _<_}
 use native.Mathlib.Omega.{arith}
-use mathlib.Core.Path.{_≡_, refl, sym, ap, _∙_}
-use mathlib.Core.Bool.{Bool, true, false, cond}
+use mathlib.Core.Path.{_≡_, sym, ap, _∙_}
+use mathlib.Core.Bool.{true, false}
 use mathlib.Core.List.{List}
 use lib.ListN.{length, getD}
-use lib.Dec.{ltb, eqb}
 use borrow.Author.Tests.{lt-ltb, le-ltb, eq-eqb, ne-eqb}
 use Rattle.task.specs.declared.Head.{Head}
 use Rattle.task.specs.Table.{Task, Operator, row-at, operator-at, task-of}
@@ -49,7 +48,7 @@ takes t s n w q small =
       small = small;
     }
 
-module _ (h : Head) (f e o s scratch : List ℕ) (ready : Ready h f e o s scratch) where
+module _ {h : Head} {f e o s scratch : List ℕ} (ready : Ready h f e o s scratch) where
   pub valuable : Valuable f (h .formulas) s scratch
   valuable =
       record {
@@ -68,7 +67,7 @@ module _ (h : Head) (f e o s scratch : List ℕ) (ready : Ready h f e o s scratc
             rw (getD-upto (h .effects) (row-at e) i no-row b, ready .state .size) (ready .tables .effect i b);
       }
 
-  module _ (n : ℕ) where
+  module _ {n : ℕ} where
     pub not-there : h .operators ≤ n → Takes (running h f e o) s n (record { stop = 17; charge = 0 }) s
     unfolding task-of
     not-there b =
@@ -160,10 +159,10 @@ module _ (h : Head) (f e o s scratch : List ℕ) (ready : Ready h f e o s scratc
 
 -- the tables stay ready when the state and scratch change
 pub ready-again :
-    (h : Head) (f e o s scratch now rest : List ℕ)
+    {h : Head} {f e o s scratch now rest : List ℕ}
     → Ready h f e o s scratch
     → StateReady h now
     → length rest ≡ length scratch
     → Ready h f e o now rest
-ready-again h f e o s scratch now rest ready state same =
+ready-again ready state same =
     record { tables = ready .tables; state = state; room = omega (arith, ready .room) }

@@ -1,17 +1,17 @@
 -- Laws of the value of one row: what each arm of the code gives. Assumes nothing.
-use Prim.Native.Nat.{ℕ, zero, suc, _+_, _-_, _*_, _≤_, _<_}
+use Prim.Native.Nat.{ℕ, zero, suc, _+_, _-_, _≤_, _<_}
 use native.Mathlib.Omega.{arith}
 use mathlib.Core.Path.{_≡_, refl, sym, ap, _∙_}
-use mathlib.Core.Bool.{Bool, true, false, cond, not, _&&_, _||_, Bool·beq}
+use mathlib.Core.Bool.{cond, not}
 use mathlib.Core.List.{List}
 use lib.ListN.{length, getD, set}
 use lib.Dec.{eqb}
-use Rattle.task.specs.Table.{Row, row-at, FormulaKind, false-kind, true-kind, variable-kind, not-kind, and-kind, or-kind, implies-kind, equivalent-kind, unknown-formula, formula-kind}
+use Rattle.task.specs.Table.{row-at, formula-kind}
 use Rattle.task.specs.Rules.{no-row, FormulaRule}
 use Rattle.task.specs.Semantics.{holds}
 use Rattle.task.specs.Tree.{formula-of}
 use Rattle.task.proofs.Bounded.{length-upto, getD-upto}
-use Rattle.task.proofs.Trees.{FormulaKept, FormulasDown}
+use Rattle.task.proofs.Trees.{FormulasDown}
 use Rattle.task.proofs.Values.{bit, told, bit-small, kind-value, row-value, Values, values-stored}
 use Rattle.plan.specs.Values.{joins, rows-of, RowReady, Valuable}
 
@@ -103,7 +103,7 @@ join-value s values (suc (suc (suc (suc (suc (suc (suc zero))))))) a b h l = ref
 join-value s values (suc (suc (suc (suc (suc (suc (suc (suc n)))))))) a b h l = refl
 
 -- the arms of `value_of`
-module _ (words : List ℕ) (i : ℕ) (s values : List ℕ) (ready : RowReady words i s values) where
+module _ {words : List ℕ} {i : ℕ} {s values : List ℕ} (ready : RowReady words i s values) where
   pub false-row : row-at words i .kind ≡ 0 → 0 ≡ bit (row-value s values (row-at words i))
   unfolding bit row-value kind-value formula-kind
   false-row k = rw k
@@ -153,7 +153,7 @@ module _ (words : List ℕ) (i : ℕ) (s values : List ℕ) (ready : RowReady wo
         (join-value s values (row-at words i .kind) (row-at words i .a) (row-at words i .b) (join-refs .0) (join-refs .1)))
 
 -- the loop over the rows below n
-module _ (words : List ℕ) (n : ℕ) (s scratch : List ℕ) (able : Valuable words n s scratch) where
+module _ {words : List ℕ} {n : ℕ} {s scratch : List ℕ} (able : Valuable words n s scratch) where
   down : FormulasDown (length s) (rows-of n words)
   down =
       record {
@@ -163,7 +163,7 @@ module _ (words : List ℕ) (n : ℕ) (s scratch : List ℕ) (able : Valuable wo
             rw (getD-upto n (row-at words) i no-row l) (able .rule i l);
       }
 
-  module _ (i : ℕ) (t : List ℕ) (h : i < n) (same : length t ≡ length scratch) (so-far : Values s (rows-of n words) i t) where
+  module _ {i : ℕ} {t : List ℕ} (h : i < n) (same : length t ≡ length scratch) (so-far : Values s (rows-of n words) i t) where
     pub row-ready : RowReady words i s t
     row-ready =
         record {
@@ -175,8 +175,8 @@ module _ (words : List ℕ) (n : ℕ) (s scratch : List ℕ) (able : Valuable wo
         }
 
     pub one-more :
-        (x : ℕ) → x ≡ bit (row-value s t (row-at words i)) → Values s (rows-of n words) (i + 1) (set t i x)
-    one-more x e =
+        {x : ℕ} → x ≡ bit (row-value s t (row-at words i)) → Values s (rows-of n words) (i + 1) (set t i x)
+    one-more e =
         rw (e, ← getD-upto n (row-at words) i no-row h)
         (values-stored (length s) (rows-of n words) down s i t (rw (length-upto n (row-at words)) h)
         (omega (arith, able .room)) so-far)

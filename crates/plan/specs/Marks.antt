@@ -7,7 +7,7 @@ use mathlib.Core.Logic.{_↔_, _⊎_}
 use mathlib.Core.List.{List}
 use lib.ListN.{length, getD, set}
 use lib.Dec.{eqb}
-use Rattle.task.specs.Table.{Row, row-at, EffectKind, empty-kind, set-kind, clear-kind, both-kind, under-kind, unknown-effect, effect-kind}
+use Rattle.task.specs.Table.{row-at, both-kind, under-kind, effect-kind}
 use Rattle.task.specs.Rules.{EffectRule}
 
 -- byte i of scratch is not 0: formula i holds; and, for i = at + k, effect row k is marked

@@ -2,7 +2,7 @@
 -- the scratch at exit, from the inputs alone.
 use Prim.Native.Nat.{ℕ, zero, suc, _+_}
 use mathlib.Core.Path.{_≡_}
-use mathlib.Core.Bool.{Bool, true, false, _&&_}
+use mathlib.Core.Bool.{Bool, false, _&&_}
 use mathlib.Core.List.{List, [], _∷_}
 use lib.ListN.{length, getD, replicate}
 use lib.Dec.{leb, eqb}
@@ -16,15 +16,15 @@ use Rattle.plan.specs.declared.outcome.RunOutcome.{RunOutcome}
 use Rattle.plan.specs.declared.outcome.End.{End}
 use Rattle.plan.specs.declared.outcome.End.the-variants.{Ended, Stopped, Refused}
 
--- 16: a byte a variable, 0 or 1. A state longer than V is wrong too.
+-- 16: a byte a variable, 0 or 1. Over V 1 the states [], [0, 0] and [2] are refused; tables may be longer than their counts, a state may not.
 unfoldable pub state-kept : Head → List ℕ → Bool
 state-kept h s = eqb (length s) (h .variables) && every (length s) (λ v. leb (getD s v 0) 1)
 
--- 14
+-- 14: F + E bytes, of any content. One byte fewer is refused even if the operator's own rows would fit.
 unfoldable pub scratch-kept : Head → List ℕ → Bool
 scratch-kept h scratch = leb (h .formulas + h .effects) (length scratch)
 
--- 19: 65,536 numbers are too many, even if the first would stop
+-- 19: 65,536 numbers are too many, even if the first would stop.
 unfoldable pub sequence-kept : List ℕ → Bool
 sequence-kept numbers = leb (length numbers) 65535
 
@@ -33,7 +33,7 @@ abbrev pub first-of : ℕ → ℕ → ℕ
 first-of zero rest = rest
 first-of (suc n) rest = suc n
 
--- what refuses a step before its operator is looked at: the tables' own, 16, 14
+-- what refuses a step before its operator is looked at: the tables' own, 16, 14. A wrong state with too short a scratch is 16.
 unfoldable pub early-refusal : Lent → (state scratch : List ℕ) → ℕ
 early-refusal l s scratch =
     first-of (refusal l) (unless (state-kept (l .head) s) 16 (unless (scratch-kept (l .head) scratch) 14 0))
@@ -75,7 +75,7 @@ run-refused number s scratch =
       scratch = cleared scratch;
     }
 
--- a step is the plain run of its one number; its 17 and 18 are refusals
+-- a step is the plain run of its one number; its 17 and 18 are refusals, so a step that is not applicable in a goal state tells no goal
 unfoldable pub step-told : Stop → Run → (state scratch : List ℕ) → Stepped
 step-told ended r s scratch =
     record {
@@ -89,7 +89,7 @@ unfoldable pub end-of : Stop → (steps : ℕ) → (goal : Bool) → End
 end-of ended steps goal = Ended goal
 end-of (stopped number) steps goal = Stopped number steps
 
--- a run tells what the plain run answers; a stop's goal too
+-- a run tells what the plain run answers. A run that stops in a goal state tells the goal, and is no plan.
 unfoldable pub run-answer : Run → RunOutcome
 run-answer r = record { steps = r .steps; cost = r .cost; goal = r .goal; end = end-of (r .stop) (r .steps) (r .goal) }
 

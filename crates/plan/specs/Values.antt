@@ -1,13 +1,11 @@
 -- The values of the formulas in a state, a byte each, bottom-up. Only the contracts of private helpers cite this file.
 use Prim.Native.Nat.{ℕ, _+_, _*_, _≤_, _<_}
-use mathlib.Core.Path.{_≡_}
 use mathlib.Core.Bool.{Bool, false, not, _&&_, _||_, Bool·beq}
 use mathlib.Core.List.{List}
 use lib.ListN.{length, getD}
 use Rattle.task.specs.Bounded.{upto}
-use Rattle.task.specs.Table.{Row, row-at, FormulaKind, false-kind, true-kind, variable-kind, not-kind, and-kind, or-kind, implies-kind, equivalent-kind, unknown-formula, formula-kind}
+use Rattle.task.specs.Table.{Row, row-at, FormulaKind, false-kind, true-kind, variable-kind, not-kind, and-kind, or-kind, implies-kind, equivalent-kind, unknown-formula}
 use Rattle.task.proofs.Trees.{FormulaKept}
-use Rattle.task.proofs.Values.{Values}
 
 -- the rows of a table of words
 abbrev pub rows-of : ℕ → List ℕ → List Row

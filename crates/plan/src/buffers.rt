@@ -1,5 +1,4 @@
 // The lent buffers: scratch that ends as 0, and the bytes of a state.
-ghost use Prim.Native.Nat.{ℕ};
 ghost use mathlib.Core.Path.{_≡_};
 ghost use lib.ListN.{length, getD, replicate};
 ghost use lib.Dec.{leb};

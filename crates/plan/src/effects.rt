@@ -1,5 +1,5 @@
 // Carrying out an effect: the rows that act are marked, then the state is changed in place.
-ghost use Prim.Native.Nat.{ℕ, _+_, _*_, _≤_, _<_};
+ghost use Prim.Native.Nat.{_+_, _<_};
 ghost use mathlib.Core.Path.{_≡_};
 ghost use lib.ListN.{length};
 ghost use Rattle.plan.specs.Marks.{changed, Changeable, Markable, Marked, HandedOn, Begun};
@@ -80,8 +80,8 @@ pub fn carry_out(effects: &[u16], root: usize, state: &mut [u8], scratch: &mut [
     ensures { λ _. ⌜ Carried (now (effects .entry)) at root (now (state .entry)) (now (state .exit)) (now (scratch .entry)) (now (scratch .exit)) ⌝ }
 {
     let variables = state.len();
-    mark(effects, root, variables, scratch, at);
     let rows = root + 1;
+    mark(effects, root, variables, scratch, at);
     change(effects, rows, 2, 0, state, scratch, at);
     change(effects, rows, 1, 1, state, scratch, at);
 }

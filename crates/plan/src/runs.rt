@@ -33,14 +33,16 @@ fn run_ready(
         let number = sequence[steps as usize];
         let taken = take(head, formulas, effects, operators, state, number, scratch);
         if taken.stop != 0 {
+            let there = holds(formulas, count, goal, state, scratch);
+            let end = End::Stopped {
+                number: taken.stop,
+                step: steps,
+            };
             return RunOutcome {
                 steps,
                 cost,
-                goal: holds(formulas, count, goal, state, scratch),
-                end: End::Stopped {
-                    number: taken.stop,
-                    step: steps,
-                },
+                goal: there,
+                end,
             };
         }
         steps += 1;

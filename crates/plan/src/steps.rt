@@ -1,11 +1,11 @@
-// One step, where nothing before its operator refuses.
-ghost use Prim.Native.Nat.{ℕ, _<_};
+// Single steps.
+ghost use Prim.Native.Nat.{_<_};
 ghost use mathlib.Core.Path.{_≡_};
 ghost use mathlib.Core.Bool.{false};
 ghost use Rattle.task.specs.Semantics.{holds};
 ghost use Rattle.task.specs.Tree.{formula-of};
-ghost use Rattle.plan.specs.Values.{rows-of, Valuable};
 ghost use Rattle.task.specs.Table.{lent};
+ghost use Rattle.plan.specs.Values.{rows-of, Valuable};
 ghost use Rattle.plan.specs.Outcome.{stepped, StepGives};
 ghost use Rattle.plan.specs.Steps.{running, Ready, Takes, StepDone};
 use crate::outcome::StepOutcome;
@@ -70,6 +70,7 @@ pub fn take(
     }
 }
 
+// A refused step tells its number and nothing else.
 fn refused(number: u16) -> StepOutcome
     ensures { λ r. ⌜ r ≡ record { refusal = number; steps = 0; cost = 0; goal = false } ⌝ }
 {

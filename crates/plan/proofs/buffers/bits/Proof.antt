@@ -1,13 +1,11 @@
+-- `bits` tests every byte: the invariant is that those before passed. Assumes nothing.
 use Rattle.plan.proofs.buffers.bits.Statement.{statement}
 use Rattle.plan.proofs.buffers.bits.Tie as tie
-use Rattle.plan.proofs.buffers.bits.Reads as reads
-use Rattle.plan.proofs.buffers.bits.Lts as lts
-use Prim.Native.Nat.{ℕ, _≤_, _-_, _+_}
-use mathlib.Core.Path.{_≡_, refl, sym, ap, _∙_}
+use Prim.Native.Nat.{ℕ, _≤_, _-_}
+use mathlib.Core.Path.{_≡_, sym}
 use mathlib.Core.Bool.{true}
 use lib.ListN.{length, getD}
 use lib.Dec.{leb}
-use borrow.Author.Needs.{needs}
 use borrow.Author.Tests.{le-leb, lt-leb}
 use native.Mathlib.Omega.{arith}
 use Rattle.task.specs.Bounded.{every}

@@ -1,13 +1,11 @@
+-- `clear` leaves 0 everywhere: the invariant is a front of zeros. Assumes nothing.
 use Rattle.plan.proofs.buffers.clear.Statement.{statement}
 use Rattle.plan.proofs.buffers.clear.Tie as tie
-use Rattle.plan.proofs.buffers.clear.Reads as reads
-use Rattle.plan.proofs.buffers.clear.Lts as lts
-use Prim.Native.Nat.{ℕ, _≤_, _-_, _+_}
-use mathlib.Core.Path.{_≡_, refl, sym, ap, _∙_}
+use Prim.Native.Nat.{ℕ, _≤_, _-_}
+use mathlib.Core.Path.{_≡_, refl, ap, _∙_}
 use mathlib.Core.List.{List, _++_, append-nil}
 use lib.ListN.{length, drop, replicate, set, length-set}
 use lib.Seq.{drop-length}
-use borrow.Author.Needs.{needs}
 use borrow.Author.Fill.{fill-none, fill-more}
 use native.Mathlib.Omega.{arith}
 

@@ -1,9 +1,7 @@
+-- `begin_marks` leaves the root's mark alone, from the laws of Marking. Assumes nothing.
 use borrow.Author.Needs.{needs}
 use Rattle.plan.proofs.effects.begin_marks.Statement.{statement}
 use Rattle.plan.proofs.effects.begin_marks.Tie as tie
-use Rattle.plan.proofs.effects.begin_marks.Reads as reads
-use Rattle.plan.proofs.effects.begin_marks.Lts as lts
-use Rattle.plan.proofs.buffers.clear.Reads as clear-reads
 use Rattle.plan.proofs.Marking.{begun}
 
 add-end : tie.Need-add-end
@@ -28,7 +26,7 @@ same-length : tie.Need-same-length
 same-length c = search needs
 
 returns : tie.Need-returns
-returns c = begun (c .before .before .before .before .before .args .at) (c .before .before .before .before .before .args .root) (c .before .before .before .before .before .args .scratch .now) (c .before .before .clear .last .0) (c .before .before .before .before .before .pre) (c .before .before .clear .ensures)
+returns c = begun _ _ _ _ (c .before .before .before .before .before .pre) (c .before .before .clear .ensures)
 
 pub begin-marks-spec : {M : Type 1} → statement M
 begin-marks-spec =

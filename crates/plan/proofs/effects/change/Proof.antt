@@ -1,11 +1,9 @@
+-- `change` stores row by row what `changed` stores, from the laws of Passes. Assumes nothing.
 use Rattle.plan.proofs.effects.change.Statement.{statement}
 use Rattle.plan.proofs.effects.change.Tie as tie
-use Rattle.plan.proofs.effects.change.Reads as reads
-use Rattle.plan.proofs.effects.change.Lts as lts
-use Prim.Native.Nat.{ℕ, _≤_, _<_, _-_, _+_, _*_}
-use mathlib.Core.Path.{_≡_, refl, sym, ap, _∙_}
-use lib.ListN.{length, getD}
-use borrow.Author.Needs.{needs}
+use Prim.Native.Nat.{_≤_, _<_, _-_, _+_, _*_}
+use mathlib.Core.Path.{_≡_}
+use lib.ListN.{length}
 use native.Mathlib.Omega.{arith}
 use Rattle.task.specs.Table.{row-at}
 use Rattle.plan.proofs.Passes.{acts-not-marked, acts-other-kind, acts-marked, Passing, begin, idle, act}
@@ -17,7 +15,7 @@ abbrev μ-loop : tie.MeasureT-loop
 μ-loop effects rows kind value state₀ scratch at next₀ state next = rows - next
 
 loop-holds : tie.Need-loop-holds Inv-loop μ-loop
-loop-holds c = (omega arith, begin _ _ _ _ _ _)
+loop-holds c = (omega arith, begin)
 
 add-next : tie.Need-add-next Inv-loop μ-loop
 add-next c = omega arith
@@ -54,7 +52,7 @@ cast-v c = omega (arith, c .shared-slice-known3 .given (3 * c .before .before .b
 
 slice-write-state : tie.Need-slice-write-state Inv-loop μ-loop
 unfolding row-at
-slice-write-state c = let h : row-at (c .before .before .before .before .before .before .before .args .effects .now) (c .before .before .before .before .before .before .loop .next) .a < length (c .before .before .before .before .before .before .before .args .state .now) = c .before .before .before .before .before .before .before .pre .named (c .before .before .before .before .before .before .loop .next) (omega arith) (acts-marked (c .before .before .before .before .before .before .before .args .effects .now) (c .before .before .before .before .before .before .before .args .kind) (c .before .before .before .before .before .before .before .args .scratch .now) (c .before .before .before .before .before .before .before .args .at) (c .before .before .before .before .before .before .loop .next) (c .before .before .before .if1 .taken) (c .before .if2 .taken)) in
+slice-write-state c = let h : row-at (c .before .before .before .before .before .before .before .args .effects .now) (c .before .before .before .before .before .before .loop .next) .a < length (c .before .before .before .before .before .before .before .args .state .now) = c .before .before .before .before .before .before .before .pre .named (c .before .before .before .before .before .before .loop .next) (omega arith) (acts-marked _ _ _ _ _ (c .before .before .before .if1 .taken) (c .before .if2 .taken)) in
     omega (arith, c .before .before .before .before .before .before .loop .inv .1 .same)
 
 loop-less : tie.Need-loop-less Inv-loop μ-loop
@@ -62,20 +60,20 @@ loop-less c = omega arith
 
 loop-again : tie.Need-loop-again Inv-loop μ-loop
 unfolding row-at
-loop-again c = (omega arith, act (c .before .before .before .before .before .before .before .args .effects .now) (c .before .before .before .before .before .before .before .args .kind) (c .before .before .before .before .before .before .before .args .value) (c .before .before .before .before .before .before .before .args .scratch .now) (c .before .before .before .before .before .before .before .args .at) (c .before .before .before .before .before .before .loop .next) (c .before .before .before .before .before .before .before .args .state .now) (c .before .before .before .before .before .before .loop .state) (c .before .before .before .before .before .before .loop .inv .1) (acts-marked (c .before .before .before .before .before .before .before .args .effects .now) (c .before .before .before .before .before .before .before .args .kind) (c .before .before .before .before .before .before .before .args .scratch .now) (c .before .before .before .before .before .before .before .args .at) (c .before .before .before .before .before .before .loop .next) (c .before .before .before .if1 .taken) (c .before .if2 .taken)))
+loop-again c = (omega arith, act (c .before .before .before .before .before .before .loop .inv .1) (acts-marked _ _ _ _ _ (c .before .before .before .if1 .taken) (c .before .if2 .taken)))
 
 loop-less-2 : tie.Need-loop-less-2 Inv-loop μ-loop
 loop-less-2 c = omega arith
 
 loop-again-2 : tie.Need-loop-again-2 Inv-loop μ-loop
 unfolding row-at
-loop-again-2 c = (omega arith, idle (c .before .before .before .before .before .before .args .effects .now) (c .before .before .before .before .before .before .args .kind) (c .before .before .before .before .before .before .args .value) (c .before .before .before .before .before .before .args .scratch .now) (c .before .before .before .before .before .before .args .at) (c .before .before .before .before .before .loop .next) (c .before .before .before .before .before .before .args .state .now) (c .before .before .before .before .before .loop .state) (c .before .before .before .before .before .loop .inv .1) (acts-other-kind (c .before .before .before .before .before .before .args .effects .now) (c .before .before .before .before .before .before .args .kind) (c .before .before .before .before .before .before .args .scratch .now) (c .before .before .before .before .before .before .args .at) (c .before .before .before .before .before .loop .next) (c .before .before .if1 .taken) (c .if2 .left)))
+loop-again-2 c = (omega arith, idle (c .before .before .before .before .before .loop .inv .1) (acts-other-kind _ _ _ _ _ (c .before .before .if1 .taken) (c .if2 .left)))
 
 loop-less-3 : tie.Need-loop-less-3 Inv-loop μ-loop
 loop-less-3 c = omega arith
 
 loop-again-3 : tie.Need-loop-again-3 Inv-loop μ-loop
-loop-again-3 c = (omega arith, idle (c .before .before .before .before .args .effects .now) (c .before .before .before .before .args .kind) (c .before .before .before .before .args .value) (c .before .before .before .before .args .scratch .now) (c .before .before .before .before .args .at) (c .before .before .before .loop .next) (c .before .before .before .before .args .state .now) (c .before .before .before .loop .state) (c .before .before .before .loop .inv .1) (acts-not-marked (c .before .before .before .before .args .effects .now) (c .before .before .before .before .args .kind) (c .before .before .before .before .args .scratch .now) (c .before .before .before .before .args .at) (c .before .before .before .loop .next) (c .if1 .left)))
+loop-again-3 c = (omega arith, idle (c .before .before .before .loop .inv .1) (acts-not-marked _ _ _ _ _ (c .if1 .left)))
 
 same-length : tie.Need-same-length Inv-loop μ-loop
 same-length c = c .before .loop .inv .1 .same

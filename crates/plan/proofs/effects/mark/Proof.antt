@@ -1,13 +1,9 @@
+-- `mark` hands on from the root down, each turn by a law of Marking. Assumes nothing.
 use Rattle.plan.proofs.effects.mark.Statement.{statement}
 use Rattle.plan.proofs.effects.mark.Tie as tie
-use Rattle.plan.proofs.effects.mark.Reads as reads
-use Rattle.plan.proofs.effects.mark.Lts as lts
-use Rattle.plan.proofs.effects.begin_marks.Reads as begin-marks-reads
-use Rattle.plan.proofs.effects.hand_on.Reads as hand-on-reads
-use Prim.Native.Nat.{_+_, _-_, _≤_, _<_}
+use Prim.Native.Nat.{_+_, _≤_}
 use native.Mathlib.Omega.{arith}
 use mathlib.Core.Path.{_≡_, _∙_}
-use lib.ListN.{length}
 use Rattle.plan.proofs.Marking.{Going, starts, first-markable, markable-here, passes, hands-on, finished}
 
 abbrev Inv-loop : tie.InvT-loop
@@ -24,7 +20,7 @@ add-left : tie.Need-add-left Inv-loop μ-loop
 add-left c = omega (arith, c .before .before .before .before .before .before .pre .marks)
 
 loop-holds : tie.Need-loop-holds Inv-loop μ-loop
-loop-holds c = (omega arith, starts (c .before .before .before .before .before .before .args .effects .now) (c .before .before .before .before .before .before .args .at) (c .before .before .before .before .before .before .args .root) (c .before .before .before .before .before .before .args .scratch .now) (c .before .before .begin-marks .last .0) (c .before .before .begin-marks .ensures))
+loop-holds c = (omega arith, starts (c .before .before .begin-marks .ensures))
 
 sub-left : tie.Need-sub-left Inv-loop μ-loop
 sub-left c = omega arith
@@ -36,26 +32,26 @@ slice-read-if1 : tie.Need-slice-read-if1 Inv-loop μ-loop
 slice-read-if1 c = omega (arith, c .before .before .before .before .before .before .before .before .before .pre .marks, c .before .before .loop .inv .1 .same, c .before .before .before .before .before .begin-marks .ensures .same)
 
 hand-on-requires : tie.Need-hand-on-requires Inv-loop μ-loop
-hand-on-requires c κs = markable-here (c .before .before .before .before .before .before .before .before .before .before .before .args .effects .now) (c .before .before .before .before .before .before .before .before .before .before .before .args .variables) (c .before .before .before .before .before .before .before .before .before .before .before .args .at) (c .before .before .before .before .before .before .before .before .before .before .before .args .root) (c .before .before .before .before .before .before .before .begin-marks .last .0) (c .before .before .before .before .loop .left) (c .before .before .before .before .loop .scratch) (first-markable (c .before .before .before .before .before .before .before .before .before .before .before .args .effects .now) (c .before .before .before .before .before .before .before .before .before .before .before .args .variables) (c .before .before .before .before .before .before .before .before .before .before .before .args .at) (c .before .before .before .before .before .before .before .before .before .before .before .args .root) (c .before .before .before .before .before .before .before .before .before .before .before .args .scratch .now) (c .before .before .before .before .before .before .before .begin-marks .last .0) (c .before .before .before .before .before .before .before .before .before .before .before .pre) (c .before .before .before .before .before .before .before .begin-marks .ensures)) (omega arith) (c .before .before .before .before .loop .inv .0) (c .before .before .before .before .loop .inv .1)
+hand-on-requires c κs = markable-here (first-markable (c .before .before .before .before .before .before .before .before .before .before .before .pre) (c .before .before .before .before .before .before .before .begin-marks .ensures)) (omega arith) (c .before .before .before .before .loop .inv .0) (c .before .before .before .before .loop .inv .1)
 
 loop-less : tie.Need-loop-less Inv-loop μ-loop
 loop-less c = omega arith
 
 loop-again : tie.Need-loop-again Inv-loop μ-loop
-loop-again c = (omega arith, hands-on (c .before .before .before .before .before .before .before .before .before .before .before .before .before .before .args .effects .now) (c .before .before .before .before .before .before .before .before .before .before .before .before .before .before .args .variables) (c .before .before .before .before .before .before .before .before .before .before .before .before .before .before .args .at) (c .before .before .before .before .before .before .before .before .before .before .before .before .before .before .args .root) (c .before .before .before .before .before .before .before .before .before .before .begin-marks .last .0) (c .before .before .before .before .before .before .before .loop .left) (c .before .before .before .before .before .before .before .loop .scratch) (first-markable (c .before .before .before .before .before .before .before .before .before .before .before .before .before .before .args .effects .now) (c .before .before .before .before .before .before .before .before .before .before .before .before .before .before .args .variables) (c .before .before .before .before .before .before .before .before .before .before .before .before .before .before .args .at) (c .before .before .before .before .before .before .before .before .before .before .before .before .before .before .args .root) (c .before .before .before .before .before .before .before .before .before .before .before .before .before .before .args .scratch .now) (c .before .before .before .before .before .before .before .before .before .before .begin-marks .last .0) (c .before .before .before .before .before .before .before .before .before .before .before .before .before .before .pre) (c .before .before .before .before .before .before .before .before .before .before .begin-marks .ensures)) (omega arith) (c .before .before .before .before .before .before .before .loop .inv .0) (c .before .before .before .before .before .before .before .loop .inv .1) (c .before .before .hand-on .last .1 .1 .1 .0) (c .before .before .before .before .if1 .taken) (c .before .before .hand-on .ensures))
+loop-again c = (omega arith, hands-on (first-markable (c .before .before .before .before .before .before .before .before .before .before .before .before .before .before .pre) (c .before .before .before .before .before .before .before .before .before .before .begin-marks .ensures)) (omega arith) (c .before .before .before .before .before .before .before .loop .inv .0) (c .before .before .before .before .before .before .before .loop .inv .1) (c .before .before .hand-on .last .1 .1 .1 .0) (c .before .before .before .before .if1 .taken) (c .before .before .hand-on .ensures))
 
 loop-less-2 : tie.Need-loop-less-2 Inv-loop μ-loop
 loop-less-2 c = omega arith
 
 loop-again-2 : tie.Need-loop-again-2 Inv-loop μ-loop
-loop-again-2 c = (omega arith, passes (c .before .before .before .before .before .before .before .before .before .before .args .effects .now) (c .before .before .before .before .before .before .before .before .before .before .args .variables) (c .before .before .before .before .before .before .before .before .before .before .args .at) (c .before .before .before .before .before .before .before .before .before .before .args .root) (c .before .before .before .before .before .before .begin-marks .last .0) (c .before .before .before .loop .left) (c .before .before .before .loop .scratch) (first-markable (c .before .before .before .before .before .before .before .before .before .before .args .effects .now) (c .before .before .before .before .before .before .before .before .before .before .args .variables) (c .before .before .before .before .before .before .before .before .before .before .args .at) (c .before .before .before .before .before .before .before .before .before .before .args .root) (c .before .before .before .before .before .before .before .before .before .before .args .scratch .now) (c .before .before .before .before .before .before .begin-marks .last .0) (c .before .before .before .before .before .before .before .before .before .before .pre) (c .before .before .before .before .before .before .begin-marks .ensures)) (omega arith) (c .before .before .before .loop .inv .0) (c .before .before .before .loop .inv .1) (c .if1 .left))
+loop-again-2 c = (omega arith, passes (first-markable (c .before .before .before .before .before .before .before .before .before .before .pre) (c .before .before .before .before .before .before .begin-marks .ensures)) (omega arith) (c .before .before .before .loop .inv .0) (c .before .before .before .loop .inv .1) (c .if1 .left))
 
 same-length : tie.Need-same-length Inv-loop μ-loop
 same-length c = c .before .loop .inv .1 .same ∙ c .before .before .before .before .begin-marks .ensures .same
 
 returns : tie.Need-returns Inv-loop μ-loop
 returns c = let e : c .before .loop .left ≡ 0 = omega arith in
-    finished (c .before .before .before .before .before .before .before .before .args .effects .now) (c .before .before .before .before .before .before .before .before .args .variables) (c .before .before .before .before .before .before .before .before .args .at) (c .before .before .before .before .before .before .before .before .args .root) (c .before .before .before .before .before .before .before .before .args .scratch .now) (c .before .before .before .before .begin-marks .last .0) (c .before .loop .scratch) (c .before .before .before .before .before .before .before .before .pre) (c .before .before .before .before .begin-marks .ensures) (rw e at (c .before .loop .inv .1))
+    finished (c .before .before .before .before .before .before .before .before .pre) (c .before .before .before .before .begin-marks .ensures) (rw e at (c .before .loop .inv .1))
 
 pub mark-spec : {M : Type 1} → statement M
 mark-spec =

@@ -1,9 +1,7 @@
+-- `evaluate` leaves the values of the rows passed, from the laws of Valuing. Assumes nothing.
 use Rattle.plan.proofs.formulas.evaluate.Statement.{statement}
 use Rattle.plan.proofs.formulas.evaluate.Tie as tie
-use Rattle.plan.proofs.formulas.evaluate.Reads as reads
-use Rattle.plan.proofs.formulas.evaluate.Lts as lts
-use Rattle.plan.proofs.formulas.value_of.Reads as value-of-reads
-use Prim.Native.Nat.{_+_, _-_, _≤_, _<_}
+use Prim.Native.Nat.{_-_, _≤_}
 use native.Mathlib.Omega.{arith}
 use mathlib.Core.Path.{_≡_, refl, _∙_}
 use lib.ListN.{length, length-set}
@@ -19,10 +17,10 @@ abbrev μ-loop : tie.MeasureT-loop
 μ-loop formulas count state scratch₀ i₀ scratch i = count - i
 
 loop-holds : tie.Need-loop-holds Inv-loop μ-loop
-loop-holds c = (omega arith, refl, values-none (c .before .before .before .args .state .now) (rows-of (c .before .before .before .args .count) (c .before .before .before .args .formulas .now)) (c .before .before .before .args .scratch .now))
+loop-holds c = (omega arith, refl, values-none _ _ _)
 
 value-of-requires : tie.Need-value-of-requires Inv-loop μ-loop
-value-of-requires c κs = row-ready (c .before .before .before .before .before .before .args .formulas .now) (c .before .before .before .before .before .before .args .count) (c .before .before .before .before .before .before .args .state .now) (c .before .before .before .before .before .before .args .scratch .now) (c .before .before .before .before .before .before .pre) (c .before .before .loop .i) (c .before .before .loop .scratch) (omega arith) (c .before .before .loop .inv .1) (c .before .before .loop .inv .2)
+value-of-requires c κs = row-ready (c .before .before .before .before .before .before .pre) (omega arith) (c .before .before .loop .inv .1) (c .before .before .loop .inv .2)
 
 slice-write-scratch : tie.Need-slice-write-scratch Inv-loop μ-loop
 slice-write-scratch c = omega (arith, c .before .before .before .before .before .before .before .pre .room)
@@ -34,7 +32,7 @@ loop-less : tie.Need-loop-less Inv-loop μ-loop
 loop-less c = omega arith
 
 loop-again : tie.Need-loop-again Inv-loop μ-loop
-loop-again c = (omega arith, length-set (c .before .before .before .loop .scratch) (c .before .before .before .loop .i) (c .value-of .result) ∙ c .before .before .before .loop .inv .1, one-more (c .before .before .before .before .before .before .before .args .formulas .now) (c .before .before .before .before .before .before .before .args .count) (c .before .before .before .before .before .before .before .args .state .now) (c .before .before .before .before .before .before .before .args .scratch .now) (c .before .before .before .before .before .before .before .pre) (c .before .before .before .loop .i) (c .before .before .before .loop .scratch) (omega arith) (c .before .before .before .loop .inv .1) (c .before .before .before .loop .inv .2) (c .value-of .result) (c .value-of .ensures))
+loop-again c = (omega arith, length-set (c .before .before .before .loop .scratch) (c .before .before .before .loop .i) (c .value-of .result) ∙ c .before .before .before .loop .inv .1, one-more (c .before .before .before .before .before .before .before .pre) (omega arith) (c .before .before .before .loop .inv .1) (c .before .before .before .loop .inv .2) (c .value-of .ensures))
 
 same-length : tie.Need-same-length Inv-loop μ-loop
 same-length c = c .before .loop .inv .1

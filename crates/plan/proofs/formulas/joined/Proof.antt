@@ -1,10 +1,7 @@
+-- `joined` gives each kind's truth table, each way out by a law of Valuing. Assumes nothing.
 use Rattle.plan.proofs.formulas.joined.Statement.{statement}
 use Rattle.plan.proofs.formulas.joined.Tie as tie
-use Rattle.plan.proofs.formulas.joined.Reads as reads
-use Rattle.plan.proofs.formulas.joined.Lts as lts
-use Prim.Native.Nat.{_≤_}
 use native.Mathlib.Omega.{arith}
-use mathlib.Core.Path.{_≡_}
 use Rattle.plan.proofs.Valuing.{and-zero, and-one, or-zero, or-one, implies-zero, implies-one, same-bits, other-bits}
 
 returns : tie.Need-returns

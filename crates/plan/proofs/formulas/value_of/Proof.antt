@@ -1,12 +1,10 @@
+-- `value_of` gives the row's value by its kind, each way out by a law of Valuing. Assumes nothing.
 use borrow.Author.Needs.{needs}
 use Rattle.plan.proofs.formulas.value_of.Statement.{statement}
 use Rattle.plan.proofs.formulas.value_of.Tie as tie
-use Rattle.plan.proofs.formulas.value_of.Reads as reads
-use Rattle.plan.proofs.formulas.value_of.Lts as lts
-use Rattle.plan.proofs.formulas.joined.Reads as joined-reads
-use Prim.Native.Nat.{_+_, _*_, _≤_, _<_}
+use Prim.Native.Nat.{_+_, _*_}
 use native.Mathlib.Omega.{arith}
-use mathlib.Core.Path.{_≡_, _∙_}
+use mathlib.Core.Path.{_∙_}
 use Rattle.task.specs.Table.{row-at}
 use Rattle.plan.proofs.Valuing.{false-row, true-row, variable-ref, variable-row, not-ref, not-row, join-refs, join-row}
 
@@ -51,48 +49,48 @@ cast-b c = omega (arith, c .shared-slice-known6 .given (3 * c .before .before .b
 
 shared-slice-read-result : tie.Need-shared-slice-read-result
 unfolding row-at
-shared-slice-read-result c = variable-ref (c .before .before .before .before .before .before .before .before .args .formulas .now) (c .before .before .before .before .before .before .before .before .args .i) (c .before .before .before .before .before .before .before .before .args .state .now) (c .before .before .before .before .before .before .before .before .args .values .now) (c .before .before .before .before .before .before .before .before .pre) (c .before .match .keys3)
+shared-slice-read-result c = variable-ref (c .before .before .before .before .before .before .before .before .pre) (c .before .match .keys3)
 
 shared-slice-read-result-2 : tie.Need-shared-slice-read-result-2
 unfolding row-at
-shared-slice-read-result-2 c = omega (arith, not-ref (c .before .before .before .before .before .before .before .before .args .formulas .now) (c .before .before .before .before .before .before .before .before .args .i) (c .before .before .before .before .before .before .before .before .args .state .now) (c .before .before .before .before .before .before .before .before .args .values .now) (c .before .before .before .before .before .before .before .before .pre) (c .before .match .keys4))
+shared-slice-read-result-2 c = omega (arith, not-ref (c .before .before .before .before .before .before .before .before .pre) (c .before .match .keys4))
 
 sub-result : tie.Need-sub-result
 unfolding row-at
-sub-result c = c .before .before .before .before .before .before .before .before .pre .value-bits (row-at (c .before .before .before .before .before .before .before .before .args .formulas .now) (c .before .before .before .before .before .before .before .before .args .i) .a) (not-ref (c .before .before .before .before .before .before .before .before .args .formulas .now) (c .before .before .before .before .before .before .before .before .args .i) (c .before .before .before .before .before .before .before .before .args .state .now) (c .before .before .before .before .before .before .before .before .args .values .now) (c .before .before .before .before .before .before .before .before .pre) (c .before .match .keys4))
+sub-result c = c .before .before .before .before .before .before .before .before .pre .value-bits (row-at (c .before .before .before .before .before .before .before .before .args .formulas .now) (c .before .before .before .before .before .before .before .before .args .i) .a) (not-ref (c .before .before .before .before .before .before .before .before .pre) (c .before .match .keys4))
 
 shared-slice-read-joined : tie.Need-shared-slice-read-joined
 unfolding row-at
-shared-slice-read-joined c = omega (arith, join-refs (c .before .before .before .before .before .before .before .before .args .formulas .now) (c .before .before .before .before .before .before .before .before .args .i) (c .before .before .before .before .before .before .before .before .args .state .now) (c .before .before .before .before .before .before .before .before .args .values .now) (c .before .before .before .before .before .before .before .before .pre) (c .before .match .rest .0 .0 .0 .1) (c .before .match .rest .0 .0 .1) (c .before .match .rest .0 .1) (c .before .match .rest .1))
+shared-slice-read-joined c = omega (arith, join-refs (c .before .before .before .before .before .before .before .before .pre) (c .before .match .rest .0 .0 .0 .1) (c .before .match .rest .0 .0 .1) (c .before .match .rest .0 .1) (c .before .match .rest .1))
 
 shared-slice-read-joined-2 : tie.Need-shared-slice-read-joined-2
 unfolding row-at
-shared-slice-read-joined-2 c = omega (arith, join-refs (c .before .before .before .before .before .before .before .before .before .args .formulas .now) (c .before .before .before .before .before .before .before .before .before .args .i) (c .before .before .before .before .before .before .before .before .before .args .state .now) (c .before .before .before .before .before .before .before .before .before .args .values .now) (c .before .before .before .before .before .before .before .before .before .pre) (c .before .before .match .rest .0 .0 .0 .1) (c .before .before .match .rest .0 .0 .1) (c .before .before .match .rest .0 .1) (c .before .before .match .rest .1))
+shared-slice-read-joined-2 c = omega (arith, join-refs (c .before .before .before .before .before .before .before .before .before .pre) (c .before .before .match .rest .0 .0 .0 .1) (c .before .before .match .rest .0 .0 .1) (c .before .before .match .rest .0 .1) (c .before .before .match .rest .1))
 
 joined-requires : tie.Need-joined-requires
 unfolding row-at
-joined-requires c κs = let refs = join-refs (c .before .before .before .before .before .before .before .before .before .args .formulas .now) (c .before .before .before .before .before .before .before .before .before .args .i) (c .before .before .before .before .before .before .before .before .before .args .state .now) (c .before .before .before .before .before .before .before .before .before .args .values .now) (c .before .before .before .before .before .before .before .before .before .pre) (c .before .before .match .rest .0 .0 .0 .1) (c .before .before .match .rest .0 .0 .1) (c .before .before .match .rest .0 .1) (c .before .before .match .rest .1) in
+joined-requires c κs = let refs = join-refs (c .before .before .before .before .before .before .before .before .before .pre) (c .before .before .match .rest .0 .0 .0 .1) (c .before .before .match .rest .0 .0 .1) (c .before .before .match .rest .0 .1) (c .before .before .match .rest .1) in
     (refs .0, refs .1, c .before .before .before .before .before .before .before .before .before .pre .value-bits (row-at (c .before .before .before .before .before .before .before .before .before .args .formulas .now) (c .before .before .before .before .before .before .before .before .before .args .i) .a) (refs .2), c .before .before .before .before .before .before .before .before .before .pre .value-bits (row-at (c .before .before .before .before .before .before .before .before .before .args .formulas .now) (c .before .before .before .before .before .before .before .before .before .args .i) .b) (refs .3))
 
 returns : tie.Need-returns
 unfolding row-at
-returns c = false-row (c .before .before .before .before .before .before .before .args .formulas .now) (c .before .before .before .before .before .before .before .args .i) (c .before .before .before .before .before .before .before .args .state .now) (c .before .before .before .before .before .before .before .args .values .now) (c .before .before .before .before .before .before .before .pre) (c .match .keys1)
+returns c = false-row (c .before .before .before .before .before .before .before .pre) (c .match .keys1)
 
 returns-2 : tie.Need-returns-2
 unfolding row-at
-returns-2 c = true-row (c .before .before .before .before .before .before .before .args .formulas .now) (c .before .before .before .before .before .before .before .args .i) (c .before .before .before .before .before .before .before .args .state .now) (c .before .before .before .before .before .before .before .args .values .now) (c .before .before .before .before .before .before .before .pre) (c .match .keys2)
+returns-2 c = true-row (c .before .before .before .before .before .before .before .pre) (c .match .keys2)
 
 returns-3 : tie.Need-returns-3
 unfolding row-at
-returns-3 c = variable-row (c .before .before .before .before .before .before .before .before .args .formulas .now) (c .before .before .before .before .before .before .before .before .args .i) (c .before .before .before .before .before .before .before .before .args .state .now) (c .before .before .before .before .before .before .before .before .args .values .now) (c .before .before .before .before .before .before .before .before .pre) (c .before .match .keys3)
+returns-3 c = variable-row (c .before .before .before .before .before .before .before .before .pre) (c .before .match .keys3)
 
 returns-4 : tie.Need-returns-4
 unfolding row-at
-returns-4 c = not-row (c .before .before .before .before .before .before .before .before .args .formulas .now) (c .before .before .before .before .before .before .before .before .args .i) (c .before .before .before .before .before .before .before .before .args .state .now) (c .before .before .before .before .before .before .before .before .args .values .now) (c .before .before .before .before .before .before .before .before .pre) (c .before .match .keys4)
+returns-4 c = not-row (c .before .before .before .before .before .before .before .before .pre) (c .before .match .keys4)
 
 returns-5 : tie.Need-returns-5
 unfolding row-at
-returns-5 c = c .joined .ensures ∙ join-row (c .before .before .before .before .before .before .before .before .before .before .args .formulas .now) (c .before .before .before .before .before .before .before .before .before .before .args .i) (c .before .before .before .before .before .before .before .before .before .before .args .state .now) (c .before .before .before .before .before .before .before .before .before .before .args .values .now) (c .before .before .before .before .before .before .before .before .before .before .pre) (c .before .before .before .match .rest .0 .0 .0 .1) (c .before .before .before .match .rest .0 .0 .1) (c .before .before .before .match .rest .0 .1) (c .before .before .before .match .rest .1)
+returns-5 c = c .joined .ensures ∙ join-row (c .before .before .before .before .before .before .before .before .before .before .pre) (c .before .before .before .match .rest .0 .0 .0 .1) (c .before .before .before .match .rest .0 .0 .1) (c .before .before .before .match .rest .0 .1) (c .before .before .before .match .rest .1)
 
 pub value-of-spec : {M : Type 1} → statement M
 value-of-spec =

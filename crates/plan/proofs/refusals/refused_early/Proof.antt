@@ -1,11 +1,7 @@
+-- `refused_early` gives the first number in order, each way out by a law of Refusing. Assumes nothing.
 use borrow.Author.Needs.{needs}
 use Rattle.plan.proofs.refusals.refused_early.Statement.{statement}
 use Rattle.plan.proofs.refusals.refused_early.Tie as tie
-use Rattle.plan.proofs.refusals.refused_early.Reads as reads
-use Rattle.plan.proofs.refusals.refused_early.Lts as lts
-use Rattle.plan.proofs.buffers.bits.Reads as bits-reads
-use Rattle.task.proofs.check.check.Reads as check-reads
-use Rattle.task.specs.Table.{lent}
 use borrow.Author.Tests.{not-true, not-false}
 use Rattle.plan.proofs.Refusing.{refused-tables, refused-length, refused-bits, refused-room, not-refused}
 
@@ -13,19 +9,19 @@ check-requires : tie.Need-check-requires
 check-requires c κs = search needs
 
 returns : tie.Need-returns
-returns c = refused-tables (lent (c .before .before .before .before .before .before .before .before .before .args .head) (c .before .before .before .before .before .before .before .before .before .args .initial .now) (c .before .before .before .before .before .before .before .before .before .args .twins .now) (c .before .before .before .before .before .before .before .before .before .args .formulas .now) (c .before .before .before .before .before .before .before .before .before .args .effects .now) (c .before .before .before .before .before .before .before .before .before .args .operators .now)) (c .before .before .before .before .before .before .before .before .before .args .state .now) (c .before .before .before .before .before .before .before .before .before .args .scratch .now) (c .before .check .result) (c .before .check .ensures) (c .if1 .taken)
+returns c = refused-tables _ _ _ _ (c .before .check .ensures) (c .if1 .taken)
 
 cast-variables : tie.Need-cast-variables
 cast-variables c = search needs
 
 returns-2 : tie.Need-returns-2
-returns-2 c = refused-length (lent (c .before .before .before .before .before .before .before .before .before .before .before .args .head) (c .before .before .before .before .before .before .before .before .before .before .before .args .initial .now) (c .before .before .before .before .before .before .before .before .before .before .before .args .twins .now) (c .before .before .before .before .before .before .before .before .before .before .before .args .formulas .now) (c .before .before .before .before .before .before .before .before .before .before .before .args .effects .now) (c .before .before .before .before .before .before .before .before .before .before .before .args .operators .now)) (c .before .before .before .before .before .before .before .before .before .before .before .args .state .now) (c .before .before .before .before .before .before .before .before .before .before .before .args .scratch .now) (c .before .before .before .check .result) (c .before .before .before .check .ensures) (c .before .before .if1 .left) (c .if2 .taken)
+returns-2 c = refused-length _ _ _ _ (c .before .before .before .check .ensures) (c .before .before .if1 .left) (c .if2 .taken)
 
 bits-requires : tie.Need-bits-requires
 bits-requires c κs = search needs
 
 returns-3 : tie.Need-returns-3
-returns-3 c = refused-bits (lent (c .before .before .before .before .before .before .before .before .before .before .before .before .before .args .head) (c .before .before .before .before .before .before .before .before .before .before .before .before .before .args .initial .now) (c .before .before .before .before .before .before .before .before .before .before .before .before .before .args .twins .now) (c .before .before .before .before .before .before .before .before .before .before .before .before .before .args .formulas .now) (c .before .before .before .before .before .before .before .before .before .before .before .before .before .args .effects .now) (c .before .before .before .before .before .before .before .before .before .before .before .before .before .args .operators .now)) (c .before .before .before .before .before .before .before .before .before .before .before .before .before .args .state .now) (c .before .before .before .before .before .before .before .before .before .before .before .before .before .args .scratch .now) (c .before .before .before .before .before .check .result) (c .before .before .before .before .before .check .ensures) (c .before .before .before .before .if1 .left) (c .before .before .if2 .left) (c .before .bits .result) (c .before .bits .ensures) (not-true (c .before .bits .result) (c .if3 .taken))
+returns-3 c = refused-bits _ _ _ _ (c .before .before .before .before .before .check .ensures) (c .before .before .before .before .if1 .left) (c .before .before .if2 .left) _ (c .before .bits .ensures) (not-true (c .before .bits .result) (c .if3 .taken))
 
 cast-rows : tie.Need-cast-rows
 cast-rows c = search needs
@@ -37,10 +33,10 @@ add-rows : tie.Need-add-rows
 add-rows c = search needs
 
 returns-4 : tie.Need-returns-4
-returns-4 c = refused-room (lent (c .before .before .before .before .before .before .before .before .before .before .before .before .before .before .before .before .args .head) (c .before .before .before .before .before .before .before .before .before .before .before .before .before .before .before .before .args .initial .now) (c .before .before .before .before .before .before .before .before .before .before .before .before .before .before .before .before .args .twins .now) (c .before .before .before .before .before .before .before .before .before .before .before .before .before .before .before .before .args .formulas .now) (c .before .before .before .before .before .before .before .before .before .before .before .before .before .before .before .before .args .effects .now) (c .before .before .before .before .before .before .before .before .before .before .before .before .before .before .before .before .args .operators .now)) (c .before .before .before .before .before .before .before .before .before .before .before .before .before .before .before .before .args .state .now) (c .before .before .before .before .before .before .before .before .before .before .before .before .before .before .before .before .args .scratch .now) (c .before .before .before .before .before .before .before .before .check .result) (c .before .before .before .before .before .before .before .before .check .ensures) (c .before .before .before .before .before .before .before .if1 .left) (c .before .before .before .before .before .if2 .left) (c .before .before .before .before .bits .result) (c .before .before .before .before .bits .ensures) (not-false (c .before .before .before .before .bits .result) (c .before .before .before .if3 .left)) (c .if4 .taken)
+returns-4 c = refused-room _ _ _ _ (c .before .before .before .before .before .before .before .before .check .ensures) (c .before .before .before .before .before .before .before .if1 .left) (c .before .before .before .before .before .if2 .left) _ (c .before .before .before .before .bits .ensures) (not-false (c .before .before .before .before .bits .result) (c .before .before .before .if3 .left)) (c .if4 .taken)
 
 returns-5 : tie.Need-returns-5
-returns-5 c = not-refused (lent (c .before .before .before .before .before .before .before .before .before .before .before .before .before .before .before .before .args .head) (c .before .before .before .before .before .before .before .before .before .before .before .before .before .before .before .before .args .initial .now) (c .before .before .before .before .before .before .before .before .before .before .before .before .before .before .before .before .args .twins .now) (c .before .before .before .before .before .before .before .before .before .before .before .before .before .before .before .before .args .formulas .now) (c .before .before .before .before .before .before .before .before .before .before .before .before .before .before .before .before .args .effects .now) (c .before .before .before .before .before .before .before .before .before .before .before .before .before .before .before .before .args .operators .now)) (c .before .before .before .before .before .before .before .before .before .before .before .before .before .before .before .before .args .state .now) (c .before .before .before .before .before .before .before .before .before .before .before .before .before .before .before .before .args .scratch .now) (c .before .before .before .before .before .before .before .before .check .result) (c .before .before .before .before .before .before .before .before .check .ensures) (c .before .before .before .before .before .before .before .if1 .left) (c .before .before .before .before .before .if2 .left) (c .before .before .before .before .bits .result) (c .before .before .before .before .bits .ensures) (not-false (c .before .before .before .before .bits .result) (c .before .before .before .if3 .left)) (c .if4 .left)
+returns-5 c = not-refused _ _ _ _ (c .before .before .before .before .before .before .before .before .check .ensures) (c .before .before .before .before .before .before .before .if1 .left) (c .before .before .before .before .before .if2 .left) _ (c .before .before .before .before .bits .ensures) (not-false (c .before .before .before .before .bits .result) (c .before .before .before .if3 .left)) (c .if4 .left)
 
 pub refused-early-spec : {M : Type 1} → statement M
 refused-early-spec =

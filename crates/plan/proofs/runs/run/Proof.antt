@@ -1,13 +1,8 @@
+-- `run` gives what `ran` gives, each way out by a law of Calls. Assumes nothing.
 use borrow.Author.Needs.{needs}
 use Rattle.plan.proofs.runs.run.Statement.{statement}
 use Rattle.plan.proofs.runs.run.Tie as tie
-use Rattle.plan.proofs.runs.run.Reads as reads
-use Rattle.plan.proofs.runs.run.Lts as lts
-use Rattle.plan.proofs.buffers.clear.Reads as clear-reads
-use Rattle.plan.proofs.refusals.refused_run.Reads as refused-run-reads
-use Rattle.plan.proofs.runs.run_ready.Reads as run-ready-reads
 use mathlib.Core.Path.{sym, _∙_}
-use Rattle.task.specs.Table.{lent}
 use Rattle.plan.proofs.Refusing.{run-ready, short-enough}
 use Rattle.plan.proofs.Calls.{run-refuses, run-gives}
 
@@ -24,10 +19,10 @@ same-length-2 : tie.Need-same-length-2
 same-length-2 c = search needs
 
 returns : tie.Need-returns
-returns c = run-refuses (lent (c .before .before .before .before .before .before .before .before .before .before .before .before .before .before .before .before .args .head) (c .before .before .before .before .before .before .before .before .before .before .before .before .before .before .before .before .args .initial .now) (c .before .before .before .before .before .before .before .before .before .before .before .before .before .before .before .before .args .twins .now) (c .before .before .before .before .before .before .before .before .before .before .before .before .before .before .before .before .args .formulas .now) (c .before .before .before .before .before .before .before .before .before .before .before .before .before .before .before .before .args .effects .now) (c .before .before .before .before .before .before .before .before .before .before .before .before .before .before .before .before .args .operators .now)) (c .before .before .before .before .before .before .before .before .before .before .before .before .before .before .before .before .args .state .now) (c .before .before .before .before .before .before .before .before .before .before .before .before .before .before .before .before .args .sequence .now) (c .before .before .before .before .before .before .before .before .before .before .before .before .before .before .before .before .args .scratch .now) (c .before .before .before .before .before .refused-run .result) (c .before .before .before .before .before .refused-run .ensures) (c .before .before .before .before .if1 .taken) (c .before .before .clear .last .0) (c .before .before .clear .ensures)
+returns c = run-refuses _ _ _ _ _ (c .before .before .before .before .before .refused-run .ensures) (c .before .before .before .before .if1 .taken) _ (c .before .before .clear .ensures)
 
 run-ready-requires : tie.Need-run-ready-requires
-run-ready-requires c κs = (run-ready (lent (c .before .before .before .before .before .before .before .before .before .before .before .before .before .before .args .head) (c .before .before .before .before .before .before .before .before .before .before .before .before .before .before .args .initial .now) (c .before .before .before .before .before .before .before .before .before .before .before .before .before .before .args .twins .now) (c .before .before .before .before .before .before .before .before .before .before .before .before .before .before .args .formulas .now) (c .before .before .before .before .before .before .before .before .before .before .before .before .before .before .args .effects .now) (c .before .before .before .before .before .before .before .before .before .before .before .before .before .before .args .operators .now)) (c .before .before .before .before .before .before .before .before .before .before .before .before .before .before .args .state .now) (c .before .before .before .before .before .before .before .before .before .before .before .before .before .before .args .sequence .now) (c .before .before .before .before .before .before .before .before .before .before .before .before .before .before .args .scratch .now) (sym (c .before .before .before .refused-run .ensures) ∙ c .before .before .if1 .left), short-enough (lent (c .before .before .before .before .before .before .before .before .before .before .before .before .before .before .args .head) (c .before .before .before .before .before .before .before .before .before .before .before .before .before .before .args .initial .now) (c .before .before .before .before .before .before .before .before .before .before .before .before .before .before .args .twins .now) (c .before .before .before .before .before .before .before .before .before .before .before .before .before .before .args .formulas .now) (c .before .before .before .before .before .before .before .before .before .before .before .before .before .before .args .effects .now) (c .before .before .before .before .before .before .before .before .before .before .before .before .before .before .args .operators .now)) (c .before .before .before .before .before .before .before .before .before .before .before .before .before .before .args .state .now) (c .before .before .before .before .before .before .before .before .before .before .before .before .before .before .args .sequence .now) (c .before .before .before .before .before .before .before .before .before .before .before .before .before .before .args .scratch .now) (sym (c .before .before .before .refused-run .ensures) ∙ c .before .before .if1 .left))
+run-ready-requires c κs = (run-ready _ _ _ _ (sym (c .before .before .before .refused-run .ensures) ∙ c .before .before .if1 .left), short-enough _ _ _ _ (sym (c .before .before .before .refused-run .ensures) ∙ c .before .before .if1 .left))
 
 clear-requires-2 : tie.Need-clear-requires-2
 clear-requires-2 c κs = search needs
@@ -39,7 +34,7 @@ same-length-4 : tie.Need-same-length-4
 same-length-4 c = search needs
 
 returns-2 : tie.Need-returns-2
-returns-2 c = run-gives (lent (c .before .before .before .before .before .before .before .before .before .before .before .before .before .before .before .before .before .before .before .before .before .before .before .args .head) (c .before .before .before .before .before .before .before .before .before .before .before .before .before .before .before .before .before .before .before .before .before .before .before .args .initial .now) (c .before .before .before .before .before .before .before .before .before .before .before .before .before .before .before .before .before .before .before .before .before .before .before .args .twins .now) (c .before .before .before .before .before .before .before .before .before .before .before .before .before .before .before .before .before .before .before .before .before .before .before .args .formulas .now) (c .before .before .before .before .before .before .before .before .before .before .before .before .before .before .before .before .before .before .before .before .before .before .before .args .effects .now) (c .before .before .before .before .before .before .before .before .before .before .before .before .before .before .before .before .before .before .before .before .before .before .before .args .operators .now)) (c .before .before .before .before .before .before .before .before .before .before .before .before .before .before .before .before .before .before .before .before .before .before .before .args .state .now) (c .before .before .before .before .before .before .before .before .before .before .before .before .before .before .before .before .before .before .before .before .before .before .before .args .sequence .now) (c .before .before .before .before .before .before .before .before .before .before .before .before .before .before .before .before .before .before .before .before .before .before .before .args .scratch .now) (c .before .before .before .before .before .before .before .before .before .before .before .before .refused-run .result) (c .before .before .before .before .before .before .before .before .before .before .before .before .refused-run .ensures) (c .before .before .before .before .before .before .before .before .before .before .before .if1 .left) (c .before .before .before .before .before .before .before .before .run-ready .result) (c .before .before .before .before .before .before .before .before .run-ready .last .1 .1 .1 .1 .0) (c .before .before .before .before .before .before .before .before .run-ready .last .1 .1 .1 .1 .1 .1 .0) (c .before .before .clear2 .last .0) (c .before .before .before .before .before .before .before .before .run-ready .ensures) (c .before .before .before .before .before .before .before .before .run-ready .kept .1 .1 .1 .1 .1 .1 .0) (c .before .before .clear2 .ensures)
+returns-2 c = run-gives _ _ _ _ _ (c .before .before .before .before .before .before .before .before .before .before .before .before .refused-run .ensures) (c .before .before .before .before .before .before .before .before .before .before .before .if1 .left) _ _ (c .before .before .before .before .before .before .before .before .run-ready .last .1 .1 .1 .1 .1 .1 .0) _ (c .before .before .before .before .before .before .before .before .run-ready .ensures) (c .before .before .before .before .before .before .before .before .run-ready .kept .1 .1 .1 .1 .1 .1 .0) (c .before .before .clear2 .ensures)
 
 pub run-spec : {M : Type 1} → statement M
 run-spec =

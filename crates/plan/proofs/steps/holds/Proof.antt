@@ -1,9 +1,7 @@
+-- `holds` reads the formula's value. Assumes nothing.
 use borrow.Author.Needs.{needs}
 use Rattle.plan.proofs.steps.holds.Statement.{statement}
 use Rattle.plan.proofs.steps.holds.Tie as tie
-use Rattle.plan.proofs.steps.holds.Reads as reads
-use Rattle.plan.proofs.steps.holds.Lts as lts
-use Rattle.plan.proofs.formulas.evaluate.Reads as evaluate-reads
 use Rattle.task.proofs.Values.{value-told}
 
 evaluate-requires : tie.Need-evaluate-requires

@@ -1,14 +1,8 @@
+-- `step` gives what `stepped` gives, each way out by a law of Calls. Assumes nothing.
 use borrow.Author.Needs.{needs}
 use Rattle.plan.proofs.steps.step.Statement.{statement}
 use Rattle.plan.proofs.steps.step.Tie as tie
-use Rattle.plan.proofs.steps.step.Reads as reads
-use Rattle.plan.proofs.steps.step.Lts as lts
-use Rattle.plan.proofs.buffers.clear.Reads as clear-reads
-use Rattle.plan.proofs.refusals.refused_early.Reads as refused-early-reads
-use Rattle.plan.proofs.steps.refused.Reads as refused-reads
-use Rattle.plan.proofs.steps.step_ready.Reads as step-ready-reads
 use mathlib.Core.Path.{sym, _∙_}
-use Rattle.task.specs.Table.{lent}
 use Rattle.plan.proofs.Refusing.{ready}
 use Rattle.plan.proofs.Calls.{step-refuses, step-gives}
 
@@ -28,10 +22,10 @@ same-length-2 : tie.Need-same-length-2
 same-length-2 c = search needs
 
 returns : tie.Need-returns
-returns c = step-refuses (lent (c .before .before .before .before .before .before .before .before .before .before .before .before .before .before .before .before .args .head) (c .before .before .before .before .before .before .before .before .before .before .before .before .before .before .before .before .args .initial .now) (c .before .before .before .before .before .before .before .before .before .before .before .before .before .before .before .before .args .twins .now) (c .before .before .before .before .before .before .before .before .before .before .before .before .before .before .before .before .args .formulas .now) (c .before .before .before .before .before .before .before .before .before .before .before .before .before .before .before .before .args .effects .now) (c .before .before .before .before .before .before .before .before .before .before .before .before .before .before .before .before .args .operators .now)) (c .before .before .before .before .before .before .before .before .before .before .before .before .before .before .before .before .args .state .now) (c .before .before .before .before .before .before .before .before .before .before .before .before .before .before .before .before .args .number) (c .before .before .before .before .before .before .before .before .before .before .before .before .before .before .before .before .args .scratch .now) (c .before .before .before .before .before .before .refused-early .result) (c .before .before .before .before .before .before .refused-early .ensures) (c .before .before .before .before .before .if1 .taken) (c .refused .result) (c .before .before .before .clear .last .0) (c .refused .ensures) (c .before .before .before .clear .ensures)
+returns c = step-refuses _ _ _ _ _ (c .before .before .before .before .before .before .refused-early .ensures) (c .before .before .before .before .before .if1 .taken) _ _ (c .refused .ensures) (c .before .before .before .clear .ensures)
 
 step-ready-requires : tie.Need-step-ready-requires
-step-ready-requires c κs = ready (lent (c .before .before .before .before .before .before .before .before .before .before .before .before .before .args .head) (c .before .before .before .before .before .before .before .before .before .before .before .before .before .args .initial .now) (c .before .before .before .before .before .before .before .before .before .before .before .before .before .args .twins .now) (c .before .before .before .before .before .before .before .before .before .before .before .before .before .args .formulas .now) (c .before .before .before .before .before .before .before .before .before .before .before .before .before .args .effects .now) (c .before .before .before .before .before .before .before .before .before .before .before .before .before .args .operators .now)) (c .before .before .before .before .before .before .before .before .before .before .before .before .before .args .state .now) (c .before .before .before .before .before .before .before .before .before .before .before .before .before .args .scratch .now) (sym (c .before .before .before .refused-early .ensures) ∙ c .before .before .if1 .left)
+step-ready-requires c κs = ready _ _ _ (sym (c .before .before .before .refused-early .ensures) ∙ c .before .before .if1 .left)
 
 clear-requires-2 : tie.Need-clear-requires-2
 clear-requires-2 c κs = search needs
@@ -43,7 +37,7 @@ same-length-4 : tie.Need-same-length-4
 same-length-4 c = search needs
 
 returns-2 : tie.Need-returns-2
-returns-2 c = step-gives (lent (c .before .before .before .before .before .before .before .before .before .before .before .before .before .before .before .before .before .before .before .before .before .before .args .head) (c .before .before .before .before .before .before .before .before .before .before .before .before .before .before .before .before .before .before .before .before .before .before .args .initial .now) (c .before .before .before .before .before .before .before .before .before .before .before .before .before .before .before .before .before .before .before .before .before .before .args .twins .now) (c .before .before .before .before .before .before .before .before .before .before .before .before .before .before .before .before .before .before .before .before .before .before .args .formulas .now) (c .before .before .before .before .before .before .before .before .before .before .before .before .before .before .before .before .before .before .before .before .before .before .args .effects .now) (c .before .before .before .before .before .before .before .before .before .before .before .before .before .before .before .before .before .before .before .before .before .before .args .operators .now)) (c .before .before .before .before .before .before .before .before .before .before .before .before .before .before .before .before .before .before .before .before .before .before .args .state .now) (c .before .before .before .before .before .before .before .before .before .before .before .before .before .before .before .before .before .before .before .before .before .before .args .number) (c .before .before .before .before .before .before .before .before .before .before .before .before .before .before .before .before .before .before .before .before .before .before .args .scratch .now) (c .before .before .before .before .before .before .before .before .before .before .before .before .refused-early .result) (c .before .before .before .before .before .before .before .before .before .before .before .before .refused-early .ensures) (c .before .before .before .before .before .before .before .before .before .before .before .if1 .left) (c .before .before .before .before .before .before .before .before .step-ready .result) (c .before .before .before .before .before .before .before .before .step-ready .last .1 .1 .1 .1 .0) (c .before .before .before .before .before .before .before .before .step-ready .last .1 .1 .1 .1 .1 .1 .0) (c .before .before .clear2 .last .0) (c .before .before .before .before .before .before .before .before .step-ready .ensures) (c .before .before .before .before .before .before .before .before .step-ready .kept .1 .1 .1 .1 .1 .1 .0) (c .before .before .clear2 .ensures)
+returns-2 c = step-gives _ _ _ _ _ (c .before .before .before .before .before .before .before .before .before .before .before .before .refused-early .ensures) (c .before .before .before .before .before .before .before .before .before .before .before .if1 .left) _ _ (c .before .before .before .before .before .before .before .before .step-ready .last .1 .1 .1 .1 .1 .1 .0) _ (c .before .before .before .before .before .before .before .before .step-ready .ensures) (c .before .before .before .before .before .before .before .before .step-ready .kept .1 .1 .1 .1 .1 .1 .0) (c .before .before .clear2 .ensures)
 
 pub step-spec : {M : Type 1} → statement M
 step-spec =

@@ -1,13 +1,8 @@
+-- `step_ready` tells the plain run of one number, from the laws of Calls. Assumes nothing.
 use borrow.Author.Needs.{needs}
 use Rattle.plan.proofs.steps.step_ready.Statement.{statement}
 use Rattle.plan.proofs.steps.step_ready.Tie as tie
-use Rattle.plan.proofs.steps.step_ready.Reads as reads
-use Rattle.plan.proofs.steps.step_ready.Lts as lts
-use Rattle.plan.proofs.steps.holds.Reads as holds-reads
-use Rattle.plan.proofs.steps.refused.Reads as refused-reads
-use Rattle.plan.proofs.steps.take.Reads as take-reads
 use mathlib.Core.Path.{_∙_}
-use Rattle.plan.specs.Steps.{running}
 use Rattle.plan.proofs.Taking.{valuable, ready-again}
 use Rattle.plan.proofs.Running.{taken-ready, goal-told}
 use Rattle.plan.proofs.Calls.{step-stopped, step-finished}
@@ -25,7 +20,7 @@ same-length-2 : tie.Need-same-length-2
 same-length-2 c = search needs
 
 returns : tie.Need-returns
-returns c = step-stopped (running (c .before .before .before .before .before .before .before .before .before .before .before .before .before .before .before .args .head) (c .before .before .before .before .before .before .before .before .before .before .before .before .before .before .before .args .formulas .now) (c .before .before .before .before .before .before .before .before .before .before .before .before .before .before .before .args .effects .now) (c .before .before .before .before .before .before .before .before .before .before .before .before .before .before .before .args .operators .now)) (c .before .before .before .before .before .before .before .before .before .before .before .before .before .before .before .args .state .now) (c .before .before .before .before .before .before .before .before .before .before .before .before .before .before .before .args .number) (c .before .before .before .before .before .before .before .take .result) (c .before .before .before .before .before .before .before .take .last .1 .1 .1 .1 .0) (c .before .before .before .before .before .before .before .take .ensures) (c .before .if1 .taken) (c .refused .result) (c .refused .ensures)
+returns c = step-stopped (c .before .before .before .before .before .before .before .take .ensures) (c .before .if1 .taken) (c .refused .ensures)
 
 cast-count : tie.Need-cast-count
 cast-count c = search needs
@@ -34,7 +29,7 @@ cast-goal : tie.Need-cast-goal
 cast-goal c = search needs
 
 holds-requires : tie.Need-holds-requires
-holds-requires c κs = (valuable (c .before .before .before .before .before .before .before .before .before .before .before .before .before .before .before .before .before .before .args .head) (c .before .before .before .before .before .before .before .before .before .before .before .before .before .before .before .before .before .before .args .formulas .now) (c .before .before .before .before .before .before .before .before .before .before .before .before .before .before .before .before .before .before .args .effects .now) (c .before .before .before .before .before .before .before .before .before .before .before .before .before .before .before .before .before .before .args .operators .now) (c .before .before .before .before .before .before .before .before .before .before .take .last .1 .1 .1 .1 .0) (c .before .before .before .before .before .before .before .before .before .before .take .last .1 .1 .1 .1 .1 .1 .0) (ready-again (c .before .before .before .before .before .before .before .before .before .before .before .before .before .before .before .before .before .before .args .head) (c .before .before .before .before .before .before .before .before .before .before .before .before .before .before .before .before .before .before .args .formulas .now) (c .before .before .before .before .before .before .before .before .before .before .before .before .before .before .before .before .before .before .args .effects .now) (c .before .before .before .before .before .before .before .before .before .before .before .before .before .before .before .before .before .before .args .operators .now) (c .before .before .before .before .before .before .before .before .before .before .before .before .before .before .before .before .before .before .args .state .now) (c .before .before .before .before .before .before .before .before .before .before .before .before .before .before .before .before .before .before .args .scratch .now) (c .before .before .before .before .before .before .before .before .before .before .take .last .1 .1 .1 .1 .0) (c .before .before .before .before .before .before .before .before .before .before .take .last .1 .1 .1 .1 .1 .1 .0) (c .before .before .before .before .before .before .before .before .before .before .before .before .before .before .before .before .before .before .pre) (taken-ready (c .before .before .before .before .before .before .before .before .before .before .before .before .before .before .before .before .before .before .args .head) (running (c .before .before .before .before .before .before .before .before .before .before .before .before .before .before .before .before .before .before .args .head) (c .before .before .before .before .before .before .before .before .before .before .before .before .before .before .before .before .before .before .args .formulas .now) (c .before .before .before .before .before .before .before .before .before .before .before .before .before .before .before .before .before .before .args .effects .now) (c .before .before .before .before .before .before .before .before .before .before .before .before .before .before .before .before .before .before .args .operators .now)) (c .before .before .before .before .before .before .before .before .before .before .before .before .before .before .before .before .before .before .args .state .now) (c .before .before .before .before .before .before .before .before .before .before .before .before .before .before .before .before .before .before .args .number) (c .before .before .before .before .before .before .before .before .before .before .take .result) (c .before .before .before .before .before .before .before .before .before .before .take .last .1 .1 .1 .1 .0) (c .before .before .before .before .before .before .before .before .before .before .take .ensures) (c .before .before .before .before .before .before .before .before .before .before .before .before .before .before .before .before .before .before .pre .state)) (c .before .before .before .before .before .before .before .before .before .before .take .kept .1 .1 .1 .1 .1 .1 .0)), c .before .before .before .before .before .before .before .before .before .before .before .before .before .before .before .before .before .before .pre .tables .goal)
+holds-requires c κs = (valuable (ready-again (c .before .before .before .before .before .before .before .before .before .before .before .before .before .before .before .before .before .before .pre) (taken-ready (c .before .before .before .before .before .before .before .before .before .before .take .ensures) (c .before .before .before .before .before .before .before .before .before .before .before .before .before .before .before .before .before .before .pre .state)) (c .before .before .before .before .before .before .before .before .before .before .take .kept .1 .1 .1 .1 .1 .1 .0)), c .before .before .before .before .before .before .before .before .before .before .before .before .before .before .before .before .before .before .pre .tables .goal)
 
 same-length-3 : tie.Need-same-length-3
 same-length-3 c = search needs
@@ -43,7 +38,7 @@ same-length-4 : tie.Need-same-length-4
 same-length-4 c = search needs
 
 returns-2 : tie.Need-returns-2
-returns-2 c = step-finished (running (c .before .before .before .before .before .before .before .before .before .before .before .before .before .before .before .before .before .before .before .before .before .args .head) (c .before .before .before .before .before .before .before .before .before .before .before .before .before .before .before .before .before .before .before .before .before .args .formulas .now) (c .before .before .before .before .before .before .before .before .before .before .before .before .before .before .before .before .before .before .before .before .before .args .effects .now) (c .before .before .before .before .before .before .before .before .before .before .before .before .before .before .before .before .before .before .before .before .before .args .operators .now)) (c .before .before .before .before .before .before .before .before .before .before .before .before .before .before .before .before .before .before .before .before .before .args .state .now) (c .before .before .before .before .before .before .before .before .before .before .before .before .before .before .before .before .before .before .before .before .before .args .number) (c .before .before .before .before .before .before .before .before .before .before .before .before .before .take .result) (c .before .before .before .before .before .before .before .before .before .before .before .before .before .take .last .1 .1 .1 .1 .0) (c .before .before .before .before .before .before .before .before .before .before .before .before .before .take .ensures) (c .before .before .before .before .before .before .before .if1 .left) (c .before .before .holds .result) (c .before .before .holds .ensures ∙ goal-told (c .before .before .before .before .before .before .before .before .before .before .before .before .before .before .before .before .before .before .before .before .before .args .head) (c .before .before .before .before .before .before .before .before .before .before .before .before .before .before .before .before .before .before .before .before .before .args .formulas .now) (c .before .before .before .before .before .before .before .before .before .before .before .before .before .before .before .before .before .before .before .before .before .args .effects .now) (c .before .before .before .before .before .before .before .before .before .before .before .before .before .before .before .before .before .before .before .before .before .args .operators .now) (c .before .before .before .before .before .before .before .before .before .before .before .before .before .take .last .1 .1 .1 .1 .0))
+returns-2 c = step-finished (c .before .before .before .before .before .before .before .before .before .before .before .before .before .take .ensures) (c .before .before .before .before .before .before .before .if1 .left) (c .before .before .holds .ensures ∙ goal-told _ _ _ _ _)
 
 pub step-ready-spec : {M : Type 1} → statement M
 step-ready-spec =

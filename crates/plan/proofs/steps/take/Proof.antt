@@ -1,17 +1,14 @@
+-- `take` gives what `took` gives, each way out by a law of Taking. Assumes nothing.
 use borrow.Author.Needs.{needs}
 use Rattle.plan.proofs.steps.take.Statement.{statement}
 use Rattle.plan.proofs.steps.take.Tie as tie
-use Rattle.plan.proofs.steps.take.Reads as reads
-use Rattle.plan.proofs.steps.take.Lts as lts
-use Rattle.plan.proofs.effects.carry_out.Reads as carry-out-reads
-use Rattle.plan.proofs.formulas.evaluate.Reads as evaluate-reads
 use Prim.Native.Nat.{_+_, _*_}
 use native.Mathlib.Omega.{arith}
 use Rattle.task.specs.Table.{operator-at}
 use Rattle.plan.proofs.Taking.{valuable, not-there, precondition-below, markable, not-applicable, carried-out}
 
 returns : tie.Need-returns
-returns c = not-there (c .before .before .before .before .before .before .before .args .head) (c .before .before .before .before .before .before .before .args .formulas .now) (c .before .before .before .before .before .before .before .args .effects .now) (c .before .before .before .before .before .before .before .args .operators .now) (c .before .before .before .before .before .before .before .args .state .now) (c .before .before .before .before .before .before .before .args .scratch .now) (c .before .before .before .before .before .before .before .pre) (c .before .before .before .before .before .before .before .args .number) (c .if1 .taken)
+returns c = not-there (c .before .before .before .before .before .before .before .pre) (c .if1 .taken)
 
 mul-row : tie.Need-mul-row
 mul-row c = search needs
@@ -41,11 +38,11 @@ cast-count : tie.Need-cast-count
 cast-count c = search needs
 
 evaluate-requires : tie.Need-evaluate-requires
-evaluate-requires c κs = valuable (c .before .before .before .before .before .before .before .before .before .before .before .before .args .head) (c .before .before .before .before .before .before .before .before .before .before .before .before .args .formulas .now) (c .before .before .before .before .before .before .before .before .before .before .before .before .args .effects .now) (c .before .before .before .before .before .before .before .before .before .before .before .before .args .operators .now) (c .before .before .before .before .before .before .before .before .before .before .before .before .args .state .now) (c .before .before .before .before .before .before .before .before .before .before .before .before .args .scratch .now) (c .before .before .before .before .before .before .before .before .before .before .before .before .pre)
+evaluate-requires c κs = valuable (c .before .before .before .before .before .before .before .before .before .before .before .before .pre)
 
 slice-read-if2 : tie.Need-slice-read-if2
 unfolding operator-at
-slice-read-if2 c = omega (arith, precondition-below (c .before .before .before .before .before .before .before .before .before .before .before .before .before .before .before .before .args .head) (c .before .before .before .before .before .before .before .before .before .before .before .before .before .before .before .before .args .formulas .now) (c .before .before .before .before .before .before .before .before .before .before .before .before .before .before .before .before .args .effects .now) (c .before .before .before .before .before .before .before .before .before .before .before .before .before .before .before .before .args .operators .now) (c .before .before .before .before .before .before .before .before .before .before .before .before .before .before .before .before .args .state .now) (c .before .before .before .before .before .before .before .before .before .before .before .before .before .before .before .before .args .scratch .now) (c .before .before .before .before .before .before .before .before .before .before .before .before .before .before .before .before .pre) (c .before .before .before .before .before .before .before .before .before .before .before .before .before .before .before .before .args .number) (c .before .before .before .before .before .before .before .before .before .if1 .left), c .before .before .before .before .before .before .before .before .before .before .before .before .before .before .before .before .pre .room, c .before .before .before .evaluate .kept .1 .1 .1 .0)
+slice-read-if2 c = omega (arith, precondition-below (c .before .before .before .before .before .before .before .before .before .before .before .before .before .before .before .before .pre) (c .before .before .before .before .before .before .before .before .before .if1 .left), c .before .before .before .before .before .before .before .before .before .before .before .before .before .before .before .before .pre .room, c .before .before .before .evaluate .kept .1 .1 .1 .0)
 
 same-length : tie.Need-same-length
 same-length c = search needs
@@ -55,11 +52,11 @@ same-length-2 c = search needs
 
 returns-2 : tie.Need-returns-2
 unfolding operator-at
-returns-2 c = not-applicable (c .before .before .before .before .before .before .before .before .before .before .before .before .before .before .before .before .before .args .head) (c .before .before .before .before .before .before .before .before .before .before .before .before .before .before .before .before .before .args .formulas .now) (c .before .before .before .before .before .before .before .before .before .before .before .before .before .before .before .before .before .args .effects .now) (c .before .before .before .before .before .before .before .before .before .before .before .before .before .before .before .before .before .args .operators .now) (c .before .before .before .before .before .before .before .before .before .before .before .before .before .before .before .before .before .args .state .now) (c .before .before .before .before .before .before .before .before .before .before .before .before .before .before .before .before .before .args .scratch .now) (c .before .before .before .before .before .before .before .before .before .before .before .before .before .before .before .before .before .pre) (c .before .before .before .before .before .before .before .before .before .before .before .before .before .before .before .before .before .args .number) (c .before .before .before .before .before .before .before .before .before .before .if1 .left) (c .before .before .before .before .evaluate .last .1 .1 .1 .0) (c .before .before .before .before .evaluate .ensures) (c .if2 .taken)
+returns-2 c = not-applicable (c .before .before .before .before .before .before .before .before .before .before .before .before .before .before .before .before .before .pre) (c .before .before .before .before .before .before .before .before .before .before .if1 .left) (c .before .before .before .before .evaluate .last .1 .1 .1 .0) (c .before .before .before .before .evaluate .ensures) (c .if2 .taken)
 
 carry-out-requires : tie.Need-carry-out-requires
 unfolding operator-at
-carry-out-requires c κs = markable (c .before .before .before .before .before .before .before .before .before .before .before .before .before .before .before .before .before .before .before .args .head) (c .before .before .before .before .before .before .before .before .before .before .before .before .before .before .before .before .before .before .before .args .formulas .now) (c .before .before .before .before .before .before .before .before .before .before .before .before .before .before .before .before .before .before .before .args .effects .now) (c .before .before .before .before .before .before .before .before .before .before .before .before .before .before .before .before .before .before .before .args .operators .now) (c .before .before .before .before .before .before .before .before .before .before .before .before .before .before .before .before .before .before .before .args .state .now) (c .before .before .before .before .before .before .before .before .before .before .before .before .before .before .before .before .before .before .before .args .scratch .now) (c .before .before .before .before .before .before .before .before .before .before .before .before .before .before .before .before .before .before .before .pre) (c .before .before .before .before .before .before .before .before .before .before .before .before .before .before .before .before .before .before .before .args .number) (c .before .before .before .before .before .before .before .before .before .before .before .before .if1 .left) (c .before .before .before .before .before .before .evaluate .last .1 .1 .1 .0) (c .before .before .before .before .before .before .evaluate .kept .1 .1 .1 .0)
+carry-out-requires c κs = markable (c .before .before .before .before .before .before .before .before .before .before .before .before .before .before .before .before .before .before .before .pre) (c .before .before .before .before .before .before .before .before .before .before .before .before .if1 .left) (c .before .before .before .before .before .before .evaluate .last .1 .1 .1 .0) (c .before .before .before .before .before .before .evaluate .kept .1 .1 .1 .0)
 
 add-t13 : tie.Need-add-t13
 add-t13 c = search needs
@@ -81,7 +78,7 @@ same-length-4 c = search needs
 
 returns-3 : tie.Need-returns-3
 unfolding operator-at
-returns-3 c = carried-out (c .before .before .before .before .before .before .before .before .before .before .before .before .before .before .before .before .before .before .before .before .before .before .before .before .before .args .head) (c .before .before .before .before .before .before .before .before .before .before .before .before .before .before .before .before .before .before .before .before .before .before .before .before .before .args .formulas .now) (c .before .before .before .before .before .before .before .before .before .before .before .before .before .before .before .before .before .before .before .before .before .before .before .before .before .args .effects .now) (c .before .before .before .before .before .before .before .before .before .before .before .before .before .before .before .before .before .before .before .before .before .before .before .before .before .args .operators .now) (c .before .before .before .before .before .before .before .before .before .before .before .before .before .before .before .before .before .before .before .before .before .before .before .before .before .args .state .now) (c .before .before .before .before .before .before .before .before .before .before .before .before .before .before .before .before .before .before .before .before .before .before .before .before .before .args .scratch .now) (c .before .before .before .before .before .before .before .before .before .before .before .before .before .before .before .before .before .before .before .before .before .before .before .before .before .pre) (c .before .before .before .before .before .before .before .before .before .before .before .before .before .before .before .before .before .before .before .before .before .before .before .before .before .args .number) (c .before .before .before .before .before .before .before .before .before .before .before .before .before .before .before .before .before .before .if1 .left) (c .before .before .before .before .before .before .before .before .before .before .before .before .evaluate .last .1 .1 .1 .0) (c .before .before .before .before .before .carry-out .last .1 .1 .1 .0) (c .before .before .before .before .before .carry-out .last .1 .1 .0) (c .before .before .before .before .before .before .before .before .before .before .before .before .evaluate .ensures) (c .before .before .before .before .before .before .before .before .if2 .left) (c .before .before .before .before .before .before .before .before .before .before .before .before .evaluate .kept .1 .1 .1 .0) (c .before .before .before .before .before .carry-out .ensures) (omega (arith, c .shared-slice-known6 .given (3 * c .before .before .before .before .before .before .before .before .before .before .before .before .before .before .before .before .before .before .before .before .before .before .before .before .before .args .number + 2)))
+returns-3 c = carried-out (c .before .before .before .before .before .before .before .before .before .before .before .before .before .before .before .before .before .before .before .before .before .before .before .before .before .pre) (c .before .before .before .before .before .before .before .before .before .before .before .before .before .before .before .before .before .before .if1 .left) (c .before .before .before .before .before .before .before .before .before .before .before .before .evaluate .last .1 .1 .1 .0) (c .before .before .before .before .before .carry-out .last .1 .1 .1 .0) (c .before .before .before .before .before .carry-out .last .1 .1 .0) (c .before .before .before .before .before .before .before .before .before .before .before .before .evaluate .ensures) (c .before .before .before .before .before .before .before .before .if2 .left) (c .before .before .before .before .before .before .before .before .before .before .before .before .evaluate .kept .1 .1 .1 .0) (c .before .before .before .before .before .carry-out .ensures) (omega (arith, c .shared-slice-known6 .given (3 * c .before .before .before .before .before .before .before .before .before .before .before .before .before .before .before .before .before .before .before .before .before .before .before .before .before .args .number + 2)))
 
 pub take-spec : {M : Type 1} → statement M
 take-spec =
