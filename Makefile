@@ -3,10 +3,11 @@
 # make lib                 prove the C entries and build build/lib/libpnf.a
 # make install PREFIX=..   put library, header and pkg-config file below PREFIX (and DESTDIR)
 # make uninstall PREFIX=.. take them away again
+# make bench               the library's times beside those of the other implementation: one table of ratios
 # make fuzz                fuzz the C entries for some minutes (needs clang)
 # make clean               remove all that was built
 
-.PHONY: run test lib install uninstall fuzz clean
+.PHONY: run test bench lib install uninstall fuzz clean
 
 PREFIX ?= /usr/local
 # pkg-config wants a whole path
@@ -38,6 +39,9 @@ uninstall:
 
 fuzz:
 	@bash tests/fuzz/run
+
+bench:
+	@bash scripts/bench
 
 clean:
 	rm -rf target build

@@ -240,7 +240,7 @@ pub fn sequence(random: &mut Random, operator_count: u16) -> Vec<u16> {
     let operators = usize::from(operator_count);
     (0..length)
         .map(|_| match random.below(20) {
-            0 => random.pick(&[operator_count, operator_count + 1, 65_535]),
+            0 => random.pick(&[operator_count, operator_count.saturating_add(1), 65_535]),
             _ => random.below(operators.max(1)) as u16,
         })
         .collect()

@@ -105,6 +105,16 @@ fn run_one(test: &Test, seed: u64) -> bool {
     }
 }
 
+/// Fails with both values unless they are equal.
+pub fn same<T: PartialEq + std::fmt::Debug>(what: &str, found: T, expected: T) -> Verdict {
+    if found == expected {
+        return Ok(());
+    }
+    Err(format!(
+        "  {what}\n  found {found:?}\n  expected {expected:?}"
+    ))
+}
+
 /// A task in words, for a failing case.
 pub fn dump_task(task: &Task) -> String {
     let [v, w, f, e, o, goal] = task.head.words();

@@ -2,11 +2,13 @@
 //! sharing no code with the library that it is compared with.
 
 pub mod atoms;
+pub mod best;
 pub mod builder;
 pub mod by_hand;
 pub mod check;
 pub mod compile;
 pub mod damage;
+pub mod deep;
 pub mod draft;
 pub mod entries;
 #[cfg(feature = "entries")]
@@ -17,9 +19,11 @@ pub mod examples;
 pub mod file;
 pub mod generate;
 pub mod harness;
+pub mod lent;
 pub mod print;
 pub mod random;
 pub mod semantics;
 pub mod shrink;
 pub mod stored;
+pub mod stack;
 pub mod task;

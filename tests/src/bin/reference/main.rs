@@ -2,12 +2,13 @@
 //!
 //! Arguments: `[--seed N] [GROUP ...]`.
 
+mod best;
 mod compiling;
 mod examples;
 mod files;
 mod runs;
 
-use saqwillo_tests::harness::{self, Verdict};
+use saqwillo_tests::harness::{self, same};
 
 fn main() {
     let mut tests = Vec::new();
@@ -15,15 +16,6 @@ fn main() {
     tests.extend(files::tests());
     tests.extend(runs::tests());
     tests.extend(compiling::tests());
+    tests.extend(best::tests());
     std::process::exit(harness::run(&tests));
-}
-
-/// Fails with both values unless they are equal.
-fn same<T: PartialEq + std::fmt::Debug>(what: &str, found: T, expected: T) -> Verdict {
-    if found == expected {
-        return Ok(());
-    }
-    Err(format!(
-        "  {what}\n  found {found:?}\n  expected {expected:?}"
-    ))
 }

@@ -2,7 +2,7 @@
 //! check gives its tables as they are and with one word changed.
 
 #[allow(dead_code)]
-#[path = "../differential/calls.rs"]
+#[path = "../differential/calls/mod.rs"]
 mod calls;
 
 use saqwillo_tests::{examples, print};

@@ -1,8 +1,8 @@
 use mathlib.Core.Path.{ap}
 use lib.ListN.{length}
 use borrow.Author.Needs.{needs}
-use Rattle.test_calls.proofs.test_row_length.Statement.{statement}
-use Rattle.test_calls.proofs.test_row_length.Tie as tie
+use Rattle.test_calls.proofs.tables.test_row_length.Statement.{statement}
+use Rattle.test_calls.proofs.tables.test_row_length.Tie as tie
 
 row-requires : tie.Need-row-requires
 row-requires c κs = search needs

@@ -3,8 +3,8 @@ use mathlib.Core.Path.{ap, sym, _∙_}
 use mathlib.Core.List.{List}
 use lib.ListN.{getD, List·getD-eq-default}
 use borrow.Author.Needs.{needs}
-use Rattle.test_calls.proofs.test_row_word.Statement.{statement}
-use Rattle.test_calls.proofs.test_row_word.Tie as tie
+use Rattle.test_calls.proofs.tables.test_row_word.Statement.{statement}
+use Rattle.test_calls.proofs.tables.test_row_word.Tie as tie
 
 row-requires : tie.Need-row-requires
 row-requires c κs = search needs

@@ -1,0 +1,58 @@
+use native.Mathlib.Omega.{arith}
+use lib.ListN.{length-set}
+use Rattle.test_calls.proofs.Told.{told-left, told-stored}
+use borrow.Author.Needs.{needs}
+use Rattle.test_calls.proofs.buffers.tell_six.Statement.{statement}
+use Rattle.test_calls.proofs.buffers.tell_six.Tie as tie
+use Rattle.test_calls.proofs.buffers.tell_six.Reads as reads
+use Rattle.test_calls.proofs.buffers.tell_six.Lts as lts
+
+-- src/buffers.rt:37:9
+returns : tie.Need-returns
+returns c = told-left _ _ (c .if1 .taken)
+
+-- src/buffers.rt:39:5
+slice-write-buffer : tie.Need-slice-write-buffer
+slice-write-buffer c = search needs
+
+-- src/buffers.rt:40:5
+slice-write-buffer-2 : tie.Need-slice-write-buffer-2
+slice-write-buffer-2 c = simp length-set (omega arith)
+
+-- src/buffers.rt:41:5
+slice-write-buffer-3 : tie.Need-slice-write-buffer-3
+slice-write-buffer-3 c = simp length-set (omega arith)
+
+-- src/buffers.rt:42:5
+slice-write-buffer-4 : tie.Need-slice-write-buffer-4
+slice-write-buffer-4 c = simp length-set (omega arith)
+
+-- src/buffers.rt:43:5
+slice-write-buffer-5 : tie.Need-slice-write-buffer-5
+slice-write-buffer-5 c = simp length-set (omega arith)
+
+-- src/buffers.rt:44:5
+slice-write-buffer-6 : tie.Need-slice-write-buffer-6
+slice-write-buffer-6 c = simp length-set (omega arith)
+
+-- src/buffers.rt:25:1
+same-length : tie.Need-same-length
+same-length c = search needs
+
+-- src/buffers.rt:25:1
+returns-2 : tie.Need-returns-2
+returns-2 c = told-stored _ _ (omega arith)
+
+pub tell-six-spec : {M : Type 1} → statement M
+tell-six-spec =
+    tie.close
+    (tie.spec
+    returns
+    slice-write-buffer
+    slice-write-buffer-2
+    slice-write-buffer-3
+    slice-write-buffer-4
+    slice-write-buffer-5
+    slice-write-buffer-6
+    same-length
+    returns-2)

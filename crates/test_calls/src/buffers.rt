@@ -1,0 +1,60 @@
+// Words that an exported call tells through a lent buffer.
+ghost use mathlib.Core.Path.{_≡_};
+ghost use mathlib.Core.List.{[], _∷_};
+ghost use Rattle.test_calls.specs.Buffers.{told, flag, head-words};
+
+pub fn flag(b: bool) -> u64
+    ensures { λ r. ⌜ r ≡ flag b ⌝ }
+{
+    if b { 1 } else { 0 }
+}
+
+// Three words, if the buffer has just three.
+pub fn tell_three(buffer: &mut [u64], first: u64, second: u64, third: u64)
+    ensures { λ _. ⌜ now (buffer .exit) ≡ told (first ∷ second ∷ third ∷ []) (now (buffer .entry)) ⌝ }
+{
+    if buffer.len() != 3 {
+        return;
+    }
+    buffer[0] = first;
+    buffer[1] = second;
+    buffer[2] = third;
+}
+
+// Six words, if the buffer has just six.
+pub fn tell_six(
+    buffer: &mut [u64],
+    first: u64,
+    second: u64,
+    third: u64,
+    fourth: u64,
+    fifth: u64,
+    sixth: u64,
+)
+    ensures { λ _. ⌜ now (buffer .exit) ≡ told (first ∷ second ∷ third ∷ fourth ∷ fifth ∷ sixth ∷ []) (now (buffer .entry)) ⌝ }
+{
+    if buffer.len() != 6 {
+        return;
+    }
+    buffer[0] = first;
+    buffer[1] = second;
+    buffer[2] = third;
+    buffer[3] = fourth;
+    buffer[4] = fifth;
+    buffer[5] = sixth;
+}
+
+// A head's six words, V W F E O goal, if the buffer has just six.
+pub fn tell_head(buffer: &mut [u16], head: task::Head)
+    ensures { λ _. ⌜ now (buffer .exit) ≡ told (head-words head) (now (buffer .entry)) ⌝ }
+{
+    if buffer.len() != 6 {
+        return;
+    }
+    buffer[0] = head.variables;
+    buffer[1] = head.twins;
+    buffer[2] = head.formulas;
+    buffer[3] = head.effects;
+    buffer[4] = head.operators;
+    buffer[5] = head.goal;
+}
