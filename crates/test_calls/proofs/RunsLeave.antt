@@ -42,8 +42,8 @@ pub run-leaves :
 unfolding run-words
 run-leaves {w} {out} {s} {t} {before} {after} {steps} {goal} {number} {step} {ended} {r} g p q n k d e h =
     let same : (steps ∷ out .cost ∷ goal ∷ number ∷ step ∷ ended ∷ []) ≡ run-words out =
-          λ i. p i ∷ out .cost ∷ q i ∷ n i ∷ k i ∷ d i ∷ []
-        in
+    λ i. p i ∷ out .cost ∷ q i ∷ n i ∷ k i ∷ d i ∷ []
+    in
     record {
       number = h ∙ ap (λ (a : RunOutcome). refusal-of (a .end)) (g .answer);
       state-left = g .state;

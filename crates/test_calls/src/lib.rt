@@ -1,4 +1,5 @@
 // The table-level calls, exported for the tests against the other implementation. The product does not link this crate.
 mod buffers;
+mod reading;
 mod running;
 mod tables;

@@ -88,7 +88,6 @@ pub extern "C" fn test_write(
         operators: o,
         goal,
     };
-    let answer =
-        task_writer::write::write(head, initial, twins, formulas, effects, operators, out);
+    let answer = task_writer::write::write(head, initial, twins, formulas, effects, operators, out);
     write_number(answer)
 }

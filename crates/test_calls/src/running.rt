@@ -87,7 +87,15 @@ pub extern "C" fn test_step(
         goal,
     };
     let outcome = plan::step(
-        head, initial, twins, formulas, effects, operators, state, number, scratch,
+        head,
+        initial,
+        twins,
+        formulas,
+        effects,
+        operators,
+        state,
+        number,
+        scratch,
     );
     crate::buffers::tell_three(
         result,
@@ -128,7 +136,15 @@ pub extern "C" fn test_run(
         goal,
     };
     let outcome = plan::run(
-        head, initial, twins, formulas, effects, operators, state, sequence, scratch,
+        head,
+        initial,
+        twins,
+        formulas,
+        effects,
+        operators,
+        state,
+        sequence,
+        scratch,
     );
     let end = outcome.end;
     crate::buffers::tell_six(
