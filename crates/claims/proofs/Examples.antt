@@ -18,6 +18,8 @@ use Rattle.normal_form.specs.Compiled.{scratch-kept, has-room, fits, compile-re
 use Rattle.file_format.specs.Parse.{next, kept as kept-value, byte-read, word-read, field-read, fields-read, mapped-read, table-read}
 use Rattle.file_format.specs.Bytes.{bytes-for}
 use Rattle.file_format.specs.Reading.{room, head-read, head-kept, bit-of, spare-clear, initial-read, twin-read, row-read, formula-read, effect-read, operator-fields-read, operator-read, tables-read, task-read, at-end, reading}
+use Rattle.printing.specs.Lines.{digits-within, decimal, word, line, numbered, values, initial-line, head-line, twin-lines, lines, refusal-line}
+use Rattle.printing.proofs.Examples.{bytes}
 use Rattle.plan.specs.Outcome.{state-kept, scratch-kept as run-scratch-kept, sequence-kept, early-refusal, run-refusal, run-refused, end-of, run-answer, run-told, run-by, ran}
 use Rattle.claims.specs.Examples.{outcome, Example, table}
 
@@ -34,5 +36,6 @@ unfolding
     scratch-kept has-room fits compile-refusal padded nothing-given task-given outcome-by compiling
     next kept-value byte-read word-read field-read fields-read mapped-read table-read bytes-for room head-read head-kept bit-of spare-clear initial-read
     twin-read row-read formula-read effect-read operator-fields-read operator-read tables-read task-read at-end reading
+    digits-within decimal word line numbered values initial-line head-line twin-lines lines refusal-line bytes
     state-kept run-scratch-kept sequence-kept early-refusal run-refusal run-refused end-of run-answer run-told run-by ran
 table-holds = refl

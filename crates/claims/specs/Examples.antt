@@ -8,38 +8,43 @@ use Rattle.task.specs.Table.{Row, Operator, Lent, Task, task-of}
 use Rattle.task.specs.Check.{refusal}
 use Rattle.task.specs.Words.{lent-of}
 use Rattle.file_format.specs.Reading.{Lengths, Outcome as Read, accepted, rejected, reading}
+use Rattle.printing.specs.Lines.{lines, refusal-line}
+use Rattle.printing.proofs.Examples.{bytes}
 use Rattle.plan.specs.declared.outcome.RunOutcome.{RunOutcome}
 use Rattle.plan.specs.declared.outcome.End.the-variants.{Ended}
 use Rattle.plan.specs.Outcome.{ran}
 use Rattle.normal_form.specs.Compiled.{Room, Answer, compiled-head, refused, Outcome, compiling, given}
 
--- What is asked: the check of tables; a run on tables, from a state; the compiling of tables, and of a file, into what is lent.
+-- What is asked: the check of tables; a run on tables, from a state; the compiling of tables into what is lent; the compiling
+-- program, given a file.
 pub data Asked : Type 0 where
   check : Lent → Asked
   run : Lent → (state numbers scratch : List ℕ) → Asked
   compile : Lent → Room → Asked
-  compile-file : (file : List ℕ) → Lengths → Room → Asked
+  program : (file : List ℕ) → Lengths → Room → Asked
 
--- What is told: a number; the outcome of a run and the state that it left; the compiled task.
+-- What is told: a number; the outcome of a run and the state that it left; the compiled task; a text.
 pub data Told : Type 0 where
   number : ℕ → Told
   answers : RunOutcome → (state : List ℕ) → Told
   compiled : Task → Told
+  printed : List ℕ → Told
 
 -- what a compiling told: the task in the tables that it gave, or its number
 abbrev pub gave : Answer → Outcome → Told
 gave (compiled-head h) o = compiled (task-of (given h o))
 gave (refused n) o = number n
 
-abbrev pub compile-told : Lent → Room → Told
-compile-told l room =
-    let o = compiling l room in
-    gave (o .answer) o
+-- what the program prints: of the file of a task that compiles, the compiled task's lines, else the line of the refusal
+abbrev pub compiled-lines : Answer → Outcome → List ℕ
+compiled-lines (compiled-head h) o = lines (task-of (given h o))
+compiled-lines (refused n) o = refusal-line n
 
--- what is told of a file: of the task that was read from it, or the number of its refusal
-abbrev pub file-told : Read → Room → Told
-file-told (accepted t) room = compile-told (lent-of t) room
-file-told (rejected n) room = number n
+abbrev pub file-lines : Read → Room → List ℕ
+file-lines (accepted t) room =
+    let o = compiling (lent-of t) room in
+    compiled-lines (o .answer) o
+file-lines (rejected n) room = refusal-line n
 
 -- by the definitions that the calls are held to
 unfoldable pub outcome : Asked → Told
@@ -47,8 +52,10 @@ outcome (check l) = number (refusal l)
 outcome (run l s numbers scratch) =
     let r = ran l s numbers scratch in
     answers (r .answer) (r .state)
-outcome (compile l room) = compile-told l room
-outcome (compile-file file lengths room) = file-told (reading lengths file) room
+outcome (compile l room) =
+    let o = compiling l room in
+    gave (o .answer) o
+outcome (program file lengths room) = printed (file-lines (reading lengths file) room)
 
 pub record Example : Type 0 where
   pub asked : Asked
@@ -124,7 +131,7 @@ whole-file =
     -- the operator
     ∷ 0x07 ∷ 0x02 ∷ 0x00 ∷ 0x03 ∷ 0x00 ∷ 0x03 ∷ 0x00 ∷ []
 
--- what 01 prints for it
+-- its compiled task, with the rows that 01 prints
 abbrev pub whole-compiled : Task
 whole-compiled =
     record {
@@ -260,7 +267,13 @@ table =
             goal = 1;
           });
     }
-    -- the whole example, of its tables and of its file
+    -- the whole example: its tables compiled, and what the program prints, given its file
     ∷ record { asked = compile whole room; told = compiled whole-compiled }
-    ∷ record { asked = compile-file whole-file lengths room; told = compiled whole-compiled }
+    ∷ record {
+      asked = program whole-file lengths room;
+      told =
+          printed
+          (bytes
+          "t 4 2 7 12 1 6\ni 0110\nw 2 0\nw 3 1\nf 0 0 0 0\nf 1 1 0 0\nf 2 2 2 0\nf 3 2 1 0\nf 4 2 0 0\nf 5 2 3 0\nf 6 4 4 5\ne 0 0 0 0\ne 1 1 0 0\ne 2 4 1 1\ne 3 2 2 0\ne 4 4 1 3\ne 5 3 2 4\ne 6 2 1 0\ne 7 4 3 6\ne 8 3 5 7\ne 9 1 3 0\ne 10 4 3 9\ne 11 3 8 10\no 0 2 11 3\n");
+    }
     ∷ []
