@@ -1,0 +1,59 @@
+// Reading a task file into the layout of its tables.
+ghost use mathlib.Core.Path.{_≡_};
+ghost use lib.ListN.{length};
+ghost use Rattle.entries.specs.Entries.{read-entry};
+ghost use Rattle.entries.specs.Giving.{Own, ReadGives, refused-number};
+use task_file::ReadAnswer;
+use task_file::clear::clear_bytes;
+
+// A refusal's number. Constant time.
+pub fn refused(r: ReadAnswer) -> u32
+    ensures { λ n. ⌜ n ≡ refused-number r ⌝ }
+{
+    match r {
+        ReadAnswer::Refused(n) => n as u32,
+        ReadAnswer::Read(_) => 0,
+    }
+}
+
+// Through tables that are lent. One pass over the file and one over its tables.
+fn read_through(
+    file: &[u8],
+    initial: &mut [u8],
+    twins: &mut [u16],
+    formulas: &mut [u16],
+    effects: &mut [u16],
+    operators: &mut [u16],
+    tables: &mut [u8],
+) -> u32
+    requires { ⌜ Own (now initial) (now twins) (now formulas) (now effects) (now operators) ⌝ }
+    ensures { λ r. ⌜ ReadGives (read-entry (now (file .entry)) (length (now (tables .entry)))) r (now (tables .exit)) ⌝ }
+{
+    let r = task_file::read::read(file, initial, twins, formulas, effects, operators);
+    let ReadAnswer::Read(head) = r else {
+        clear_bytes(tables);
+        return refused(r);
+    };
+    crate::laying::lay(head, initial, twins, formulas, effects, operators, tables)
+}
+
+// Reads a task file: 0 and its tables, or the number and all 0. One pass over the file and one over its tables.
+#[no_mangle]
+pub extern "C" fn pnf_read(file: &[u8], tables: &mut [u8]) -> u32
+    ensures { λ r. ⌜ ReadGives (read-entry (now (file .entry)) (length (now (tables .entry)))) r (now (tables .exit)) ⌝ }
+{
+    let mut initial = [0u8; 512];
+    let mut twins = [0u16; 256];
+    let mut formulas = [0u16; 12288];
+    let mut effects = [0u16; 12288];
+    let mut operators = [0u16; 768];
+    read_through(
+        file,
+        &mut initial,
+        &mut twins,
+        &mut formulas,
+        &mut effects,
+        &mut operators,
+        tables,
+    )
+}
