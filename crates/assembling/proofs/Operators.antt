@@ -32,7 +32,7 @@ use Rattle.touched.specs.Touched.{Untouched}
 use Rattle.rule_writer.specs.declared.Chain.{Chain}
 use Rattle.rule_writer.specs.Writes.{Holds, Writes, OneMore, Ready as RuleReady}
 use Rattle.rule_writer.proofs.Writing.{begun}
-use Rattle.assembling.specs.Assembles.{changes-at, changes-below, built-again, all-again, assembled-again, Knows, WritesAll, WritesEffect, WritesOperator, Same, Wrote, Holding, WroteOperator, Assembles, Assembling}
+use Rattle.assembling.specs.Assembles.{changes-at, changes-below, built-again, all-again, assembled-again, Knows, WritesAll, WritesEffect, WritesOperator, Same, Wrote, Holding, WroteOperator, Assembling, AssembledAll, Operator as CodeOperator}
 use Rattle.assembling.proofs.Found.{has-room, found-again, settled-after, same-start, same-next}
 
 -- The precondition is found again.
@@ -210,26 +210,54 @@ module _ (frame : Frame) (formulas effects operators : List ℕ) (t : St) where
       none : (m : ℕ) → padded m [] ≡ padded m (operator-words (unassembled .operators))
       none m = unfold unassembled operator-words in refl
 
-  module _ (at : Size) (mid : Store) {room rows : ℕ} {r : Chain} {out out' outs outs' : List ℕ} (o : ℕ) (row : Row) (same : held at mid ≡ t) (words : row ≡ row-at operators o) (h : Holding (assembled-again frame formulas effects operators t o) rows o out outs) (x : WroteOperator (built-again frame formulas effects (held at mid) row) (frame .variables) (held at mid .twins) room rows o r out out' outs outs') where
-    one-more : WroteOperator (built-again frame formulas effects t (row-at operators o)) (frame .variables) (t .twins) room rows o r out out' outs outs'
-    one-more = rw (sym same, sym words) x
+-- All rules of all operators, from where all is built.
+module _ (frame : Frame) (formulas effects operators : List ℕ) {at : Size} {before : Store} where
+  pub knows-next :
+      {mid : Store} {scratch : List ℕ} {row row' : Row}
+      → Same frame formulas effects at before mid scratch
+      → row ≡ row'
+      → Knows frame formulas effects (held at before) row'
+      → Knows frame formulas effects (held at mid) row
+  knows-next x e k = rw (x .same, e) k
 
-    pub assembling-more : r .full ≡ false → Holding (assembled-again frame formulas effects operators t (o + 1)) (r .rows) (o + 1) out' outs'
-    assembling-more q = rw (assembled-more o) (one-more .done (assembled-again frame formulas effects operators t o) h q)
+  module _ {mid after : Store} {s2 s3 : List ℕ} {room rows : ℕ} {r : Chain} {out out' outs outs' : List ℕ} (o : ℕ) (row : Row) (same : Same frame formulas effects at before mid s2) (words : row ≡ row-at operators o) (h : Holding (assembled-again frame formulas effects operators (held at before) o) rows o out outs) (x : CodeOperator frame formulas effects row o at mid after s3 room rows out out' outs outs' r) where
+    one-more : WroteOperator (built-again frame formulas effects (held at before) (row-at operators o)) (frame .variables) (held at before .twins) room rows o r out out' outs outs'
+    one-more = rw words at (rw (same .same) at (x .wrote))
+
+    pub assembling-more : r .full ≡ false → Holding (assembled-again frame formulas effects operators (held at before) (o + 1)) (r .rows) (o + 1) out' outs'
+    assembling-more q =
+        rw (assembled-more frame formulas effects operators (held at before) o)
+        (one-more .done (assembled-again frame formulas effects operators (held at before) o) h q)
 
     pub assembling-stop :
         (count : ℕ)
         → o < count
         → r .full ≡ true
-        → Assembling (assembled-again frame formulas effects operators t count) room count r out' outs'
+        → AssembledAll frame formulas effects operators count at before after s3 room out' outs' r
     assembling-stop count b q =
         record {
-          done = λ e. absurd (true≢false (sym q ∙ e));
-          over = λ _ few.
-              one-more .over (assembled-again frame formulas effects operators t o) h q
-              (omega (
-                arith,
-                ap (λ (a : Assembled). length (a .effects)) (assembled-more o),
-                assembled-fewer (o + 1) count (omega arith),
-              ));
+          found = same-next same (x .found);
+          assembles =
+              record {
+                done = λ e. absurd (true≢false (sym q ∙ e));
+                over = λ _ few.
+                    one-more .over (assembled-again frame formulas effects operators (held at before) o) h q
+                    (omega (
+                      arith,
+                      ap (λ (a : Assembled). length (a .effects)) (assembled-more frame formulas effects operators (held at before) o),
+                      assembled-fewer frame formulas effects operators (held at before) (o + 1) count (omega arith),
+                    ));
+              };
         }
+
+  pub assembling-done :
+      {after : Store} {s3 : List ℕ} {room rows : ℕ} {out outs : List ℕ} (o count : ℕ)
+      → o ≡ count
+      → Same frame formulas effects at before after s3
+      → Holding (assembled-again frame formulas effects operators (held at before) o) rows o out outs
+      → AssembledAll frame formulas effects operators count at before after s3 room out outs (begun rows)
+  assembling-done o count e x h =
+      record {
+        found = x;
+        assembles = record { done = λ _. rw (sym e) h; over = λ q few. true≢false (sym q) };
+      }

@@ -6,6 +6,9 @@ use Rattle.assembling.proofs.operator.assemble_operator.Lts as lts
 use Rattle.assembling.proofs.operator.write_effect.Reads as write-effect-reads
 use Rattle.images.proofs.image.Reads as image-reads
 use Rattle.rule_writer.proofs.write_operator.Reads as write-operator-reads
+use Rattle.formula_builder.specs.Held.{row-of}
+use Rattle.assembling.proofs.Found.{same-next}
+use Rattle.assembling.proofs.Operators.{precondition-found, precondition-row, asks-effect, operator-written}
 
 -- src/operator.rt:75:9
 cast-image : tie.Need-cast-image
@@ -21,11 +24,11 @@ cast-write-effect c = search needs
 
 -- src/operator.rt:82:9
 write-effect-requires : tie.Need-write-effect-requires
-write-effect-requires c κs = ?
+write-effect-requires c κs = asks-effect (c .before .before .before .before .before .before .before .before .before .before .before .before .before .before .before .before .before .before .before .before .before .before .before .pre .knows) (precondition-found (c .before .before .before .before .before .before .before .before .before .before .before .before .before .before .before .before .before .before .before .before .before .before .before .args .w .kind) (c .before .before .before .before .before .before .before .before .before .before .before .before .before .before .before .before .before .before .before .before .before .before .before .pre .stands) (c .before .before .before .before .before .before .before .before .before .before .before .before .before .before .before .before .before .before .before .before .before .before .before .pre .knows .precondition) (c .before .before .before .before .before .before .before .before .before .before .before .image .ensures) (c .before .before .before .before .before .before .before .before .before .before .before .image .kept .1 .1 .1 .1 .1 .1 .0)) (c .before .before .before .before .before .before .before .before .before .before .before .before .before .before .before .before .before .before .before .before .before .before .before .pre .ready)
 
 -- src/operator.rt:95:5
 write-operator-requires : tie.Need-write-operator-requires
-write-operator-requires c κs = ?
+write-operator-requires c κs = c .before .before .before .before .before .before .before .before .before .before .before .before .before .before .before .before .before .before .before .before .before .before .before .before .before .before .before .before .before .before .before .before .before .pre .space
 
 -- src/operator.rt:55:1
 same-length : tie.Need-same-length
@@ -49,7 +52,7 @@ same-length-5 c = search needs
 
 -- src/operator.rt:55:1
 returns : tie.Need-returns
-returns c = ?
+returns c = record { found = same-next (precondition-found (c .before .before .before .before .before .before .before .before .before .before .before .before .before .before .before .before .before .before .before .before .before .before .before .before .before .before .before .before .before .before .before .before .before .before .before .before .args .w .kind) (c .before .before .before .before .before .before .before .before .before .before .before .before .before .before .before .before .before .before .before .before .before .before .before .before .before .before .before .before .before .before .before .before .before .before .before .before .pre .stands) (c .before .before .before .before .before .before .before .before .before .before .before .before .before .before .before .before .before .before .before .before .before .before .before .before .before .before .before .before .before .before .before .before .before .before .before .before .pre .knows .precondition) (c .before .before .before .before .before .before .before .before .before .before .before .before .before .before .before .before .before .before .before .before .before .before .before .before .image .ensures) (c .before .before .before .before .before .before .before .before .before .before .before .before .before .before .before .before .before .before .before .before .before .before .before .before .image .kept .1 .1 .1 .1 .1 .1 .0)) (c .before .before .before .before .before .before .before .before .before .before .before .before .write-effect .ensures .found); wrote = operator-written (row-of (c .before .before .before .before .before .before .before .before .before .before .before .before .before .before .before .before .before .before .before .before .before .before .before .before .before .before .before .before .before .before .before .before .before .before .before .before .args .w)) (precondition-found (c .before .before .before .before .before .before .before .before .before .before .before .before .before .before .before .before .before .before .before .before .before .before .before .before .before .before .before .before .before .before .before .before .before .before .before .before .args .w .kind) (c .before .before .before .before .before .before .before .before .before .before .before .before .before .before .before .before .before .before .before .before .before .before .before .before .before .before .before .before .before .before .before .before .before .before .before .before .pre .stands) (c .before .before .before .before .before .before .before .before .before .before .before .before .before .before .before .before .before .before .before .before .before .before .before .before .before .before .before .before .before .before .before .before .before .before .before .before .pre .knows .precondition) (c .before .before .before .before .before .before .before .before .before .before .before .before .before .before .before .before .before .before .before .before .before .before .before .before .image .ensures) (c .before .before .before .before .before .before .before .before .before .before .before .before .before .before .before .before .before .before .before .before .before .before .before .before .image .kept .1 .1 .1 .1 .1 .1 .0)) (precondition-row (c .before .before .before .before .before .before .before .before .before .before .before .before .before .before .before .before .before .before .before .before .before .before .before .before .before .before .before .before .before .before .before .before .before .before .before .before .args .w .kind) (c .before .before .before .before .before .before .before .before .before .before .before .before .before .before .before .before .before .before .before .before .before .before .before .before .before .before .before .before .before .before .before .before .before .before .before .before .pre .stands) (c .before .before .before .before .before .before .before .before .before .before .before .before .before .before .before .before .before .before .before .before .before .before .before .before .before .before .before .before .before .before .before .before .before .before .before .before .pre .knows .precondition) (c .before .before .before .before .before .before .before .before .before .before .before .before .before .before .before .before .before .before .before .before .before .before .before .before .image .ensures)) (c .before .before .before .before .before .before .before .before .before .before .before .before .write-effect .ensures) (c .before .before .write-operator .ensures) }
 
 pub assemble-operator-spec : {M : Type 1} → statement M
 assemble-operator-spec =
