@@ -237,6 +237,7 @@ module _ (frame : Frame) (formulas effects operators : List ℕ) {at : Size} {be
     assembling-stop count b q =
         record {
           found = same-next same (x .found);
+          within = λ e. absurd (true≢false (sym q ∙ e));
           assembles =
               record {
                 done = λ e. absurd (true≢false (sym q ∙ e));
@@ -255,9 +256,11 @@ module _ (frame : Frame) (formulas effects operators : List ℕ) {at : Size} {be
       → o ≡ count
       → Same frame formulas effects at before after s3
       → Holding (assembled-again frame formulas effects operators (held at before) o) rows o out outs
+      → rows ≤ room
       → AssembledAll frame formulas effects operators count at before after s3 room out outs (begun rows)
-  assembling-done o count e x h =
+  assembling-done o count e x h most =
       record {
         found = x;
+        within = λ _. most;
         assembles = record { done = λ _. rw (sym e) h; over = λ q few. true≢false (sym q) };
       }

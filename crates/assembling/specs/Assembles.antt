@@ -136,3 +136,4 @@ pub record Operator (frame : Frame) (formulas effects : List ℕ) (w : Row) (o :
 pub record AssembledAll (frame : Frame) (formulas effects operators : List ℕ) (count : ℕ) (at : Size) (before after : Store) (scratch : List ℕ) (room : ℕ) (out out-operators : List ℕ) (r : Chain) : Type 0 where
   pub found : Same frame formulas effects at before after scratch
   pub assembles : Assembling (assembled-again frame formulas effects operators (held at before) count) room count r out out-operators
+  pub within : r .full ≡ false → r .rows ≤ room

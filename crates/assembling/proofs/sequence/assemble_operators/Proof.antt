@@ -91,7 +91,7 @@ same-length-10 c = c .before .loop .inv .5
 
 -- src/sequence.rt:11:1
 returns-2 : tie.Need-returns-2 Inv-loop μ-loop
-returns-2 c = assembling-done (c .before .before .before .before .before .before .before .before .before .before .args .frame) (c .before .before .before .before .before .before .before .before .before .before .args .formulas .now) (c .before .before .before .before .before .before .before .before .before .before .args .effects .now) (c .before .before .before .before .before .before .before .before .before .before .args .operators .now) (c .before .loop .o) (c .before .before .before .before .before .before .before .before .before .before .args .count) (omega arith) (c .before .loop .inv .6) (c .before .loop .inv .7)
+returns-2 c = assembling-done (c .before .before .before .before .before .before .before .before .before .before .args .frame) (c .before .before .before .before .before .before .before .before .before .before .args .formulas .now) (c .before .before .before .before .before .before .before .before .before .before .args .effects .now) (c .before .before .before .before .before .before .before .before .before .before .args .operators .now) (c .before .loop .o) (c .before .before .before .before .before .before .before .before .before .before .args .count) (omega arith) (c .before .loop .inv .6) (c .before .loop .inv .7) (c .before .loop .inv .8)
 
 pub assemble-operators-spec : {M : Type 1} → statement M
 assemble-operators-spec =
