@@ -87,13 +87,7 @@ pub fn fill(
     if r.full {
         return full();
     }
-    write_initial(
-        initial,
-        originals,
-        values,
-        head.variables as usize,
-        b.twins,
-    );
+    write_initial(initial, originals, values, head.variables as usize, b.twins);
     Passes {
         rows: b.rows as u16,
         twins: b.twins as u16,
