@@ -1,0 +1,11 @@
+// Compiling a task to positive normal form.
+mod fill;
+
+// The numbers of rows, twins and effect rows of the finished task and its goal; or that it does not fit.
+pub struct Passes {
+    pub rows: u16,
+    pub twins: u16,
+    pub effects: u16,
+    pub goal: u16,
+    pub full: bool,
+}
