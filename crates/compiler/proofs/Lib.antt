@@ -1,2 +1,3 @@
 pub mod Linked
 pub mod Filled
+pub mod Ways

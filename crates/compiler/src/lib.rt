@@ -1,5 +1,12 @@
-// Compiling a task to positive normal form.
+// Compiling a task to positive normal form: both passes over lent tables, refusals and all.
+mod call;
+mod checked;
+mod clear;
 mod fill;
+mod least;
+
+pub use call::compile;
+use task::Head;
 
 // The numbers of rows, twins and effect rows of the finished task and its goal; or that it does not fit.
 pub struct Passes {
@@ -8,4 +15,10 @@ pub struct Passes {
     pub effects: u16,
     pub goal: u16,
     pub full: bool,
+}
+
+// The head of the compiled task, or the number of the refusal.
+pub enum CompileAnswer {
+    Compiled(Head),
+    Refused(u16),
 }

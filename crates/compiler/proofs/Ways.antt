@@ -1,0 +1,187 @@
+-- The ways out of compiling. Assumes nothing.
+use Prim.Native.Nat.{ℕ, zero, suc, _+_, _-_, _*_, _/_, _≤_, _<_}
+use native.Mathlib.Omega.{arith}
+use mathlib.Core.Path.{_≡_, refl, sym, ap, _∙_}
+use mathlib.Core.Bool.{Bool, true, false}
+use mathlib.Core.List.{List}
+use lib.ListN.{length, replicate, length-replicate}
+use Rattle.task.specs.declared.Head.{Head}
+use Rattle.task.specs.Table.{Lent, Task, task-of}
+use Rattle.task.specs.Check.{refusal}
+use Rattle.task.specs.Words.{head-of}
+use Rattle.task.proofs.Held.{length-operators}
+use Rattle.normal_form.specs.Assembly.{unassembled}
+use Rattle.normal_form.specs.Finished.{built, assembled, finished}
+use Rattle.normal_form.specs.Compiled.{Room, Fits, nothing-given, task-given, compiling, refused, compiled-head}
+use Rattle.normal_form.proofs.Growth.{longer}
+use Rattle.normal_form.proofs.Compiled.{by-tables, by-twins, by-scratch, by-room, succeeds}
+use Rattle.normal_form.proofs.ShapeAssembled.{assemble-effects}
+use Rattle.normal_form.proofs.ShapeFinished.{finished-operators}
+use Rattle.normal_form.proofs.ShapePassed.{finished-variables}
+use Rattle.compiler.specs.declared.Passes.{Passes}
+use Rattle.compiler.specs.declared.CompileAnswer.{CompileAnswer}
+use Rattle.compiler.specs.declared.CompileAnswer.the-variants.{Compiled, Refused}
+use Rattle.compiler.specs.Fills.{Tables, room-of, Begins, Holds, Fills}
+use Rattle.compiler.specs.Left.{left, Blanked, Passed, Least}
+use Rattle.compiler.proofs.Linked.{source, its-variables}
+
+-- tables as long are cleared alike
+pub blanked-as : {x y z : Tables} → room-of y ≡ room-of x → Blanked y z → Blanked x z
+blanked-as e b =
+    record {
+      initial = b .initial ∙ ap (λ (r : Room). replicate (r .initial) 0) e;
+      twins = b .twins ∙ ap (λ (r : Room). replicate (r .twins) 0) e;
+      formulas = b .formulas ∙ ap (λ (r : Room). replicate (r .formulas) 0) e;
+      effects = b .effects ∙ ap (λ (r : Room). replicate (r .effects) 0) e;
+      operators = b .operators ∙ ap (λ (r : Room). replicate (r .operators) 0) e;
+      scratch = b .scratch ∙ ap (λ (r : Room). replicate (r .scratch) 0) e;
+    }
+
+pub same-room : {x y : Tables} → Blanked x y → room-of y ≡ room-of x
+same-room {x} {y} b = λ i.
+    record {
+      initial = (ap length (b .initial) ∙ length-replicate {A = ℕ} (length (x .initial)) 0) i;
+      twins = (ap length (b .twins) ∙ length-replicate {A = ℕ} (length (x .twins)) 0) i;
+      formulas = (ap length (b .formulas) ∙ length-replicate {A = ℕ} (length (x .formulas)) 0) i;
+      effects = (ap length (b .effects) ∙ length-replicate {A = ℕ} (length (x .effects)) 0) i;
+      operators = (ap length (b .operators) ∙ length-replicate {A = ℕ} (length (x .operators)) 0) i;
+      scratch = (ap length (b .scratch) ∙ length-replicate {A = ℕ} (length (x .scratch)) 0) i;
+    }
+
+pub blanked-self : {x y : Tables} → Blanked x y → Blanked y y
+blanked-self b = blanked-as (sym (same-room b)) b
+
+module _ (l : Lent) (x : Tables) where
+  -- a number, and every table 0
+  pub refuses :
+      {y : Tables} (n : ℕ)
+      → compiling l (room-of x) ≡ nothing-given n (room-of x)
+      → Blanked x y
+      → left (Refused n) y ≡ compiling l (room-of x)
+  unfolding nothing-given
+  refuses n e b =
+      (λ i.
+      record {
+        answer = refused n;
+        initial = b .initial i;
+        twins = b .twins i;
+        formulas = b .formulas i;
+        effects = b .effects i;
+        operators = b .operators i;
+        scratch = b .scratch i;
+      })
+      ∙ sym e
+
+  pub refuses-tables : {y : Tables} (n : ℕ) → n ≡ refusal l → (n ≡ 0 → ⊥) → Blanked x y → left (Refused n) y ≡ compiling l (room-of x)
+  refuses-tables zero e d b = absurd (d refl)
+  refuses-tables (suc n) e d b = refuses (suc n) (by-tables l (room-of x) n (sym e)) b
+
+  pub refuses-twins : {y : Tables} → refusal l ≡ 0 → (l .head .twins ≡ 0 → ⊥) → Blanked x y → left (Refused 13) y ≡ compiling l (room-of x)
+  refuses-twins e d b = refuses 13 (by-twins l (room-of x) e d) b
+
+  pub refuses-scratch :
+      {y : Tables}
+      → refusal l ≡ 0
+      → l .head .twins ≡ 0
+      → length (x .scratch) < 2 * l .head .formulas + 2 * l .head .effects
+      → Blanked x y
+      → left (Refused 14) y ≡ compiling l (room-of x)
+  refuses-scratch e w h b = refuses 14 (by-scratch l (room-of x) e w h) b
+
+  module _ (p : Passed l x) where
+    abbrev t : Task
+    t = task-of l
+
+    pub refuses-room : {y : Tables} → (Fits (finished (task-of l)) (room-of x) → ⊥) → Blanked x y → left (Refused 15) y ≡ compiling l (room-of x)
+    refuses-room n b = refuses 15 (by-room l (room-of x) (p .passes) (p .untwinned) (p .memo) n) b
+
+    pub short-initial : length (x .initial) < l .head .variables → left (Refused 15) x ≡ compiling l (room-of x)
+    short-initial h =
+        refuses-room (λ fit. omega (arith, fit .initial, finished-variables t, its-variables l 0 0 (p .passes))) (p .blank)
+
+    pub short-operators : length (x .operators) < 3 * l .head .operators → left (Refused 15) x ≡ compiling l (room-of x)
+    short-operators h =
+        refuses-room (λ fit. omega (arith, fit .operators, finished-operators t, length-operators l)) (p .blank)
+
+    one-effect : 1 ≤ length (finished (task-of l) .effects)
+    unfolding finished assembled unassembled
+    one-effect =
+        longer (unassembled .effects) (assembled t .effects)
+        (assemble-effects (length (t .initial)) (built t .st .twins) unassembled (built t .value .operators))
+
+    pub short-effects : length (x .effects) < 3 → left (Refused 15) x ≡ compiling l (room-of x)
+    short-effects h = refuses-room (λ fit. omega (arith, fit .effects, one-effect)) (p .blank)
+
+    pub few-variables : l .head .variables ≤ 512
+    few-variables = omega (arith, source l 0 0 (p .passes) .limits .variables, its-variables l 0 0 (p .passes))
+
+    pub begins :
+        (rows twins effects : ℕ)
+        → l .head .variables ≤ length (x .initial)
+        → l .head .variables ≤ 512
+        → 3 * l .head .operators ≤ length (x .operators)
+        → 3 ≤ length (x .effects)
+        → Least 4096 (length (x .formulas) / 3) rows
+        → (least : ℕ)
+        → Least (length (x .twins)) (length (x .initial) - l .head .variables) least
+        → Least (512 - l .head .variables) least twins
+        → Least 4096 (length (x .effects) / 3) effects
+        → Begins l rows twins effects x
+    begins rows twins effects v limit o e r least w w' f =
+        record {
+          passes = p .passes;
+          untwinned = p .untwinned;
+          memo = p .memo;
+          allows =
+              record {
+                rows-allowed = λ k a b. r .most k a (omega arith);
+                twins-allowed = λ k a b d. w' .most k (omega arith) (w .most k d (omega arith));
+                effects-allowed = λ k a b. f .most k a (omega arith);
+              };
+          rows-space = omega (arith, r .second);
+          rows-limit = r .first;
+          twins-space = omega (arith, w .first, w' .second);
+          variables-limit = omega (arith, w' .first);
+          initial-space = omega (arith, w .second, w' .second);
+          effects-space = omega (arith, f .second);
+          effects-limit = f .first;
+          one-effect = f .most 1 (omega arith) (omega arith);
+          operators-space = o;
+          blank-initial = p .blank .initial;
+          blank-twins = p .blank .twins;
+          blank-formulas = p .blank .formulas;
+          blank-effects = p .blank .effects;
+          blank-operators = p .blank .operators;
+          blank-scratch = p .blank .scratch;
+        }
+
+    module _ {y : Tables} {r : Passes} (f : Fills l x y r) where
+      pub filled-over : {z : Tables} → r .full ≡ true → Blanked x z → left (Refused 15) z ≡ compiling l (room-of x)
+      filled-over q b = refuses-room (f .over q) b
+
+      pub filled-done :
+          {s : List ℕ}
+          → r .full ≡ false
+          → s ≡ replicate (length (x .scratch)) 0
+          → left (Compiled (record { variables = l .head .variables + r .twins; twins = r .twins; formulas = r .rows; effects = r .effects; operators = l .head .operators; goal = r .goal })) (record { initial = y .initial; twins = y .twins; formulas = y .formulas; effects = y .effects; operators = y .operators; scratch = s })
+          ≡ compiling l (room-of x)
+      unfolding task-given
+      filled-done q e =
+          let h = f .done q in
+          (λ i.
+          record {
+            answer = compiled-head (sym (h .head) i);
+            initial = h .initial i;
+            twins = h .twins i;
+            formulas = h .formulas i;
+            effects = h .effects i;
+            operators = h .operators i;
+            scratch = e i;
+          })
+          ∙ sym (succeeds l (room-of x) (record { passes = p .passes; untwinned = p .untwinned; scratch = p .memo; fits = h .fits }))
+
+      pub variables-fit : r .full ≡ false → l .head .variables + r .twins ≤ 512
+      unfolding head-of
+      variables-fit q =
+          let h = f .done q in
+          omega (arith, h .fits .limits .variables, ap (λ (k : Head). k .variables) (h .head))
