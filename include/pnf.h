@@ -99,6 +99,7 @@ uint32_t pnf_read(const uint8_t *file, size_t file_len,
  * Afterwards out holds the compiled task's file and result that file's length, and 0
  * behind them; both all 0 unless PNF_OK.
  */
+/* NOT BUILT YET: the library has pnf_read and pnf_run; this is how pnf_compile will be declared. */
 uint32_t pnf_compile(const uint8_t *file, size_t file_len,
                      uint8_t *out, size_t out_len,
                      uint8_t *result, size_t result_len);
