@@ -19,7 +19,7 @@ use Rattle.normal_form.proofs.ShapeAssembled.{assemble-effects}
 use Rattle.normal_form.proofs.ShapeFinished.{finished-operators}
 use Rattle.normal_form.proofs.ShapePassed.{finished-variables}
 use Rattle.filling.specs.declared.Passes.{Passes}
-use Rattle.filling.specs.Fills.{Tables, room-of, Begins, Fills}
+use Rattle.filling.specs.Fills.{Tables, room-of, Begins, head-after, Fills}
 use Rattle.filling.proofs.Linked.{source, its-variables}
 use Rattle.compiler.specs.declared.CompileAnswer.the-variants.{Compiled, Refused}
 use Rattle.compiler.specs.Left.{left, Blanked, Passed, Least}
@@ -162,17 +162,18 @@ module _ (l : Lent) (x : Tables) where
       filled-over q b = refuses-room (f .over q) b
 
       pub filled-done :
-          {s : List ℕ}
+          {s : List ℕ} {k : Head}
           → r .full ≡ false
+          → k ≡ head-after (l .head) r
           → s ≡ replicate (length (x .scratch)) 0
-          → left (Compiled (record { variables = l .head .variables + r .twins; twins = r .twins; formulas = r .rows; effects = r .effects; operators = l .head .operators; goal = r .goal })) (record { initial = y .initial; twins = y .twins; formulas = y .formulas; effects = y .effects; operators = y .operators; scratch = s })
+          → left (Compiled k) (record { initial = y .initial; twins = y .twins; formulas = y .formulas; effects = y .effects; operators = y .operators; scratch = s })
           ≡ compiling l (room-of x)
       unfolding task-given
-      filled-done q e =
+      filled-done q n e =
           let h = f .done q in
           (λ i.
           record {
-            answer = compiled-head (sym (h .head) i);
+            answer = compiled-head ((n ∙ sym (h .head)) i);
             initial = h .initial i;
             twins = h .twins i;
             formulas = h .formulas i;

@@ -11,7 +11,8 @@ ghost use Rattle.compiler.specs.Fills.{tables, room-of};
 ghost use Rattle.compiler.specs.Left.{left};
 
 // The tables' own number, 13 for twins, 14 for short scratch, 15 for no room; or the compiled task, in values, originals, table (formulas),
-// out (effects) and written (operators). After a refusal all of them are 0; scratch always ends as 0.
+// out (effects) and written (operators). After a refusal all of them are 0; scratch always ends as 0. Costs the check of the tables, a walk
+// over what is lent, and the filling.
 pub fn compile(
     head: Head,
     initial: &[u8],

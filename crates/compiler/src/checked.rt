@@ -2,6 +2,7 @@
 use crate::CompileAnswer;
 use crate::clear::clear_all;
 use crate::least::least;
+use filling::compiled_head;
 use filling::fill;
 use task::Head;
 use task::clear::clear_words;
@@ -11,7 +12,7 @@ ghost use Rattle.normal_form.specs.Compiled.{compiling};
 ghost use Rattle.compiler.specs.Fills.{tables, room-of};
 ghost use Rattle.compiler.specs.Left.{left, Passed};
 
-// 15, with all 0, if the finished task passes a limit or a lent table.
+// 15, with all 0, if the finished task passes a limit or a lent table. Costs what filling does, and a walk over what is lent.
 pub fn compile_checked(
     head: Head,
     initial: &[u8],
@@ -65,12 +66,5 @@ pub fn compile_checked(
         return CompileAnswer::Refused(15);
     }
     clear_words(scratch);
-    CompileAnswer::Compiled(Head {
-        variables: head.variables + p.twins,
-        twins: p.twins,
-        formulas: p.rows,
-        effects: p.effects,
-        operators: head.operators,
-        goal: p.goal,
-    })
+    CompileAnswer::Compiled(compiled_head(head, p))
 }

@@ -1,4 +1,4 @@
-// The lesser of two numbers.
+// The lesser of two numbers. Constant cost.
 ghost use Rattle.compiler.specs.Left.{Least};
 
 pub fn least(a: usize, b: usize) -> usize

@@ -78,10 +78,22 @@ pub record Ends (l : Lent) (rows twins effects : ℕ) (x : Tables) (p : Progress
   pub all : p .operators ≡ l .head .operators
   pub taken : Taken (frame-of (l .head) rows twins) (l .formulas) (l .effects) (l .operators) (store (x .formulas) (x .twins)) (x .scratch) p
 
+-- the head of the compiled task: operators keep their number
+abbrev pub head-after : Head → Passes → Head
+head-after h r =
+    record {
+      variables = h .variables + r .twins;
+      twins = r .twins;
+      formulas = r .rows;
+      effects = r .effects;
+      operators = h .operators;
+      goal = r .goal;
+    }
+
 -- The tables hold the finished task, which fits.
 pub record Holds (l : Lent) (x y : Tables) (r : Passes) : Type 0 where
   pub fits : Fits (finished (task-of l)) (room-of x)
-  pub head : head-of (finished (task-of l)) ≡ record { variables = l .head .variables + r .twins; twins = r .twins; formulas = r .rows; effects = r .effects; operators = l .head .operators; goal = r .goal }
+  pub head : head-of (finished (task-of l)) ≡ head-after (l .head) r
   pub initial : y .initial ≡ padded (length (x .initial)) (finished (task-of l) .initial)
   pub twins : y .twins ≡ padded (length (x .twins)) (finished (task-of l) .originals)
   pub formulas : y .formulas ≡ padded (length (x .formulas)) (words-of (finished (task-of l) .formulas))

@@ -1,7 +1,9 @@
 // Filling the lent tables with the finished task: begin, one operator after another, finish.
+mod heads;
 mod last;
 mod whole;
 
+pub use heads::compiled_head;
 pub use last::finish;
 pub use whole::fill;
 
