@@ -15,6 +15,7 @@ ghost use Rattle.plan.specs.Outcome.{stepped, StepGives};
 ghost use Rattle.plan.specs.Steps.{running, Ready, Takes, StepDone};
 use crate::outcome::StepOutcome;
 use task::Head;
+use task::clear::clear_bytes;
 
 // What a step gives: 0 and what it is charged, or 17 or 18.
 pub struct Taken {
@@ -157,10 +158,10 @@ pub fn step(
         scratch,
     );
     if early != 0 {
-        crate::buffers::clear(scratch);
+        clear_bytes(scratch);
         return refused(early);
     }
     let outcome = step_ready(head, formulas, effects, operators, state, number, scratch);
-    crate::buffers::clear(scratch);
+    clear_bytes(scratch);
     outcome
 }
