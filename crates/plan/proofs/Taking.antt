@@ -2,7 +2,7 @@
 use Prim.Native.Nat.{ℕ, _+_, _≤_, _<_}
 use native.Mathlib.Omega.{arith}
 use mathlib.Core.Path.{_≡_, refl, sym, ap, _∙_}
-use mathlib.Core.Bool.{Bool, true, false, cond}
+use mathlib.Core.Bool.{Bool, true, false}
 use mathlib.Core.List.{List}
 use lib.ListN.{length, getD, List·getD-eq-default}
 use lib.Dec.{ltb}
@@ -20,7 +20,7 @@ use Rattle.task.proofs.Trees.{EffectsDown}
 use Rattle.task.proofs.Values.{Values}
 use Rattle.plan.specs.Values.{rows-of, Valuable}
 use Rattle.plan.specs.Marks.{changed, Markable}
-use Rattle.plan.specs.Steps.{running, StateReady, Ready, Carried, Took, took, Takes}
+use Rattle.plan.specs.Steps.{running, StateReady, Ready, Carried, Took, stayed, took-by, took, Takes}
 use Rattle.plan.proofs.Applying.{applied}
 
 -- the formula that an operator asks for, by its number
@@ -34,41 +34,29 @@ module _ (o : List ℕ) (m n : ℕ) where
   one-asked b = ap (λ (r : Operator). r .precondition) (sym (getD-upto m (operator-at o) n no-operator b))
 
 -- the two ways of a step, by the number that stops it
-module _ (t : Task) (s : List ℕ) (n : ℕ) where
-  stop-at : Bool → Bool → ℕ
-  stop-at there holding = unless there 17 (unless holding 18 0)
+module _
+    (t : Task) (s : List ℕ) (n stop : ℕ)
+    (told : stop ≡ unless (ltb n (length (t .operators))) 17 (unless (applicable t s n) 18 0)) where
+  took-stopped : (stop ≡ 0 → ⊥) → took t s n ≡ stayed stop s
+  unfolding took took-by
+  took-stopped = go (ltb n (length (t .operators))) (applicable t s n) told
+    where
+      go : (b c : Bool) → stop ≡ unless b 17 (unless c 18 0) → (stop ≡ 0 → ⊥) → took-by b c t s n ≡ stayed stop s
+      go true true q d = absurd (d q)
+      go true false q d = ap (λ (k : ℕ). stayed k s) (sym q)
+      go false c q d = ap (λ (k : ℕ). stayed k s) (sym q)
 
-  done : Took
-  done = record { answer = record { stop = 0; charge = charge t s n }; state = apply s (effect-of-operator t n) }
-
-  stayed : ℕ → Took
-  stayed stop = record { answer = record { stop = stop; charge = 0 }; state = s }
-
-  module _ (stop : ℕ) (told : stop ≡ stop-at (ltb n (length (t .operators))) (applicable t s n)) where
-    took-stopped : (stop ≡ 0 → ⊥) → took t s n ≡ stayed stop
-    unfolding took stop-at stayed done
-    took-stopped = go (ltb n (length (t .operators))) (applicable t s n) told
-      where
-        go :
-            (b c : Bool)
-            → stop ≡ unless b 17 (unless c 18 0)
-            → (stop ≡ 0 → ⊥)
-            → cond b (cond c done (stayed 18)) (stayed 17) ≡ stayed stop
-        go true true q d = absurd (d q)
-        go true false q d = ap stayed (sym q)
-        go false c q d = ap stayed (sym q)
-
-    took-done : stop ≡ 0 → (ltb n (length (t .operators)) ≡ true) × (took t s n ≡ done)
-    unfolding took stop-at stayed done
-    took-done z = go (ltb n (length (t .operators))) (applicable t s n) (sym told ∙ z)
-      where
-        go :
-            (b c : Bool)
-            → unless b 17 (unless c 18 0) ≡ 0
-            → (b ≡ true) × (cond b (cond c done (stayed 18)) (stayed 17) ≡ done)
-        go true true q = (refl, refl)
-        go true false q = absurd (omega (arith, q))
-        go false c q = absurd (omega (arith, q))
+  took-done : stop ≡ 0 → (ltb n (length (t .operators)) ≡ true) × (took t s n ≡ took-by true true t s n)
+  unfolding took took-by
+  took-done z = go (ltb n (length (t .operators))) (applicable t s n) (sym told ∙ z)
+    where
+      go :
+          (b c : Bool)
+          → unless b 17 (unless c 18 0) ≡ 0
+          → (b ≡ true) × (took-by b c t s n ≡ took-by true true t s n)
+      go true true q = (refl, refl)
+      go true false q = absurd (omega (arith, q))
+      go false c q = absurd (omega (arith, q))
 
 takes : (t : Task) (s : List ℕ) (n : ℕ) (w : Took) → took t s n ≡ w → w .answer .charge ≤ 65535 → Takes t s n (w .answer) (w .state)
 takes t s n w q small =
@@ -130,14 +118,13 @@ module _ {h : Head} {f e o s scratch : List ℕ} (ready : Ready h f e o s scratc
         applicable-same = held ∙ ap (λ (i : ℕ). holds s (formula-of (rows-of (h .formulas) f) i)) asked
 
         stop-same :
-            stop ≡ stop-at (running h f e o) s n (ltb n (length (running h f e o .operators))) (applicable (running h f e o) s n)
-        unfolding stop-at
+            stop
+            ≡ unless (ltb n (length (running h f e o .operators))) 17 (unless (applicable (running h f e o) s n) 18 0)
         stop-same = told ∙ rw (operators-same, applicable-same)
 
         pub stays : (stop ≡ 0 → ⊥) → Takes (running h f e o) s n (record { stop = stop; charge = 0 }) s
-        unfolding stayed
         stays d =
-            takes (running h f e o) s n (stayed (running h f e o) s n stop)
+            takes (running h f e o) s n (stayed stop s)
             (took-stopped (running h f e o) s n stop stop-same d) (omega arith)
 
         module _ (z : stop ≡ 0) where
@@ -163,7 +150,7 @@ module _ {h : Head} {f e o s scratch : List ℕ} (ready : Ready h f e o s scratc
               → Carried e (h .formulas) (operator-at o n .effect) s after values marks
               → operator-at o n .cost ≤ 65535
               → Takes (running h f e o) s n (record { stop = 0; charge = operator-at o n .cost }) after
-          unfolding charge effect-of-operator task-of done
+          unfolding charge effect-of-operator task-of took-by
           carried-out values marks after known same passes low =
               rw (passes .state ∙ law)
               (takes (running h f e o) s n (by-row (operator-at o n))

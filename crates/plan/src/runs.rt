@@ -1,6 +1,5 @@
 // Runs of operator numbers.
 ghost use Prim.Native.Nat.{_≤_};
-ghost use mathlib.Core.Path.{_≡_};
 ghost use lib.ListN.{length};
 ghost use Rattle.task.specs.Table.{lent};
 ghost use Rattle.plan.specs.Outcome.{ran, RunGives};
