@@ -12,7 +12,7 @@ use Rattle.task.specs.declared.Head.{Head}
 use Rattle.task.specs.Table.{Task, task-of}
 use Rattle.task.specs.Semantics.{effcond, sets, clears, holds, value-after, apply}
 use Rattle.task.specs.Tree.{formula-of}
-use Rattle.task.specs.Run.{Run, Progress, ended, stopped, effect-of-operator, goal-holds, applicable, charge, after-step, answer, run-on, plain-run}
+use Rattle.task.specs.Run.{Run, Progress, ended, stopped, effect-of-operator, goal-holds, applicable, after-step, answer, run-on, plain-run}
 use Rattle.task.proofs.Bounded.{length-upto, getD-upto}
 use Rattle.plan.specs.declared.outcome.End.the-variants.{Ended, Stopped}
 use Rattle.plan.specs.declared.steps.Taken.{Taken}
