@@ -1,9 +1,10 @@
 -- Printing into the program's buffer: every text fits. Assumes nothing.
 use Prim.Native.Nat.{ℕ, zero, suc, _+_, _-_, _*_, _≤_, _<_}
+use native.Mathlib.Nat.{min-eq-left}
 use native.Mathlib.Omega.{arith}
 use mathlib.Core.Path.{_≡_, refl, sym, ap, _∙_}
 use mathlib.Core.List.{List, [], _∷_, _++_}
-use lib.ListN.{length, getD, replicate, length-append}
+use lib.ListN.{length, getD, replicate, length-append, length-take}
 use Rattle.task.specs.Table.{Lent, task-of}
 use Rattle.task.specs.Check.{refusal}
 use Rattle.normal_form.specs.Compiled.{padded}
@@ -28,7 +29,8 @@ printed-whole text {o} {a} {r} {out} whole prints told long =
     let held : out ≡ text ++ replicate (most - length text) 0 = prints .left ∙ ap (λ (x : Outcome). x .out) whole in
     let same : r ≡ length text = told ∙ ap printed-length (prints .answered ∙ ap (λ (x : Outcome). x .answer) whole) in
     let sum : length out ≡ length text + length (replicate {A = ℕ} (most - length text) 0) = ap length held ∙ length-append text _ in
-    record { counted = same; held = held; fits = omega (arith, same, sum, long) }
+    let fits : r ≤ length out = omega (arith, same, sum, long) in
+    record { counted = same; held = held; fits = fits; front = sym (length-take r out ∙ min-eq-left fits) }
 
 pub number-printed :
     (number n : ℕ) {a : PrintAnswer} {r : ℕ} {out : List ℕ}

@@ -2,7 +2,7 @@
 use Prim.Native.Nat.{ℕ, _≤_}
 use mathlib.Core.Path.{_≡_}
 use mathlib.Core.List.{List}
-use lib.ListN.{length}
+use lib.ListN.{length, take}
 use Rattle.task.specs.Table.{Lent}
 use Rattle.task.specs.Check.{refusal}
 use Rattle.normal_form.specs.Compiled.{padded}
@@ -16,11 +16,13 @@ use Rattle.compiler.specs.declared.CompileAnswer.the-variants.{Refused as NotCo
 abbrev pub most : ℕ
 most = 164384
 
--- A text was given: its length, and the buffer at exit, 0 past the text. That the text fits follows, and is told for the caller.
+-- A text was given: its length, and the buffer at exit, 0 past the text. That it is the front of the buffer follows, and is told for a
+-- caller who passes that part on.
 pub record Gives (text : List ℕ) (r : ℕ) (out : List ℕ) : Type 0 where
   pub counted : r ≡ length text
   pub held : out ≡ padded most text
-  pub fits : r ≤ most
+  pub fits : r ≤ length out
+  pub front : r ≡ length (take r out)
 
 -- the length of what was printed, 0 if nothing was
 abbrev pub printed-length : PrintAnswer → ℕ
