@@ -4,7 +4,8 @@ ghost use Rattle.task.specs.Table.{lent, task-of};
 ghost use Rattle.task.specs.Check.{refusal};
 ghost use Rattle.printing.specs.Lines.{lines, refusal-line};
 ghost use Rattle.entries.specs.Giving.{refused-number};
-ghost use Rattle.compile_text.specs.Giving.{Gives, printed-length, not-compiled};
+ghost use Rattle.entries.specs.CompileGiving.{refused-compile};
+ghost use Rattle.compile_text.specs.Giving.{Gives, printed-length};
 use compiler::CompileAnswer;
 use printing::PrintAnswer;
 use task::Head;
@@ -29,7 +30,7 @@ pub fn not_read(r: ReadAnswer) -> u16
 }
 
 pub fn not_compiled(r: CompileAnswer) -> u16
-    ensures { λ n. ⌜ n ≡ not-compiled r ⌝ }
+    ensures { λ n. ⌜ n ≡ refused-compile r ⌝ }
 {
     match r {
         CompileAnswer::Compiled(_) => 0,

@@ -2,8 +2,10 @@
 ghost use mathlib.Core.Path.{_≡_};
 ghost use Rattle.task.specs.Table.{lent, task-of};
 ghost use Rattle.task.specs.Check.{refusal};
+ghost use Rattle.compiler.specs.Fills.{tables};
+ghost use Rattle.entries.specs.CompileGiving.{CompileIn};
 ghost use Rattle.compile_text.specs.Text.{compiled-text};
-ghost use Rattle.compile_text.specs.Giving.{Gives, CompileIn};
+ghost use Rattle.compile_text.specs.Giving.{Gives};
 use crate::answers::not_compiled;
 use crate::answers::number_line;
 use crate::answers::task_lines;
@@ -26,7 +28,7 @@ fn compile_through(
     scratch: &mut [u16],
     out: &mut [u8; 164384],
 ) -> usize
-    requires { ⌜ CompileIn (lent head (now initial) (now twins) (now formulas) (now effects) (now operators)) (now values) (now originals) (now table) (now rules) (now written) (now scratch) ⌝ }
+    requires { ⌜ CompileIn (lent head (now initial) (now twins) (now formulas) (now effects) (now operators)) (tables (now values) (now originals) (now table) (now rules) (now written) (now scratch)) ⌝ }
     ensures { λ r. ⌜ Gives (compiled-text (task-of (lent head (now (initial .entry)) (now (twins .entry)) (now (formulas .entry)) (now (effects .entry)) (now (operators .entry))))) r (now (out .exit)) ⌝ }
 {
     let r = compiler::compile(
