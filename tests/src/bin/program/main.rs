@@ -8,6 +8,7 @@ use std::path::{Path, PathBuf};
 use std::process::{Command, Stdio};
 
 use saqwillo_tests::damage;
+use saqwillo_tests::deep::{deep_task, EFFECTS, FORMULAS};
 use saqwillo_tests::examples;
 use saqwillo_tests::file::file_of;
 use saqwillo_tests::generate::{self, Shape};
@@ -25,6 +26,7 @@ fn main() {
         test("stored files", stored_files),
         test("random files", random_files),
         test("large files", large_files),
+        test("deepest files", deepest_files),
         test("empty input", empty_input),
         test("long inputs", long_inputs),
         test("input in pieces", input_in_pieces),
@@ -105,6 +107,18 @@ fn large_files(trial: &mut Trial) -> Verdict {
         examples::many_rules(&[512, 512, 341]),
     ] {
         agree(trial, &file_of(&task.head, &task.tables), 70_000)?;
+    }
+    Ok(())
+}
+
+/// Formulas and effects as deep as the limits allow, on the stack that a
+/// process gets.
+fn deepest_files(trial: &mut Trial) -> Verdict {
+    for (_, formula_row) in FORMULAS {
+        for (_, effect_row) in EFFECTS {
+            let task = deep_task(formula_row, effect_row);
+            agree(trial, &file_of(&task.head, &task.tables), 70_000)?;
+        }
     }
     Ok(())
 }
