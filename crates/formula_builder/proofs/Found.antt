@@ -1,5 +1,5 @@
 -- What a search from the front finds is the place of find-or-append. Assumes nothing.
-use Prim.Native.Nat.{ℕ, zero, suc, _+_, _≤_, _<_}
+use Prim.Native.Nat.{ℕ, suc, _≤_, _<_}
 use native.Mathlib.Nat.{not-suc-le-zero}
 use native.Mathlib.Omega.{arith}
 use mathlib.Core.Path.{_≡_, refl, sym, ap, _∙_}
@@ -13,28 +13,7 @@ use Rattle.task.specs.Bounded.{upto}
 use Rattle.task.specs.Table.{Row}
 use Rattle.task.proofs.Bounded.{length-upto, getD-upto}
 use Rattle.normal_form.specs.Builder.{place, kept, same-row}
-
-module _ {A : Type 0} (same : A → A → Bool) (x d : A) where
-  pub place-first :
-      (l : List A) (i : ℕ)
-      → i < length l
-      → ((j : ℕ) → j < i → same (getD l j d) x ≡ false)
-      → same (getD l i d) x ≡ true
-      → place same x l ≡ i
-  unfolding place
-  place-first [] i h before e = absurd (not-suc-le-zero h)
-  place-first (y ∷ ys) zero h before e = rw e
-  place-first (y ∷ ys) (suc i) h before e =
-      let here : same y x ≡ false = before 0 (omega arith) in
-      rw here (ap suc (place-first ys i (omega arith) (λ j k. before (suc j) (omega arith)) e))
-
-  pub place-none :
-      (l : List A) → ((j : ℕ) → j < length l → same (getD l j d) x ≡ false) → place same x l ≡ length l
-  unfolding place
-  place-none [] none = refl
-  place-none (y ∷ ys) none =
-      let here : same y x ≡ false = none 0 (omega arith) in
-      rw here (ap suc (place-none ys (λ j k. none (suc j) (omega arith))))
+use Rattle.normal_form.proofs.Place.{place-first, place-none}
 
 module _ {A : Type 0} (same : A → A → Bool) (x : A) where
   pub place-bound : (l : List A) → place same x l ≤ length l

@@ -9,7 +9,7 @@ pub use joins::standing;
 pub use joins::truth;
 pub use rows::read_row;
 pub use rows::row;
-pub use rows::variable_row;
+pub use twins::find_twin;
 pub use twins::twin_row;
 
 // A row's three words.

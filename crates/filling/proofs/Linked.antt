@@ -1,0 +1,290 @@
+-- A source that passes, as the code's passes see it. Assumes nothing.
+use Prim.Native.Nat.{ℕ, zero, suc, _+_, _*_, _≤_, _<_}
+use native.Mathlib.Omega.{arith}
+use mathlib.Core.Path.{_≡_, refl, sym, ap, ap₂, _∙_}
+use mathlib.Core.List.{List, [], _∷_, _++_}
+use lib.ListN.{length, getD, replicate}
+use Rattle.task.specs.Bounded.{upto}
+use Rattle.task.specs.Table.{Row, Operator, Lent, Task, task-of, row-at, operator-at}
+use Rattle.task.specs.Check.{refusal}
+use Rattle.task.specs.Words.{words-of}
+use Rattle.task.specs.Rules.{LongEnough, Rules, no-operator}
+use Rattle.task.specs.Run.{operator-of, effect-of-operator}
+use Rattle.task.specs.Tree.{formula-of}
+use Rattle.task.proofs.Held.{length-initial, length-formulas, length-effects, length-operators, operator-held}
+use Rattle.task.proofs.Kept.{kept-rules}
+use Rattle.task.proofs.Trees.{rules-formulas, rules-effects}
+use Rattle.normal_form.specs.Builder.{St, Build, start, plain}
+use Rattle.normal_form.specs.Image.{image}
+use Rattle.normal_form.specs.Operators.{Changes, Built, changes-of, built-operator}
+use Rattle.normal_form.specs.Assembly.{Assembled, assemble, unassembled}
+use Rattle.normal_form.specs.Finished.{built, assembled, finished}
+use Rattle.normal_form.specs.Compiled.{padded}
+use Rattle.normal_form.proofs.Again.{Settled, precondition-settled, changes-settled, operator-again, operators-again}
+use Rattle.formula_builder.specs.declared.Frame.{Frame}
+use Rattle.images.specs.Images.{source-rows, tree, image-at}
+use Rattle.conditions.specs.Conditions.{effect-rows, effect-tree}
+use Rattle.formula_builder.specs.Held.{store}
+use Rattle.building.specs.declared.Progress.{Progress}
+use Rattle.building.specs.Taken.{whole-built, Zeros, Fresh, Begun, Blank, Taken, Takes, Took}
+use Rattle.building.proofs.Begun.{taken-none}
+use Rattle.building.proofs.Parts.{same-state, same-value}
+use Rattle.assembling.specs.Assembles.{changes-at, changes-below, built-again, all-again, assembled-again, Knows}
+use Rattle.filling.specs.declared.Passes.{Passes}
+use Rattle.filling.specs.Fills.{Tables, room-of, frame-of, Lends, Begins, Ends, Holds, Fills}
+
+zero-at : (n j : ℕ) → _≡_ {A = ℕ} (getD (replicate n 0) j 0) 0
+zero-at zero j = refl
+zero-at (suc n) zero = refl
+zero-at (suc n) (suc j) = zero-at n j
+
+pub zeros : (l : List ℕ) → l ≡ replicate (length l) 0 → Zeros l
+zeros l e j = ap (λ (m : List ℕ). getD m j 0) e ∙ zero-at (length l) j
+
+upto-same : {A : Type 0} (n : ℕ) (f g : ℕ → A) → ((k : ℕ) → k < n → f k ≡ g k) → upto n f ≡ upto n g
+unfolding upto
+upto-same zero f g h = refl
+upto-same {A} (suc n) f g h =
+    ap₂ (λ (l : List A) (x : A). l ++ (x ∷ [])) (upto-same n f g (λ k b. h k (omega arith))) (h n (omega arith))
+
+module _ (l : Lent) (rows twins : ℕ) (passes : refusal l ≡ 0) where
+  abbrev t : Task
+  t = task-of l
+
+  abbrev frame : Frame
+  frame = frame-of (l .head) rows twins
+
+  pub long : LongEnough l
+  long = kept-rules l passes .0
+
+  pub source : Rules (task-of l)
+  source = kept-rules l passes .1
+
+  pub its-variables : length (task-of l .initial) ≡ l .head .variables
+  its-variables = length-initial l long
+
+  its-formulas : task-of l .formulas ≡ source-rows (frame-of (l .head) rows twins) (l .formulas)
+  unfolding task-of source-rows
+  its-formulas = refl
+
+  its-effects : task-of l .effects ≡ effect-rows (frame-of (l .head) rows twins) (l .effects)
+  unfolding task-of effect-rows
+  its-effects = refl
+
+  precondition-is : (o : ℕ) → o < l .head .operators → operator-of (task-of l) o .precondition ≡ row-at (l .operators) o .kind
+  unfolding operator-of row-at operator-at
+  precondition-is o h = ap (λ (r : Operator). r .precondition) (operator-held l o h)
+
+  effect-is : (o : ℕ) → o < l .head .operators → operator-of (task-of l) o .effect ≡ row-at (l .operators) o .a
+  unfolding operator-of row-at operator-at
+  effect-is o h = ap (λ (r : Operator). r .effect) (operator-held l o h)
+
+  cost-is : (o : ℕ) → o < l .head .operators → operator-of (task-of l) o .cost ≡ row-at (l .operators) o .b
+  unfolding operator-of row-at operator-at
+  cost-is o h = ap (λ (r : Operator). r .cost) (operator-held l o h)
+
+  goal-is : task-of l .goal ≡ l .head .goal
+  unfolding task-of
+  goal-is = refl
+
+  -- what is built is what the definition builds
+  pub state-built :
+      built (task-of l) .st
+      ≡ whole-built (frame-of (l .head) rows twins) (l .formulas) (l .effects) (l .operators) (l .head .operators) (l .head .goal) start .st
+  unfolding built
+  state-built =
+      same-state t frame (l .formulas) (l .effects) (l .operators) (l .head .operators) (l .head .goal) its-variables its-formulas
+      its-effects (length-operators l) precondition-is effect-is goal-is start
+
+  pub goal-built :
+      built (task-of l) .value .goal
+      ≡ whole-built (frame-of (l .head) rows twins) (l .formulas) (l .effects) (l .operators) (l .head .operators) (l .head .goal) start .value
+  unfolding built
+  goal-built =
+      same-value t frame (l .formulas) (l .effects) (l .operators) (l .head .operators) (l .head .goal) its-variables its-formulas
+      its-effects (length-operators l) precondition-is effect-is goal-is start
+
+  module _ (o : ℕ) (h : o < l .head .operators) where
+    below : o < length (task-of l .operators)
+    below = omega (arith, length-operators l)
+
+    image-is :
+        image (length (task-of l .initial)) plain (formula-of (task-of l .formulas) (operator-of (task-of l) o .precondition))
+        ≡ image-at (frame-of (l .head) rows twins) (l .formulas) plain (row-at (l .operators) o .kind)
+    unfolding image-at tree
+    image-is = rw (precondition-is o h, its-variables, its-formulas)
+
+    changes-is :
+        changes-of (length (task-of l .initial)) (effect-of-operator (task-of l) o)
+        ≡ changes-at (frame-of (l .head) rows twins) (l .formulas) (l .effects) (row-at (l .operators) o .a)
+    unfolding changes-at effect-tree effect-of-operator
+    changes-is = rw (effect-is o h, its-variables, its-formulas, its-effects)
+
+    pub operator-known : Knows (frame-of (l .head) rows twins) (l .formulas) (l .effects) (built (task-of l) .st) (row-at (l .operators) o)
+    operator-known =
+        let rule = source .operator o below in
+        record {
+          formula = formula-below;
+          effect = effect-below;
+          precondition = rw (sym image-is) (precondition-settled t o below);
+          changes = λ v b. rw (sym changes-is) (changes-settled t o below v (omega (arith, its-variables)));
+        }
+      where
+        formula-below : row-at (l .operators) o .kind < l .head .formulas
+        formula-below =
+            unfold operator-of in
+            omega (arith, precondition-is o h, source .operator o below .formula, length-formulas l)
+
+        effect-below : row-at (l .operators) o .a < l .head .effects
+        effect-below =
+            unfold operator-of in
+            omega (arith, effect-is o h, source .operator o below .changes, length-effects l)
+
+    its-again :
+        built-operator (task-of l) o (built (task-of l) .st) .value
+        ≡ built-again (frame-of (l .head) rows twins) (l .formulas) (l .effects) (built (task-of l) .st) (row-at (l .operators) o)
+    unfolding built-again changes-below
+    its-again =
+        operator-again t o below ∙ rw (image-is, changes-is, its-variables, cost-is o h)
+
+  pub assembled-is :
+      assembled (task-of l)
+      ≡ assembled-again (frame-of (l .head) rows twins) (l .formulas) (l .effects) (l .operators) (built (task-of l) .st) (l .head .operators)
+  unfolding assembled assembled-again all-again
+  assembled-is =
+      rw (operators-again t, length-operators l, its-variables)
+      (ap (λ (b : List Built). assemble (l .head .variables) (built t .st .twins) unassembled b)
+      (upto-same (l .head .operators) _ _ its-again))
+
+  pub goal-below : l .head .goal < l .head .formulas
+  goal-below = omega (arith, source .goal-is-formula, length-formulas l, goal-is)
+
+  -- What the parts ask.
+  module _ (effects : ℕ) (x : Tables) (b : Begins l rows twins effects x) where
+    pub fresh-is : Fresh (frame-of (l .head) rows twins) (x .formulas)
+    fresh-is =
+        record {
+          room = b .lends .rows-space;
+          limit = b .lends .rows-limit;
+          blank = zeros (x .formulas) (b .blank-formulas);
+        }
+
+    blank-is : Blank (frame-of (l .head) rows twins) (l .formulas) (l .effects) (x .twins) (x .scratch)
+    blank-is =
+        record {
+          source =
+              record {
+                words = long .formulas;
+                memo = omega (arith, b .lends .memo);
+                limit = omega (arith, source .limits .formulas, length-formulas l);
+                down = rw its-formulas at (rw its-variables at (rules-formulas t source));
+              };
+          effect-source =
+              record {
+                words = long .effects;
+                memo = b .lends .memo;
+                limit = omega (arith, source .limits .effects, length-effects l);
+                down = rw its-effects at (rw (length-formulas l) at (rw its-variables at (rules-effects t source)));
+              };
+          twins = b .lends .twins-space;
+          variables = b .lends .variables-limit;
+          blank-originals = zeros (x .twins) (b .blank-twins);
+          blank-scratch = zeros (x .scratch) (b .blank-scratch);
+        }
+
+    pub first-taken :
+        {table : List ℕ} {p : Progress}
+        → Begun (frame-of (l .head) rows twins) table p
+        → Taken (frame-of (l .head) rows twins) (l .formulas) (l .effects) (l .operators) (store table (x .twins)) (x .scratch) p
+    first-taken g = taken-none frame (l .formulas) (l .effects) (l .operators) blank-is g
+
+  pub next-asks :
+      {table originals scratch : List ℕ} {p : Progress}
+      → p .operators < l .head .operators
+      → Taken (frame-of (l .head) rows twins) (l .formulas) (l .effects) (l .operators) (store table originals) scratch p
+      → Takes (frame-of (l .head) rows twins) (l .formulas) (l .effects) (l .operators) (store table originals) scratch p
+  next-asks {p = p} h k =
+      record {
+        taken = k;
+        words = omega (arith, long .operators);
+        limit = omega (arith, source .limits .operators, length-operators l);
+        precondition = operator-known (p .operators) h .formula;
+        effect = operator-known (p .operators) h .effect;
+      }
+
+  -- what the last part asks, behind so many operators
+  pub last-asks :
+      {effects : ℕ} {x : Tables} {table originals scratch : List ℕ} {p : Progress}
+      → Begins l rows twins effects x
+      → length table ≡ length (x .formulas)
+      → length originals ≡ length (x .twins)
+      → length scratch ≡ length (x .scratch)
+      → p .operators ≡ l .head .operators
+      → Taken (frame-of (l .head) rows twins) (l .formulas) (l .effects) (l .operators) (store table originals) scratch p
+      → Ends l rows twins effects (record { initial = x .initial; twins = originals; formulas = table; effects = x .effects; operators = x .operators; scratch = scratch }) p
+  last-asks {effects} {x} {table} {originals} {scratch} b f w s all k =
+      record {
+        lends =
+            record {
+              passes = b .lends .passes;
+              untwinned = b .lends .untwinned;
+              memo = omega (arith, b .lends .memo, s);
+              allows =
+                  record {
+                    rows-allowed = λ n p q. b .lends .allows .rows-allowed n p (omega (arith, f));
+                    twins-allowed = λ n p q r. b .lends .allows .twins-allowed n p q (omega (arith, w));
+                    effects-allowed = b .lends .allows .effects-allowed;
+                  };
+              rows-space = omega (arith, b .lends .rows-space, f);
+              rows-limit = b .lends .rows-limit;
+              twins-space = omega (arith, b .lends .twins-space, w);
+              variables-limit = b .lends .variables-limit;
+              initial-space = b .lends .initial-space;
+              effects-space = b .lends .effects-space;
+              effects-limit = b .lends .effects-limit;
+              one-effect = b .lends .one-effect;
+              operators-space = b .lends .operators-space;
+              blank-initial = b .lends .blank-initial;
+              blank-effects = b .lends .blank-effects;
+              blank-operators = b .lends .blank-operators;
+            };
+        all = all;
+        taken = k;
+      }
+
+-- tables as long are filled alike
+pub fills-as :
+    {l : Lent} {x y : Tables} {r : Passes} {table originals scratch : List ℕ}
+    → length table ≡ length (x .formulas)
+    → length originals ≡ length (x .twins)
+    → length scratch ≡ length (x .scratch)
+    → Fills l (record { initial = x .initial; twins = originals; formulas = table; effects = x .effects; operators = x .operators; scratch = scratch }) y r
+    → Fills l x y r
+fills-as {l} {x} {y} {r} {table} {originals} {scratch} f w s k =
+    record {
+      done = λ q.
+          let h = k .done q in
+          record {
+            fits = rw same at (h .fits);
+            head = h .head;
+            initial = h .initial;
+            twins = h .twins ∙ ap (λ (n : ℕ). padded n (finished (task-of l) .originals)) w;
+            formulas = h .formulas ∙ ap (λ (n : ℕ). padded n (words-of (finished (task-of l) .formulas))) f;
+            effects = h .effects;
+            operators = h .operators;
+          };
+      over = λ q fit. k .over q (rw same fit);
+    }
+  where
+    same :
+        room-of (record { initial = x .initial; twins = originals; formulas = table; effects = x .effects; operators = x .operators; scratch = scratch })
+        ≡ room-of x
+    same = λ i.
+        record {
+          initial = length (x .initial);
+          twins = w i;
+          formulas = f i;
+          effects = length (x .effects);
+          operators = length (x .operators);
+          scratch = s i;
+        }
