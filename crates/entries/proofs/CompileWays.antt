@@ -29,12 +29,12 @@ use Rattle.compiler.specs.declared.CompileAnswer.{CompileAnswer}
 use Rattle.compiler.specs.declared.CompileAnswer.the-variants.{Compiled, Refused}
 use Rattle.compiler.specs.Fills.{Tables, tables, room-of}
 use Rattle.compiler.specs.Left.{answer-of, left}
-use Rattle.entries.specs.Layout.{low-bytes}
-use Rattle.entries.specs.Entries.{own, zeros, compile-given, compile-number, compile-entry, compile-entry-by}
+use Rattle.layouts.specs.Layout.{low-bytes}
+use Rattle.layouts.proofs.LayWays.{put-padded, size}
+use Rattle.layouts.proofs.RunWays.{low-next}
+use Rattle.entries.specs.Entries.{own, compile-given, compile-number, compile-entry, compile-entry-by}
 use Rattle.entries.specs.Giving.{TaskRead}
 use Rattle.entries.specs.CompileGiving.{CompileGives, CompileIn, given-file, own-room}
-use Rattle.entries.proofs.LayWays.{put-padded, size}
-use Rattle.entries.proofs.RunWays.{low-next}
 
 -- The file of tables that pass, and its length.
 and-false : (a : Bool) → a && false ≡ false

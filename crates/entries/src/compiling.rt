@@ -38,7 +38,7 @@ fn give_file(
     let WriteAnswer::Written(size) = r else {
         return 20;
     };
-    crate::results::put_low(result, 0, 4, size as u64);
+    layouts::results::put_low(result, 0, 4, size as u64);
     0
 }
 

@@ -2,10 +2,10 @@ use mathlib.Core.Path.{_≡_, refl, sym, ap, _∙_}
 use native.Mathlib.Omega.{arith}
 use Prim.Native.Nat.{_+_, _-_, _*_, _/_}
 use lib.ListN.{length}
-use Rattle.entries.proofs.RunWays.{Decoded, decode-begin, decode-more, decode-end}
+use Rattle.layouts.proofs.RunWays.{Decoded, decode-begin, decode-more, decode-end}
 use borrow.Author.Needs.{needs}
-use Rattle.entries.proofs.numbers.decode.Statement.{statement}
-use Rattle.entries.proofs.numbers.decode.Tie as tie
+use Rattle.layouts.proofs.numbers.decode.Statement.{statement}
+use Rattle.layouts.proofs.numbers.decode.Tie as tie
 
 abbrev Inv-loop : tie.InvT-loop
 Inv-loop sequence numbers₀ count i₀ numbers i = Decoded sequence numbers₀ numbers i

@@ -1,7 +1,7 @@
-use Rattle.entries.specs.Layout.{flag}
+use Rattle.layouts.specs.Layout.{flag}
 use borrow.Author.Needs.{needs}
-use Rattle.entries.proofs.results.flag.Statement.{statement}
-use Rattle.entries.proofs.results.flag.Tie as tie
+use Rattle.layouts.proofs.results.flag.Statement.{statement}
+use Rattle.layouts.proofs.results.flag.Tie as tie
 
 returns : tie.Need-returns
 unfolding flag

@@ -2,10 +2,10 @@ use mathlib.Core.Path.{_≡_, refl, sym, ap, _∙_}
 use native.Mathlib.Omega.{arith}
 use Prim.Native.Nat.{_+_, _-_}
 use Rattle.task_writer.proofs.Puts.{put-size}
-use Rattle.entries.proofs.RunWays.{LowDone, low-begin, low-more, low-end}
+use Rattle.layouts.proofs.RunWays.{LowDone, low-begin, low-more, low-end}
 use borrow.Author.Needs.{needs}
-use Rattle.entries.proofs.results.put_low.Statement.{statement}
-use Rattle.entries.proofs.results.put_low.Tie as tie
+use Rattle.layouts.proofs.results.put_low.Statement.{statement}
+use Rattle.layouts.proofs.results.put_low.Tie as tie
 
 abbrev Inv-loop : tie.InvT-loop
 Inv-loop out₀ at count x i₀ rest₀ place₀ out i rest place = LowDone count at x out₀ out i rest place

@@ -4,8 +4,8 @@ ghost use Prim.Native.Nat.{_/_, _≤_};
 ghost use lib.ListN.{length, getD, take};
 ghost use lib.Dec.{leb};
 ghost use Rattle.task.specs.Bounded.{every};
-ghost use Rattle.entries.specs.Layout.{numbers-of};
-ghost use Rattle.entries.specs.RunGiving.{numbered};
+ghost use Rattle.layouts.specs.Layout.{numbers-of};
+ghost use Rattle.layouts.specs.Giving.{numbered};
 
 // Whether every byte is 0 or 1. Linear.
 fn bits(state: &[u8]) -> bool

@@ -3,11 +3,11 @@ use native.Mathlib.Omega.{arith}
 use borrow.Author.Needs.{needs}
 use Prim.Native.Nat.{_+_, _-_}
 use Rattle.task_writer.proofs.Puts.{put-size}
-use Rattle.entries.proofs.LayWays.{BytesDone, bytes-begin, bytes-more, bytes-end}
-use Rattle.entries.proofs.laying.put_bytes.Statement.{statement}
-use Rattle.entries.proofs.laying.put_bytes.Tie as tie
-use Rattle.entries.proofs.laying.put_bytes.Reads as reads
-use Rattle.entries.proofs.laying.put_bytes.Lts as lts
+use Rattle.layouts.proofs.LayWays.{BytesDone, bytes-begin, bytes-more, bytes-end}
+use Rattle.layouts.proofs.laying.put_bytes.Statement.{statement}
+use Rattle.layouts.proofs.laying.put_bytes.Tie as tie
+use Rattle.layouts.proofs.laying.put_bytes.Reads as reads
+use Rattle.layouts.proofs.laying.put_bytes.Lts as lts
 use Rattle.task_writer.proofs.put.put_byte.Reads as put-byte-reads
 
 abbrev Inv-loop : tie.InvT-loop

@@ -1,24 +1,44 @@
--- What the code of the run's entry asks and gives, in the terms of specs/Entries.
+-- What the code of the layouts asks and gives, in the terms of specs/Layout.
 use Prim.Native.Nat.{ℕ, zero, suc, _*_, _/_, _%_, _≤_}
 use mathlib.Core.Path.{_≡_}
 use mathlib.Core.Bool.{Bool, true, false, _&&_}
 use mathlib.Core.List.{List, [], _∷_, _++_}
-use lib.ListN.{length, getD}
+use lib.ListN.{length, getD, take}
 use lib.Dec.{leb, eqb}
 use Rattle.task.specs.Bounded.{every}
 use Rattle.task.specs.Table.{Lent}
-use Rattle.task.specs.Check.{refusal, unless}
+use Rattle.task.specs.Check.{unless}
+use Rattle.task.specs.Rules.{LongEnough}
+use Rattle.task.specs.Words.{joined}
+use Rattle.file_format.specs.Bytes.{word-bytes, head-fields}
 use Rattle.plan.specs.declared.outcome.RunOutcome.{RunOutcome}
 use Rattle.plan.specs.declared.outcome.End.{End}
 use Rattle.plan.specs.declared.outcome.End.the-variants.{Ended, Stopped, Refused}
 use Rattle.normal_form.specs.Compiled.{padded}
-use Rattle.entries.specs.Layout.{low-bytes, numbers-of, flag}
-use Rattle.entries.specs.Entries.{RunEntry}
+use Rattle.layouts.specs.Layout.{low-bytes, numbers-of, flag, Laid}
 
-pub record RunEntryGives (w : RunEntry) (r : ℕ) (after result : List ℕ) : Type 0 where
+pub record Lays (w : Laid) (r : ℕ) (after : List ℕ) : Type 0 where
   pub told : r ≡ w .number
-  pub left : after ≡ w .state
-  pub held : result ≡ w .result
+  pub held : after ≡ w .bytes
+
+-- the layout of lent tables: their counted words, whatever stands behind them
+unfoldable pub flat-bytes : Lent → List ℕ
+flat-bytes l =
+    joined word-bytes (head-fields (l .head))
+    ++ (take (l .head .variables) (l .initial)
+    ++ (joined word-bytes (take (l .head .twins) (l .twins))
+    ++ (joined word-bytes (take (3 * l .head .formulas) (l .formulas))
+    ++ (joined word-bytes (take (3 * l .head .effects) (l .effects))
+    ++ joined word-bytes (take (3 * l .head .operators) (l .operators))))))
+
+-- lent tables within the limits
+pub record LayIn (l : Lent) : Type 0 where
+  pub long : LongEnough l
+  pub variables : l .head .variables ≤ 512
+  pub twins : l .head .twins ≤ 512
+  pub formulas : l .head .formulas ≤ 4096
+  pub effects : l .head .effects ≤ 4096
+  pub operators : l .head .operators ≤ 256
 
 -- the number of a run's refusal, over v variables: 16, 19, 20
 unfoldable pub numbered : (v : ℕ) → (state sequence : List ℕ) → ℕ → ℕ
@@ -46,10 +66,3 @@ outcome-bytes o =
 pub record ResultGives (o : RunOutcome) (n r : ℕ) (after : List ℕ) : Type 0 where
   pub told : r ≡ stop-of (o .end)
   pub held : after ≡ padded n (outcome-bytes o)
-
--- a run that nothing refuses, and what it is lent
-pub record RunIn (l : Lent) (state sequence numbers scratch : List ℕ) (r : ℕ) : Type 0 where
-  pub kept : refusal l ≡ 0
-  pub free : numbered (l .head .variables) state sequence r ≡ 0
-  pub words : length numbers ≡ 65535
-  pub bytes : length scratch ≡ 8192

@@ -5,10 +5,10 @@ use lib.Seq.{length-take-le}
 use Rattle.task.specs.Table.{lent}
 use Rattle.task_writer.proofs.Puts.{put-size}
 use Rattle.task_writer.proofs.WriteWays.{words-size}
-use Rattle.entries.proofs.LayWays.{head-put, tables-put}
+use Rattle.layouts.proofs.LayWays.{head-put, tables-put}
 use borrow.Author.Needs.{needs}
-use Rattle.entries.proofs.laying.put_tables.Statement.{statement}
-use Rattle.entries.proofs.laying.put_tables.Tie as tie
+use Rattle.layouts.proofs.laying.put_tables.Statement.{statement}
+use Rattle.layouts.proofs.laying.put_tables.Tie as tie
 
 slice-aggregate-put-words : tie.Need-slice-aggregate-put-words
 slice-aggregate-put-words c = search needs

@@ -1,10 +1,10 @@
 use mathlib.Core.Path.{_≡_, refl, sym, ap, _∙_}
 use native.Mathlib.Omega.{arith}
 use borrow.Author.Tests.{not-true, not-false}
-use Rattle.entries.proofs.RunWays.{wrong-length, wrong-bits, half-number, too-many, no-room, none-refused}
+use Rattle.layouts.proofs.RunWays.{wrong-length, wrong-bits, half-number, too-many, no-room, none-refused}
 use borrow.Author.Needs.{needs}
-use Rattle.entries.proofs.numbers.refused_run.Statement.{statement}
-use Rattle.entries.proofs.numbers.refused_run.Tie as tie
+use Rattle.layouts.proofs.numbers.refused_run.Statement.{statement}
+use Rattle.layouts.proofs.numbers.refused_run.Tie as tie
 
 returns : tie.Need-returns
 returns c = let a = c .before .before .before .args in wrong-length (a .variables) (a .state .now) (a .sequence .now) (a .room) (c .if1 .taken)

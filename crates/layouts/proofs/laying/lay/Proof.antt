@@ -1,9 +1,9 @@
 use Rattle.task.specs.Table.{lent}
-use Rattle.entries.specs.Giving.{flat-bytes}
-use Rattle.entries.proofs.LayWays.{too-short, fitted}
+use Rattle.layouts.specs.Giving.{flat-bytes}
+use Rattle.layouts.proofs.LayWays.{too-short, fitted}
 use borrow.Author.Needs.{needs}
-use Rattle.entries.proofs.laying.lay.Statement.{statement}
-use Rattle.entries.proofs.laying.lay.Tie as tie
+use Rattle.layouts.proofs.laying.lay.Statement.{statement}
+use Rattle.layouts.proofs.laying.lay.Tie as tie
 
 clear-bytes-requires : tie.Need-clear-bytes-requires
 clear-bytes-requires c κs = search needs

@@ -3,7 +3,8 @@ ghost use Prim.Native.Nat.{_+_, _≤_};
 ghost use lib.ListN.{length, take};
 ghost use Rattle.task.specs.Table.{lent};
 ghost use Rattle.task_writer.specs.Putting.{Put};
-ghost use Rattle.entries.specs.Giving.{ReadGives, LayIn, flat-bytes, laid};
+ghost use Rattle.layouts.specs.Layout.{laid};
+ghost use Rattle.layouts.specs.Giving.{Lays, LayIn, flat-bytes};
 use task::Head;
 use task_file::clear::clear_bytes;
 use task_writer::put::put_byte;
@@ -63,7 +64,7 @@ pub fn lay(
     tables: &mut [u8],
 ) -> u32
     requires { ⌜ LayIn (lent head (now initial) (now twins) (now formulas) (now effects) (now operators)) ⌝ }
-    ensures { λ r. ⌜ ReadGives (laid (flat-bytes (lent head (now (initial .entry)) (now (twins .entry)) (now (formulas .entry)) (now (effects .entry)) (now (operators .entry)))) (length (now (tables .entry)))) r (now (tables .exit)) ⌝ }
+    ensures { λ r. ⌜ Lays (laid (flat-bytes (lent head (now (initial .entry)) (now (twins .entry)) (now (formulas .entry)) (now (effects .entry)) (now (operators .entry)))) (length (now (tables .entry)))) r (now (tables .exit)) ⌝ }
 {
     clear_bytes(tables);
     let end = put_tables(head, initial, twins, formulas, effects, operators, tables);

@@ -19,9 +19,8 @@ use Rattle.task_writer.specs.Putting.{Put}
 use Rattle.task_writer.proofs.Puts.{put-none, put-then, put-same, put-size}
 use Rattle.task_file.proofs.ReadWays.{zeros-of, drop-zeros}
 use Rattle.normal_form.specs.Compiled.{padded}
-use Rattle.entries.specs.Layout.{tables-bytes}
-use Rattle.entries.specs.Entries.{zeros, read-given}
-use Rattle.entries.specs.Giving.{ReadGives, flat-bytes, laid}
+use Rattle.layouts.specs.Layout.{tables-bytes, laid-by, laid}
+use Rattle.layouts.specs.Giving.{Lays, flat-bytes}
 
 -- what a loop has put after i bytes
 pub record BytesDone (bytes : List ℕ) (count at : ℕ) (before out : List ℕ) (i place : ℕ) : Type 0 where
@@ -95,14 +94,14 @@ module _ (bytes out : List ℕ) {z out′ : List ℕ} {end : ℕ} (clear : z ≡
       in
       whole ∙ ap (λ (x : List ℕ). bytes ++ x) rest
 
-  pub too-short : {last : List ℕ} → length out′ < end → last ≡ replicate (length out′) 0 → ReadGives (laid bytes (length out)) 20 last
-  unfolding laid read-given
+  pub too-short : {last : List ℕ} → length out′ < end → last ≡ replicate (length out′) 0 → Lays (laid bytes (length out)) 20 last
+  unfolding laid laid-by
   too-short {last} h c =
       let t : leb (length bytes) (length out) ≡ false = lt-leb (length bytes) (length out) (omega (arith, end-is, size)) in
       record { told = rw t; held = rw t (c ∙ ap (λ (k : ℕ). replicate k 0) size) }
 
-  pub fitted : end ≤ length out′ → ReadGives (laid bytes (length out)) 0 out′
-  unfolding laid read-given
+  pub fitted : end ≤ length out′ → Lays (laid bytes (length out)) 0 out′
+  unfolding laid laid-by
   fitted h =
       let t : leb (length bytes) (length out) ≡ true = le-leb (length bytes) (length out) (omega (arith, end-is, size)) in
       record { told = rw t; held = rw t (put-padded h) }

@@ -2,11 +2,11 @@ use mathlib.Core.Path.{_≡_, refl, sym, ap, _∙_}
 use native.Mathlib.Omega.{arith}
 use lib.ListN.{length, length-replicate}
 use Rattle.task_writer.proofs.Puts.{put-size}
-use Rattle.entries.specs.Layout.{flag}
-use Rattle.entries.proofs.RunWays.{low-next, result-put}
+use Rattle.layouts.specs.Layout.{flag}
+use Rattle.layouts.proofs.RunWays.{low-next, result-put}
 use borrow.Author.Needs.{needs}
-use Rattle.entries.proofs.results.put_result.Statement.{statement}
-use Rattle.entries.proofs.results.put_result.Tie as tie
+use Rattle.layouts.proofs.results.put_result.Statement.{statement}
+use Rattle.layouts.proofs.results.put_result.Tie as tie
 
 stop-requires : tie.Need-stop-requires
 stop-requires c κs = search needs
