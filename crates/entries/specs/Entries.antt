@@ -36,11 +36,15 @@ pub record CompileEntry : Type 0 where
   pub out : List ℕ
   pub result : List ℕ
 
+-- a refusal: both outputs all 0
+abbrev pub no-file : (number out result : ℕ) → CompileEntry
+no-file k o r = record { number = k; out = zeros o; result = zeros r }
+
 -- by the number: the compiled task's file and its length, or all 0
 unfoldable pub compile-given : ℕ → List ℕ → (out result : ℕ) → CompileEntry
 compile-given zero file o r =
     record { number = 0; out = padded o file; result = padded r (low-bytes 4 (length file)) }
-compile-given (suc k) file o r = record { number = suc k; out = zeros o; result = zeros r }
+compile-given (suc k) file o r = no-file (suc k) o r
 
 -- 13, 15, then 20. With tables of its own, 15 is about the limits alone.
 unfoldable pub compile-number : Task → (out result : ℕ) → ℕ
@@ -51,7 +55,7 @@ compile-number t o r =
 
 unfoldable pub compile-entry-by : Outcome → (out result : ℕ) → CompileEntry
 compile-entry-by (accepted t) o r = compile-given (compile-number t o r) (file-of (finished t)) o r
-compile-entry-by (rejected k) o r = record { number = k; out = zeros o; result = zeros r }
+compile-entry-by (rejected k) o r = no-file k o r
 
 unfoldable pub compile-entry : List ℕ → (out result : ℕ) → CompileEntry
 compile-entry file o r = compile-entry-by (reading own file) o r
