@@ -29,12 +29,12 @@ use Rattle.compiler.specs.declared.CompileAnswer.{CompileAnswer}
 use Rattle.compiler.specs.declared.CompileAnswer.the-variants.{Compiled, Refused}
 use Rattle.compiler.specs.Fills.{Tables, tables, room-of}
 use Rattle.compiler.specs.Left.{answer-of, left}
-use Rattle.entries.specs.Layout.{low-bytes}
-use Rattle.entries.specs.Entries.{own, zeros, compile-given, compile-number, compile-entry, compile-entry-by}
+use Rattle.layouts.specs.Layout.{low-bytes}
+use Rattle.layouts.proofs.LayWays.{put-padded, size}
+use Rattle.layouts.proofs.RunWays.{low-next}
+use Rattle.entries.specs.Entries.{own, no-file, compile-given, compile-number, compile-entry, compile-entry-by}
 use Rattle.entries.specs.Giving.{TaskRead}
 use Rattle.entries.specs.CompileGiving.{CompileGives, CompileIn, given-file, own-room}
-use Rattle.entries.proofs.LayWays.{put-padded, size}
-use Rattle.entries.proofs.RunWays.{low-next}
 
 -- The file of tables that pass, and its length.
 and-false : (a : Bool) → a && false ≡ false
@@ -50,17 +50,16 @@ module _ (l : Lent) (out result : List ℕ) where
   file = file-of (task-of l)
 
   pub short-result :
-      {out′ result′ : List ℕ}
+      {r : ℕ} {out′ result′ : List ℕ}
       → length result < 4
-      → out′ ≡ replicate (length out) 0
-      → result′ ≡ replicate (length result) 0
-      → CompileGives (given-file (file-of (task-of l)) (length out) (length result)) 20 out′ result′
+      → CompileGives (no-file 20 (length out) (length result)) r out′ result′
+      → CompileGives (given-file (file-of (task-of l)) (length out) (length result)) r out′ result′
   unfolding given-file compile-given
-  short-result h a b =
+  short-result h g =
       let t : leb (length file) (length out) && leb 4 (length result) ≡ false =
       rw (lt-leb 4 (length result) h) (and-false (leb (length file) (length out)))
       in
-      rw t (record { told = refl; written = a; held = b })
+      rw t g
 
   module _ (kept : refusal l ≡ 0) {r : WriteAnswer} {out′ : List ℕ} (writes : wrote r out′ ≡ write-outcome l (length out)) where
     by-file : wrote r out′ ≡ file-outcome (file-of (task-of l)) (length out)
@@ -173,14 +172,13 @@ module _ (l : Lent) (kept : refusal l ≡ 0) where
 
   module _ {r : CompileAnswer} {i w f e p s : List ℕ} (leaves : left r (tables i w f e p s) ≡ compiling l own-room) where
     pub not-compiled :
-        (o n : ℕ) {k code : ℕ} {out result : List ℕ}
+        (o n : ℕ) {k number code : ℕ} {out result : List ℕ}
         → r ≡ Refused k
-        → code ≡ k
-        → out ≡ replicate o 0
-        → result ≡ replicate n 0
+        → number ≡ k
+        → CompileGives (no-file number o n) code out result
         → CompileGives (compile-given (compile-number (task-of l) o n) (file-of (finished (task-of l))) o n) code out result
     unfolding compile-number compile-given compiling
-    not-compiled o n {k} {code} {out} {result} q same a b = go (compile-refusal l own-room) refl
+    not-compiled o n {k} {number} {code} {out} {result} q same none = go (compile-refusal l own-room) refl
       where
         told : refused k ≡ outcome-by (compile-refusal l own-room) (finished source) own-room .answer
         told = ap answer-of (sym q) ∙ ap (λ (x : Outcome). x .answer) leaves
@@ -193,7 +191,7 @@ module _ (l : Lent) (kept : refusal l ≡ 0) where
             let g : refused k ≡ refused (suc m) = unfold outcome-by nothing-given in rw d at told in
             let k-is : k ≡ suc m = cc in
             rw (by-number (eqb (length (source .originals)) 0) (counts-kept (head-of (finished source))) _ m (sym own-refusal ∙ d))
-            (record { told = same ∙ k-is; written = a; held = b })
+            (record { told = none .told ∙ same ∙ k-is; written = none .written; held = none .held })
 
     module _ {head : Head} (q : r ≡ Compiled head) where
       success : compiling l own-room .answer ≡ compiled-head head
@@ -242,11 +240,11 @@ unfolding compile-entry compile-entry-by
 compile-read file o n t g = rw (t .read) g
 
 pub compile-no-file :
-    (file : List ℕ) (o n : ℕ) {k r : ℕ} {out result : List ℕ}
+    (file : List ℕ) (o n : ℕ) {k number r : ℕ} {out result : List ℕ}
     → reading own file ≡ rejected k
-    → r ≡ k
-    → out ≡ replicate o 0
-    → result ≡ replicate n 0
+    → number ≡ k
+    → CompileGives (no-file number o n) r out result
     → CompileGives (compile-entry file o n) r out result
 unfolding compile-entry compile-entry-by
-compile-no-file file o n e x a b = rw e (record { told = x; written = a; held = b })
+compile-no-file file o n e same none =
+    rw e (record { told = none .told ∙ same; written = none .written; held = none .held })

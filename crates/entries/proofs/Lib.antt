@@ -1,4 +1,3 @@
-pub mod LayWays
 pub mod ReadWays
 pub mod RunWays
 pub mod CompileWays

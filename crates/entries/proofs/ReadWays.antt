@@ -18,10 +18,11 @@ use Rattle.file_format.specs.Reading.{Lengths, Outcome, accepted, rejected, rea
 use Rattle.task_file.specs.Outcome.{ReadOutcome, padded, outcome-of, left, read-outcome}
 use Rattle.file_format.proofs.Parse.{Bytes}
 use Rattle.file_format.proofs.RoundTrip.{Accepted, written-read}
-use Rattle.entries.specs.Layout.{tables-bytes}
+use Rattle.layouts.specs.Layout.{tables-bytes, laid}
+use Rattle.layouts.specs.Giving.{Lays, flat-bytes, LayIn}
+use Rattle.layouts.proofs.LayWays.{flat-in}
 use Rattle.entries.specs.Entries.{own, read-entry, read-entry-by}
-use Rattle.entries.specs.Giving.{Own, ReadGives, refused-number, flat-bytes, laid, LayIn, TaskRead}
-use Rattle.entries.proofs.LayWays.{flat-in}
+use Rattle.entries.specs.Giving.{Own, TaskRead}
 
 -- tables with the words of an accepted task in front
 held-in : (file : List ℕ) (l : Lent) (t : Task) (i w f e o : List ℕ) → l ≡ lent-in t i w f e o → Accepted own file t → reading own file ≡ accepted t → TaskRead file l
@@ -94,10 +95,10 @@ lay-in {file} {l} t =
     }
 
 -- the two ways out of reading
-pub read-laid : {file : List ℕ} {l : Lent} (n : ℕ) {r : ℕ} {out : List ℕ} → TaskRead file l → ReadGives (laid (flat-bytes l) n) r out → ReadGives (read-entry file n) r out
-unfolding read-entry read-entry-by laid
+pub read-laid : {file : List ℕ} {l : Lent} (n : ℕ) {r : ℕ} {out : List ℕ} → TaskRead file l → Lays (laid (flat-bytes l) n) r out → Lays (read-entry file n) r out
+unfolding read-entry read-entry-by
 read-laid n t g = rw (t .read, ← (t .flat)) g
 
-pub read-refused : (file : List ℕ) (n : ℕ) {k r : ℕ} {out : List ℕ} → reading own file ≡ rejected k → r ≡ k → out ≡ replicate n 0 → ReadGives (read-entry file n) r out
+pub read-refused : (file : List ℕ) (n : ℕ) {k r : ℕ} {out : List ℕ} → reading own file ≡ rejected k → r ≡ k → out ≡ replicate n 0 → Lays (read-entry file n) r out
 unfolding read-entry read-entry-by
 read-refused file n e q c = rw e (record { told = q; held = c })

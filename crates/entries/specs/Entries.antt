@@ -2,7 +2,7 @@
 use Prim.Native.Nat.{ℕ, zero, suc, _+_, _-_, _*_, _%_}
 use mathlib.Core.Bool.{Bool, true, false, _&&_}
 use mathlib.Core.List.{List, []}
-use lib.ListN.{length, getD, replicate}
+use lib.ListN.{length, getD}
 use lib.Dec.{leb, eqb}
 use Rattle.task.specs.Bounded.{every}
 use Rattle.task.specs.Table.{Task}
@@ -13,32 +13,20 @@ use Rattle.file_format.specs.Bytes.{file-of}
 use Rattle.file_format.specs.Reading.{Lengths, Outcome, accepted, rejected, reading}
 use Rattle.normal_form.specs.Finished.{finished}
 use Rattle.normal_form.specs.Compiled.{padded}
-use Rattle.entries.specs.Layout.{low-bytes, tables-bytes, numbers-of, stop-number, run-bytes}
+use Rattle.layouts.specs.Layout.{low-bytes, tables-bytes, numbers-of, stop-number, run-bytes, Laid, zeros, laid}
 
 -- the entries hold their own tables, with room for every task: 5 is never given
 unfoldable pub own : Lengths
 own = record { initial = 512; twins = 256; formulas = 12288; effects = 12288; operators = 768 }
 
-abbrev pub zeros : ℕ → List ℕ
-zeros n = replicate {A = ℕ} n 0
-
 -- pnf_read ------------------------------------------------------------------------------------------------------------------------
 
-pub record ReadEntry : Type 0 where
-  pub number : ℕ
-  pub tables : List ℕ
-
--- by the number: the bytes and 0 past them, or all 0
-unfoldable pub read-given : ℕ → List ℕ → ℕ → ReadEntry
-read-given zero bytes n = record { number = 0; tables = padded n bytes }
-read-given (suc k) bytes n = record { number = suc k; tables = zeros n }
-
 -- 20: the buffer is shorter than the layout
-unfoldable pub read-entry-by : Outcome → ℕ → ReadEntry
-read-entry-by (accepted t) n = read-given (unless (leb (length (tables-bytes t)) n) 20 0) (tables-bytes t) n
-read-entry-by (rejected k) n = record { number = k; tables = zeros n }
+unfoldable pub read-entry-by : Outcome → ℕ → Laid
+read-entry-by (accepted t) n = laid (tables-bytes t) n
+read-entry-by (rejected k) n = record { number = k; bytes = zeros n }
 
-unfoldable pub read-entry : List ℕ → ℕ → ReadEntry
+unfoldable pub read-entry : List ℕ → ℕ → Laid
 read-entry file n = read-entry-by (reading own file) n
 
 -- pnf_compile ---------------------------------------------------------------------------------------------------------------------
@@ -48,11 +36,15 @@ pub record CompileEntry : Type 0 where
   pub out : List ℕ
   pub result : List ℕ
 
+-- a refusal: both outputs all 0
+abbrev pub no-file : (number out result : ℕ) → CompileEntry
+no-file k o r = record { number = k; out = zeros o; result = zeros r }
+
 -- by the number: the compiled task's file and its length, or all 0
 unfoldable pub compile-given : ℕ → List ℕ → (out result : ℕ) → CompileEntry
 compile-given zero file o r =
     record { number = 0; out = padded o file; result = padded r (low-bytes 4 (length file)) }
-compile-given (suc k) file o r = record { number = suc k; out = zeros o; result = zeros r }
+compile-given (suc k) file o r = no-file (suc k) o r
 
 -- 13, 15, then 20. With tables of its own, 15 is about the limits alone.
 unfoldable pub compile-number : Task → (out result : ℕ) → ℕ
@@ -63,7 +55,7 @@ compile-number t o r =
 
 unfoldable pub compile-entry-by : Outcome → (out result : ℕ) → CompileEntry
 compile-entry-by (accepted t) o r = compile-given (compile-number t o r) (file-of (finished t)) o r
-compile-entry-by (rejected k) o r = record { number = k; out = zeros o; result = zeros r }
+compile-entry-by (rejected k) o r = no-file k o r
 
 unfoldable pub compile-entry : List ℕ → (out result : ℕ) → CompileEntry
 compile-entry file o r = compile-entry-by (reading own file) o r

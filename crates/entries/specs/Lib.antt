@@ -1,5 +1,3 @@
-pub mod Layout
 pub mod Entries
 pub mod Giving
-pub mod RunGiving
 pub mod CompileGiving

@@ -6,7 +6,7 @@ ghost use Rattle.task.specs.Check.{refusal};
 ghost use Rattle.file_format.specs.Bytes.{file-of};
 ghost use Rattle.normal_form.specs.Finished.{finished};
 ghost use Rattle.compiler.specs.Fills.{tables};
-ghost use Rattle.entries.specs.Entries.{compile-number, compile-given, compile-entry};
+ghost use Rattle.entries.specs.Entries.{no-file, compile-number, compile-given, compile-entry};
 ghost use Rattle.entries.specs.Giving.{Own};
 ghost use Rattle.entries.specs.CompileGiving.{CompileGives, CompileIn, given-file, refused-compile};
 use compiler::CompileAnswer;
@@ -14,6 +14,15 @@ use task::Head;
 use task_file::ReadAnswer;
 use task_file::clear::clear_bytes;
 use task_writer::WriteAnswer;
+
+// A number, and both outputs all 0. Linear in them.
+fn refuse(number: u32, out: &mut [u8], result: &mut [u8]) -> u32
+    ensures { λ r. ⌜ CompileGives (no-file number (length (now (out .entry))) (length (now (result .entry)))) r (now (out .exit)) (now (result .exit)) ⌝ }
+{
+    clear_bytes(out);
+    clear_bytes(result);
+    number
+}
 
 // The file of tables that pass, and its length; 20 and all 0 if one of the two does not fit. One pass over the tables.
 fn give_file(
@@ -29,16 +38,15 @@ fn give_file(
     requires { ⌜ refusal (lent head (now initial) (now twins) (now formulas) (now effects) (now operators)) ≡ 0 ⌝ }
     ensures { λ r. ⌜ CompileGives (given-file (file-of (task-of (lent head (now (initial .entry)) (now (twins .entry)) (now (formulas .entry)) (now (effects .entry)) (now (operators .entry))))) (length (now (out .entry))) (length (now (result .entry)))) r (now (out .exit)) (now (result .exit)) ⌝ }
 {
-    clear_bytes(result);
     if result.len() < 4 {
-        clear_bytes(out);
-        return 20;
+        return refuse(20, out, result);
     }
+    clear_bytes(result);
     let r = task_writer::write::write(head, initial, twins, formulas, effects, operators, out);
     let WriteAnswer::Written(size) = r else {
         return 20;
     };
-    crate::results::put_low(result, 0, 4, size as u64);
+    layouts::results::put_low(result, 0, 4, size as u64);
     0
 }
 
@@ -87,9 +95,7 @@ fn compile_through(
         scratch,
     );
     let CompileAnswer::Compiled(compiled) = r else {
-        clear_bytes(out);
-        clear_bytes(result);
-        return refused(r);
+        return refuse(refused(r), out, result);
     };
     give_file(
         compiled,
@@ -157,9 +163,7 @@ fn read_and_compile(
 {
     let r = task_file::read::read(file, initial, twins, formulas, effects, operators);
     let ReadAnswer::Read(head) = r else {
-        clear_bytes(out);
-        clear_bytes(result);
-        return crate::reading::refused(r);
+        return refuse(crate::reading::refused(r), out, result);
     };
     compile_read(
         head,

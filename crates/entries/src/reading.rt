@@ -2,7 +2,8 @@
 ghost use mathlib.Core.Path.{_≡_};
 ghost use lib.ListN.{length};
 ghost use Rattle.entries.specs.Entries.{read-entry};
-ghost use Rattle.entries.specs.Giving.{Own, ReadGives, refused-number};
+ghost use Rattle.layouts.specs.Giving.{Lays};
+ghost use Rattle.entries.specs.Giving.{Own, refused-number};
 use task_file::ReadAnswer;
 use task_file::clear::clear_bytes;
 
@@ -27,20 +28,20 @@ fn read_through(
     tables: &mut [u8],
 ) -> u32
     requires { ⌜ Own (now initial) (now twins) (now formulas) (now effects) (now operators) ⌝ }
-    ensures { λ r. ⌜ ReadGives (read-entry (now (file .entry)) (length (now (tables .entry)))) r (now (tables .exit)) ⌝ }
+    ensures { λ r. ⌜ Lays (read-entry (now (file .entry)) (length (now (tables .entry)))) r (now (tables .exit)) ⌝ }
 {
     let r = task_file::read::read(file, initial, twins, formulas, effects, operators);
     let ReadAnswer::Read(head) = r else {
         clear_bytes(tables);
         return refused(r);
     };
-    crate::laying::lay(head, initial, twins, formulas, effects, operators, tables)
+    layouts::laying::lay(head, initial, twins, formulas, effects, operators, tables)
 }
 
 // Reads a task file: 0 and its tables, or the number and all 0. One pass over the file and one over its tables.
 #[no_mangle]
 pub extern "C" fn pnf_read(file: &[u8], tables: &mut [u8]) -> u32
-    ensures { λ r. ⌜ ReadGives (read-entry (now (file .entry)) (length (now (tables .entry)))) r (now (tables .exit)) ⌝ }
+    ensures { λ r. ⌜ Lays (read-entry (now (file .entry)) (length (now (tables .entry)))) r (now (tables .exit)) ⌝ }
 {
     let mut initial = [0u8; 512];
     let mut twins = [0u16; 256];

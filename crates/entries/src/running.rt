@@ -5,8 +5,7 @@ ghost use lib.ListN.{length};
 ghost use Rattle.task.specs.Table.{lent, task-of};
 ghost use Rattle.task.specs.Check.{refusal};
 ghost use Rattle.entries.specs.Entries.{run-number, run-given, run-entry};
-ghost use Rattle.entries.specs.Giving.{Own};
-ghost use Rattle.entries.specs.RunGiving.{RunIn, RunEntryGives};
+ghost use Rattle.entries.specs.Giving.{Own, RunIn, RunEntryGives};
 use task::Head;
 use task_file::ReadAnswer;
 use task_file::clear::clear_bytes;
@@ -28,7 +27,7 @@ fn run_free(
     requires { ⌜ RunIn (lent head (now initial) (now twins) (now formulas) (now effects) (now operators)) (now state) (now sequence) (now numbers) (now scratch) (length (now result)) ⌝ }
     ensures { λ r. ⌜ RunEntryGives (run-given zero (task-of (lent head (now (initial .entry)) (now (twins .entry)) (now (formulas .entry)) (now (effects .entry)) (now (operators .entry)))) (now (state .entry)) (now (sequence .entry)) (length (now (result .entry)))) r (now (state .exit)) (now (result .exit)) ⌝ }
 {
-    crate::numbers::decode(sequence, numbers);
+    layouts::numbers::decode(sequence, numbers);
     let count = sequence.len() / 2;
     let outcome = plan::run(
         head,
@@ -41,7 +40,7 @@ fn run_free(
         &numbers[0..count],
         scratch,
     );
-    crate::results::put_result(outcome, result)
+    layouts::results::put_result(outcome, result)
 }
 
 // On the tables that a file was read into: 16, 19, 20, then the run.
@@ -59,7 +58,7 @@ fn run_read(
     requires { ⌜ refusal (lent head (now initial) (now twins) (now formulas) (now effects) (now operators)) ≡ 0 ⌝ }
     ensures { λ r. ⌜ RunEntryGives (run-given (run-number (task-of (lent head (now (initial .entry)) (now (twins .entry)) (now (formulas .entry)) (now (effects .entry)) (now (operators .entry)))) (now (state .entry)) (now (sequence .entry)) (length (now (result .entry)))) (task-of (lent head (now (initial .entry)) (now (twins .entry)) (now (formulas .entry)) (now (effects .entry)) (now (operators .entry)))) (now (state .entry)) (now (sequence .entry)) (length (now (result .entry)))) r (now (state .exit)) (now (result .exit)) ⌝ }
 {
-    let number = crate::numbers::refused_run(
+    let number = layouts::numbers::refused_run(
         head.variables as usize,
         state,
         sequence,

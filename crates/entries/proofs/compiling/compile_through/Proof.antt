@@ -17,14 +17,11 @@ enum-known-r c = search needs
 enum-told : tie.Need-enum-told
 enum-told c = search needs
 
-clear-bytes-requires : tie.Need-clear-bytes-requires
-clear-bytes-requires c κs = search needs
-
-clear-bytes-requires-2 : tie.Need-clear-bytes-requires-2
-clear-bytes-requires-2 c κs = search needs
-
 refused-requires : tie.Need-refused-requires
 refused-requires c κs = search needs
+
+refuse-requires : tie.Need-refuse-requires
+refuse-requires c κs = search needs
 
 same-length : tie.Need-same-length
 same-length c = search needs
@@ -51,7 +48,7 @@ same-length-8 : tie.Need-same-length-8
 same-length-8 c = search needs
 
 returns : tie.Need-returns
-returns c = let a = c .before .before .before .before .before .before .before .before .before .before .before .before .before .before .before .before .before .before .before .before .before .before .before .before .before .before .before .before .before .before .before .before .before .before .before .before .before .before .before .before .before .before .before .args in not-compiled (lent (a .head) (a .initial .now) (a .twins .now) (a .formulas .now) (a .effects .now) (a .operators .now)) (c .before .before .before .before .before .before .before .before .before .before .before .before .before .before .before .before .before .before .before .before .before .before .before .before .before .before .before .before .before .before .before .before .before .before .before .before .before .before .before .before .before .before .before .pre .kept) (c .before .before .before .before .before .before .before .before .before .before .before .before .before .before .before .before .before .before .before .before .before .before .before .compile .ensures ∙ ap (compiling (lent (a .head) (a .initial .now) (a .twins .now) (a .formulas .now) (a .effects .now) (a .operators .now))) (room-own (c .before .before .before .before .before .before .before .before .before .before .before .before .before .before .before .before .before .before .before .before .before .before .before .before .before .before .before .before .before .before .before .before .before .before .before .before .before .before .before .before .before .before .before .pre))) (length (a .out .now)) (length (a .result .now)) (c .before .before .before .before .before .before .before .before .before .enum-told .given .1) (c .refused .ensures ∙ ap refused-compile (c .before .before .before .before .before .before .before .before .before .enum-told .given .1)) (c .before .before .before .before .before .before .before .clear-bytes .ensures) (c .before .before .before .clear-bytes2 .ensures)
+returns c = let a = c .before .before .before .before .before .before .before .before .before .before .before .before .before .before .before .before .before .before .before .before .before .before .before .before .before .before .before .before .before .before .before .before .before .before .before .before .before .before .before .before .before .before .args in not-compiled (lent (a .head) (a .initial .now) (a .twins .now) (a .formulas .now) (a .effects .now) (a .operators .now)) (c .before .before .before .before .before .before .before .before .before .before .before .before .before .before .before .before .before .before .before .before .before .before .before .before .before .before .before .before .before .before .before .before .before .before .before .before .before .before .before .before .before .before .pre .kept) (c .before .before .before .before .before .before .before .before .before .before .before .before .before .before .before .before .before .before .before .before .before .before .compile .ensures ∙ ap (compiling (lent (a .head) (a .initial .now) (a .twins .now) (a .formulas .now) (a .effects .now) (a .operators .now))) (room-own (c .before .before .before .before .before .before .before .before .before .before .before .before .before .before .before .before .before .before .before .before .before .before .before .before .before .before .before .before .before .before .before .before .before .before .before .before .before .before .before .before .before .before .pre))) (length (a .out .now)) (length (a .result .now)) (c .before .before .before .before .before .before .before .before .enum-told .given .1) (c .before .before .before .before .before .before .before .refused .ensures ∙ ap refused-compile (c .before .before .before .before .before .before .before .before .enum-told .given .1)) (c .before .before .before .before .refuse .ensures)
 
 give-file-requires : tie.Need-give-file-requires
 give-file-requires c κs = let a = c .before .before .before .before .before .before .before .before .before .before .before .before .before .before .before .before .before .before .before .before .before .before .before .before .before .before .before .before .before .before .before .before .before .before .before .before .before .before .before .before .before .before .args in compiled-kept (lent (a .head) (a .initial .now) (a .twins .now) (a .formulas .now) (a .effects .now) (a .operators .now)) (c .before .before .before .before .before .before .before .before .before .before .before .before .before .before .before .before .before .before .before .before .before .before .before .before .before .before .before .before .before .before .before .before .before .before .before .before .before .before .before .before .before .before .pre .kept) (c .before .before .before .before .before .before .before .before .before .before .before .before .before .before .before .before .before .before .before .before .before .before .compile .ensures ∙ ap (compiling (lent (a .head) (a .initial .now) (a .twins .now) (a .formulas .now) (a .effects .now) (a .operators .now))) (room-own (c .before .before .before .before .before .before .before .before .before .before .before .before .before .before .before .before .before .before .before .before .before .before .before .before .before .before .before .before .before .before .before .before .before .before .before .before .before .before .before .before .before .before .pre))) (c .before .before .before .before .before .before .before .before .r .given .1)
@@ -90,9 +87,8 @@ compile-through-spec =
     compile-requires
     enum-known-r
     enum-told
-    clear-bytes-requires
-    clear-bytes-requires-2
     refused-requires
+    refuse-requires
     same-length
     same-length-2
     same-length-3

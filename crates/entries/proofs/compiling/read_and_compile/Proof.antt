@@ -17,14 +17,11 @@ enum-known-r c = search needs
 enum-told : tie.Need-enum-told
 enum-told c = search needs
 
-clear-bytes-requires : tie.Need-clear-bytes-requires
-clear-bytes-requires c κs = search needs
-
-clear-bytes-requires-2 : tie.Need-clear-bytes-requires-2
-clear-bytes-requires-2 c κs = search needs
-
 refused-requires : tie.Need-refused-requires
 refused-requires c κs = search needs
+
+refuse-requires : tie.Need-refuse-requires
+refuse-requires c κs = search needs
 
 same-length : tie.Need-same-length
 same-length c = search needs
@@ -48,7 +45,7 @@ same-length-7 : tie.Need-same-length-7
 same-length-7 c = search needs
 
 returns : tie.Need-returns
-returns c = let a = c .before .before .before .before .before .before .before .before .before .before .before .before .before .before .before .before .before .before .before .before .before .before .before .before .before .before .before .before .before .before .before .before .before .before .before .args in compile-no-file (a .file .now) (length (a .out .now)) (length (a .result .now)) (file-refused (a .file .now) (a .initial .now) (a .twins .now) (a .formulas .now) (a .effects .now) (a .operators .now) (c .before .before .before .before .before .before .before .before .before .before .before .before .before .before .before .before .before .before .before .before .before .before .before .before .before .before .before .before .before .before .before .before .before .before .before .pre) (c .before .before .before .before .before .before .before .before .before .before .before .before .before .before .before .before .before .before .before .before .before .read .ensures) (c .before .before .before .before .before .before .before .before .before .enum-told .given .1)) (c .refused .ensures ∙ ap refused-number (c .before .before .before .before .before .before .before .before .before .enum-told .given .1)) (c .before .before .before .before .before .before .before .clear-bytes .ensures) (c .before .before .before .clear-bytes2 .ensures)
+returns c = let a = c .before .before .before .before .before .before .before .before .before .before .before .before .before .before .before .before .before .before .before .before .before .before .before .before .before .before .before .before .before .before .before .before .before .before .args in compile-no-file (a .file .now) (length (a .out .now)) (length (a .result .now)) (file-refused (a .file .now) (a .initial .now) (a .twins .now) (a .formulas .now) (a .effects .now) (a .operators .now) (c .before .before .before .before .before .before .before .before .before .before .before .before .before .before .before .before .before .before .before .before .before .before .before .before .before .before .before .before .before .before .before .before .before .before .pre) (c .before .before .before .before .before .before .before .before .before .before .before .before .before .before .before .before .before .before .before .before .read .ensures) (c .before .before .before .before .before .before .before .before .enum-told .given .1)) (c .before .before .before .before .before .before .before .refused .ensures ∙ ap refused-number (c .before .before .before .before .before .before .before .before .enum-told .given .1)) (c .before .before .before .before .refuse .ensures)
 
 compile-read-requires : tie.Need-compile-read-requires
 compile-read-requires c κs = let a = c .before .before .before .before .before .before .before .before .before .before .before .before .before .before .before .before .before .before .before .before .before .before .before .before .before .before .before .before .before .before .before .before .before .before .args in task-read (a .file .now) (a .initial .now) (a .twins .now) (a .formulas .now) (a .effects .now) (a .operators .now) (c .before .before .before .before .before .before .before .before .before .before .before .before .before .before .before .before .before .before .before .before .before .before .before .before .before .before .before .before .before .before .before .before .before .before .pre) (c .before .before .before .before .before .before .before .before .before .before .before .before .before .before .before .before .before .before .before .before .read .ensures) (c .before .before .before .before .before .before .before .before .r .given .1) (bytes-from (a .file .now) (λ i. c .before .before .before .before .before .before .before .before .before .before .before .before .before .before .before .before .before .before .before .before .before .before .before .before .before .before .before .before .before .before .before .before .before .shared-slice-known .given i .fits)) .kept
@@ -84,9 +81,8 @@ read-and-compile-spec =
     read-requires
     enum-known-r
     enum-told
-    clear-bytes-requires
-    clear-bytes-requires-2
     refused-requires
+    refuse-requires
     same-length
     same-length-2
     same-length-3

@@ -1,0 +1,2 @@
+pub mod LayWays
+pub mod RunWays
