@@ -3,7 +3,7 @@ use Prim.Native.Nat.{ℕ, zero, suc, _+_, _≤_, _<_}
 use native.Mathlib.Nat.{not-suc-le-zero}
 use native.Mathlib.Omega.{arith}
 use mathlib.Core.Path.{_≡_, refl, sym, ap, _∙_}
-use mathlib.Core.Bool.{Bool, true, false, cond, and-false}
+use mathlib.Core.Bool.{Bool, true, false, cond, and-false, true≢false}
 use mathlib.Core.List.{List, [], _∷_, _++_}
 use lib.ListN.{length, getD, take}
 use lib.Seq.{length-take-le, getD-take}
@@ -13,6 +13,7 @@ use Rattle.task.specs.Bounded.{upto}
 use Rattle.task.specs.Table.{Row}
 use Rattle.task.proofs.Bounded.{length-upto, getD-upto}
 use Rattle.normal_form.specs.Builder.{place, kept, same-row}
+use Rattle.normal_form.proofs.Growth.{same-row-itself}
 
 module _ {A : Type 0} (same : A → A → Bool) (x d : A) where
   pub place-first :
@@ -35,6 +36,26 @@ module _ {A : Type 0} (same : A → A → Bool) (x d : A) where
   place-none (y ∷ ys) none =
       let here : same y x ≡ false = none 0 (omega arith) in
       rw here (ap suc (place-none ys (λ j k. none (suc j) (omega arith))))
+
+  -- where the search ends without it, none is the same
+  pub place-past :
+      (l : List A) → length l ≤ place same x l → (j : ℕ) → j < length l → same (getD l j d) x ≡ true → ⊥
+  unfolding place
+  place-past [] h j k e = not-suc-le-zero k
+  place-past (y ∷ ys) h j k e = go (same y x) refl h j k e (place-past ys)
+    where
+      go :
+          (b : Bool)
+          → same y x ≡ b
+          → suc (length ys) ≤ cond b 0 (suc (place same x ys))
+          → (j : ℕ)
+          → j < suc (length ys)
+          → same (getD (y ∷ ys) j d) x ≡ true
+          → (length ys ≤ place same x ys → (j : ℕ) → j < length ys → same (getD ys j d) x ≡ true → ⊥)
+          → ⊥
+      go true q h j k e again = not-suc-le-zero h
+      go false q h zero k e again = true≢false (sym e ∙ q)
+      go false q h (suc j) k e again = again (omega arith) j (omega arith) e
 
 module _ {A : Type 0} (same : A → A → Bool) (x : A) where
   pub place-bound : (l : List A) → place same x l ≤ length l
@@ -98,6 +119,13 @@ module _ (r d : Row) (n : ℕ) (g : ℕ → Row) where
 
   pub row-none : ((j : ℕ) → j < n → same-row (g j) r ≡ false) → n ≡ place same-row r (upto n g)
   row-none = scan-none same-row r d (upto n g) n g (length-upto n g) (λ j h. getD-upto n g j d h)
+
+-- not there: none is the row
+pub row-missing :
+    (r : Row) (n : ℕ) (g : ℕ → Row) → n ≤ place same-row r (upto n g) → (i : ℕ) → i < n → g i ≡ r → ⊥
+row-missing r n g h i k e =
+    place-past same-row r r (upto n g) (omega (arith, length-upto n g)) i (omega (arith, length-upto n g))
+    (ap (λ (t : Row). same-row t r) (getD-upto n g i r k ∙ e) ∙ same-row-itself r)
 
 module _ (v w : ℕ) (o : List ℕ) (room : w ≤ length o) where
   pub twin-found :
