@@ -8,7 +8,7 @@ pub use joins::falsity;
 pub use joins::join;
 pub use joins::standing;
 pub use joins::truth;
-pub use rows::begin;
+pub use rows::first_rows;
 pub use rows::read_row;
 pub use rows::row;
 pub use rows::variable_row;

@@ -82,7 +82,7 @@ fn append_row(table: &mut [u16], n: usize, r: Words)
 }
 
 // False and true, the first two rows.
-pub fn begin(table: &mut [u16])
+pub fn first_rows(table: &mut [u16])
     requires { ⌜ 20480 ≤ length (now table) ⌝ }
     ensures { λ _. ⌜ now (table .exit) ≡ begun (now (table .entry)) ⌝ }
 {

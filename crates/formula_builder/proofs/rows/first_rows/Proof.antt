@@ -1,8 +1,8 @@
 use borrow.Author.Needs.{needs}
-use Rattle.formula_builder.proofs.rows.begin.Statement.{statement}
-use Rattle.formula_builder.proofs.rows.begin.Tie as tie
-use Rattle.formula_builder.proofs.rows.begin.Reads as reads
-use Rattle.formula_builder.proofs.rows.begin.Lts as lts
+use Rattle.formula_builder.proofs.rows.first_rows.Statement.{statement}
+use Rattle.formula_builder.proofs.rows.first_rows.Tie as tie
+use Rattle.formula_builder.proofs.rows.first_rows.Reads as reads
+use Rattle.formula_builder.proofs.rows.first_rows.Lts as lts
 use Rattle.formula_builder.specs.Index.{begun}
 use Rattle.formula_builder.proofs.rows.append_row.Reads as append-row-reads
 
@@ -23,5 +23,5 @@ returns : tie.Need-returns
 unfolding begun
 returns c = rw (c .before .before .append-row2 .ensures, c .before .before .before .before .before .before .append-row .ensures)
 
-pub begin-spec : {M : Type 1} → statement M
-begin-spec = tie.close (tie.spec append-row-requires append-row-requires-2 same-length returns)
+pub first-rows-spec : {M : Type 1} → statement M
+first-rows-spec = tie.close (tie.spec append-row-requires append-row-requires-2 same-length returns)
