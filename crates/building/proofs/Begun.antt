@@ -1,7 +1,7 @@
--- Building from the start. Assumes nothing.
+-- Building in parts, from the start. Assumes nothing.
 use Prim.Native.Nat.{ℕ, zero, suc, _+_, _*_, _≤_, _<_}
 use native.Mathlib.Omega.{arith}
-use native.Mathlib.Decide.{ℕ-discrete}
+use native.Mathlib.Numerals.{add-one}
 use mathlib.Core.Path.{_≡_, refl, sym, ap, _∙_}
 use mathlib.Core.Bool.{Bool, true, false, true≢false}
 use mathlib.Core.List.{List, [], _∷_, _++_}
@@ -9,143 +9,215 @@ use lib.ListN.{length, getD, take, set, length-set}
 use lib.Seq.{getD-set-same, getD-set-other}
 use Rattle.task.specs.Bounded.{upto}
 use Rattle.task.specs.Table.{Row, row-at}
-use Rattle.normal_form.specs.Builder.{St, Got, Build, bind, start, plain}
+use Rattle.normal_form.specs.Builder.{St, Got, Build, give, bind, each, start, plain}
 use Rattle.normal_form.specs.Growth.{Grows, Steady}
-use Rattle.normal_form.proofs.Growth.{steady-bind, steady-each}
+use Rattle.normal_form.proofs.ShapeSizes.{each-grows}
+use Rattle.formula_builder.specs.declared.Words.{Words}
 use Rattle.formula_builder.specs.declared.Frame.{Frame}
 use Rattle.formula_builder.specs.declared.Size.{Size}
 use Rattle.formula_builder.specs.declared.Step.{Step}
-use Rattle.formula_builder.specs.Held.{Store, store, held, size-of, Ready, Within}
+use Rattle.formula_builder.specs.Held.{Store, store, row-of, held, size-of, Ready, Within}
 use Rattle.formula_builder.proofs.Steps.{within-before}
 use Rattle.images.specs.Images.{image-at, memo-place, Memo, Images, Asks}
 use Rattle.images.proofs.Memos.{steady-image-at}
 use Rattle.changes.specs.Stands.{Stands, Reaches}
-use Rattle.changes.proofs.Standing.{stands-next}
-use Rattle.operators.specs.Operator.{operators-built, operator-here, BuildsAll}
+use Rattle.changes.proofs.Standing.{stands-next, makes-row}
+use Rattle.operators.specs.Operator.{operator-built, operators-built, operator-here, BuildsOperator}
 use Rattle.operators.proofs.InOrder.{steady-operator-built}
-use Rattle.building.specs.Whole.{whole-built, Blank, Whole, FromStart}
+use Rattle.building.specs.declared.Progress.{Progress}
+use Rattle.building.specs.Taken.{size-at, Fresh, Started, Begun, Blank, Stood, Taken, Takes, Took, whole-built, Whole, FromStart}
 
-abbrev pub begun : Size
-begun = record { rows = 2; twins = 0 }
+abbrev pub begun : Progress
+begun = record { rows = 2; twins = 0; operators = 0; full = false }
 
-steady-operators : (frame : Frame) (formulas effects operators : List ℕ) (n : ℕ) → Steady (operators-built frame formulas effects operators n)
-unfolding operators-built operator-here
-steady-operators frame formulas effects operators n =
-    steady-each n (λ o. steady-operator-built frame formulas effects (row-at operators o .kind) (row-at operators o .a))
+-- there is no room for false and true
+pub no-beginning : (frame : Frame) (table : List ℕ) (p : Progress) → frame .rows < 2 → p .operators ≡ 0 → p .full ≡ true → Begun frame table p
+unfolding start
+no-beginning frame table p h e q =
+    record {
+      none = e;
+      done = λ g. absurd (true≢false (sym q ∙ g));
+      over = λ _ w. omega (arith, w .rows);
+    }
 
-steady-whole :
-    (frame : Frame) (formulas effects operators : List ℕ) (n goal : ℕ)
-    → Steady (whole-built frame formulas effects operators n goal)
-unfolding whole-built
-steady-whole frame formulas effects operators n goal =
-    steady-bind (steady-operators frame formulas effects operators n) (λ _. steady-image-at frame formulas plain goal)
-
-module _ (frame : Frame) (formulas effects operators : List ℕ) (count goal : ℕ) (table originals scratch : List ℕ) (b : Blank frame formulas effects operators count goal table originals scratch) where
-  -- there is no room for false and true
-  pub no-beginning :
-      {after : Store} {r : Step}
-      → frame .rows < 2
-      → r .full ≡ true
-      → FromStart (whole-built frame formulas effects operators count goal) frame formulas after scratch r
-  unfolding start
-  no-beginning h q =
-      record {
-        done = λ e. absurd (true≢false (sym q ∙ e));
-        over = λ _ w.
-            let v = within-before (steady-whole frame formulas effects operators count goal .grow start) w in
-            omega (arith, v .rows);
-      }
-
-  module _ (room : 2 ≤ frame .rows) where
+pub beginning : (frame : Frame) (table : List ℕ) → Fresh frame table → 2 ≤ frame .rows → Begun frame (set table 3 1) begun
+beginning frame table b room =
+    record { none = refl; done = λ _. started; over = λ q _. true≢false (sym q) }
+  where
     other : (j : ℕ) → (j ≡ 3 → ⊥) → getD (set table 3 1) j 0 ≡ 0
-    other j h = getD-set-other table 3 j 1 0 h ∙ b .blank-table j
+    other j h = getD-set-other table 3 j 1 0 h ∙ b .blank j
 
-    begun-held : held begun (store (set table 3 1) originals) ≡ start
-    unfolding held start upto row-at
-    begun-held =
-        let one : getD (set table 3 1) 3 0 ≡ 1 = getD-set-same table 3 1 0 (omega (arith, b .rows)) in
-        λ i.
+    one : getD (set table 3 1) 3 0 ≡ 1
+    one = getD-set-same table 3 1 0 (omega (arith, b .room))
+
+    stand : (originals : List ℕ) → start ≡ held (size-at begun) (store (set table 3 1) originals)
+    stand originals =
+        unfold held start upto row-at in
+        sym
+        (λ i.
         record {
           rows =
               record { kind = other 0 (λ e. omega arith) i; a = other 1 (λ e. omega arith) i; b = other 2 (λ e. omega arith) i }
               ∷ record { kind = one i; a = other 4 (λ e. omega arith) i; b = other 5 (λ e. omega arith) i }
               ∷ [];
           twins = [];
+        })
+
+    started : Started frame (set table 3 1) begun
+    started =
+        record {
+          state = stand;
+          rows =
+              record { within = room; room = omega (arith, b .room, length-set table 3 1); limit = b .limit };
+          two = omega arith;
+          twins = refl;
+          past-rows = λ j h. other j (λ e. omega arith);
         }
 
-    pub begun-stands : Stands frame formulas effects begun (store (set table 3 1) originals) scratch
-    begun-stands =
+-- Between the parts.
+module _ (frame : Frame) (formulas effects operators : List ℕ) where
+  none-taken : (n : ℕ) → n ≡ 0 → operators-built frame formulas effects operators n start .st ≡ start
+  unfolding operators-built each give
+  none-taken n e = rw e refl
+
+  pub taken-none :
+      {table originals scratch : List ℕ} {p : Progress}
+      → Blank frame formulas effects originals scratch
+      → Begun frame table p
+      → Taken frame formulas effects operators (store table originals) scratch p
+  taken-none {table} {originals} {scratch} {p} b g =
+      record {
+        done = λ q.
+            let s = g .done q in
+            record {
+              state = none-taken (p .operators) (g .none) ∙ s .state originals;
+              stands =
+                  record {
+                    source = b .source;
+                    effect-source = b .effect-source;
+                    ready =
+                        record {
+                          rows = s .rows;
+                          two = s .two;
+                          twins = omega (arith, s .twins);
+                          originals = b .twins;
+                          variables = b .variables;
+                          past-rows = s .past-rows;
+                          past-twins = λ j h. b .blank-originals j;
+                        };
+                    memo = record { known = λ p i r h e. absurd (omega (arith, e, b .blank-scratch (memo-place frame p i))) };
+                    clean = λ j h. b .blank-scratch j;
+                  };
+            };
+        over = λ q w. g .over q (rw (none-taken (p .operators) (g .none)) at w);
+      }
+
+  steady-here : (o : ℕ) → Steady (operator-here frame formulas effects operators o)
+  unfolding operator-here
+  steady-here o = steady-operator-built frame formulas effects (row-at operators o .kind) (row-at operators o .a)
+
+  more-grows : (n : ℕ) → Grows (operators-built frame formulas effects operators n start .st) (operators-built frame formulas effects operators (n + 1) start .st)
+  unfolding operators-built
+  more-grows n = each-grows (operator-here frame formulas effects operators) start steady-here n (n + 1) (omega arith)
+
+  module _ {s : Store} {scratch : List ℕ} {p : Progress} (t : Takes frame formulas effects operators s scratch p) where
+    -- without room it stays so
+    pub took-full : {r : Progress} → p .full ≡ true → r .operators ≡ p .operators + 1 → r .full ≡ true → Took frame formulas effects operators s scratch p r
+    took-full {r} q e f =
         record {
-          source = b .source;
-          effect-source = b .effect-source;
-          ready =
+          next = e;
+          taken =
               record {
-                rows =
-                    record {
-                      within = room;
-                      room = omega (arith, b .rows, length-set table 3 1);
-                      limit = b .rows-limit;
-                    };
-                two = omega arith;
-                twins = omega arith;
-                originals = b .twins;
-                variables = b .variables;
-                past-rows = λ j h. other j (λ e. omega arith);
-                past-twins = λ j h. b .blank-originals j;
+                done = λ g. absurd (true≢false (sym f ∙ g));
+                over = λ _ w. t .taken .over q (within-before (more-grows (p .operators)) (rw e at w));
               };
-          memo = record { known = λ p i r h e. absurd (omega (arith, e, b .blank-scratch (memo-place frame p i))) };
-          clean = λ j h. b .blank-scratch j;
         }
 
-    pub begun-asks : BuildsAll frame formulas effects operators count begun (store (set table 3 1) originals) scratch
-    begun-asks =
-        record {
-          stands = begun-stands;
-          words = b .words;
-          limit = b .limit;
-          precondition = b .precondition;
-          effect = b .effect;
-        }
+    module _ (q : p .full ≡ false) (w : Words) (words : row-of w ≡ row-at operators (p .operators)) where
+      stood : Stood (operators-built frame formulas effects operators (p .operators) start .st) frame formulas effects (size-at p) s scratch
+      stood = t .taken .done q
 
-    module _ {mid : Store} {s2 : List ℕ} (r : Step) (x : Reaches (operators-built frame formulas effects operators count) frame formulas begun (store (set table 3 1) originals) mid scratch s2 (r .full) (size-of r)) where
-      pub operators-full :
-          r .full ≡ true
-          → FromStart (whole-built frame formulas effects operators count goal) frame formulas mid s2 r
-      unfolding whole-built bind
-      operators-full q =
-          let g = operators-built frame formulas effects operators count start in
+      pub asks-operator : BuildsOperator frame formulas effects (size-at p) s scratch (w .kind) (w .a)
+      asks-operator =
           record {
-            done = λ e. absurd (true≢false (sym q ∙ e));
-            over = λ _ w.
-                x .over q
-                (rw begun-held (within-before (steady-image-at frame formulas plain goal .grow (g .st)) w));
+            stands =
+                record { stands = stood .stands; effect = omega (arith, ap (λ (r : Row). r .a) words, t .effect) };
+            formula = omega (arith, ap (λ (r : Row). r .kind) words, t .precondition);
           }
 
-      pub goal-asks : r .full ≡ false → length s2 ≡ length scratch → Asks frame formulas (size-of r) mid s2 goal
-      goal-asks q long =
-          let s = stands-next begun-stands x q long in
-          record { source = s .source; ready = s .ready; memo = s .memo; formula = b .goal-there }
+      one-more :
+          operators-built frame formulas effects operators (p .operators + 1) start .st
+          ≡ operator-built frame formulas effects (w .kind) (w .a) (held (size-at p) s) .st
+      unfolding operators-built operator-here each bind give
+      one-more =
+          let step : Row → St → St = λ r m. operator-built frame formulas effects (r .kind) (r .a) m .st in
+          rw (add-one (p .operators))
+          (ap (step (row-at operators (p .operators))) (stood .state) ∙ ap (λ (r : Row). step r (held (size-at p) s)) (sym words))
+
+      pub took :
+          {after : Store} {s2 : List ℕ} {r : Progress} (z : Step)
+          → Reaches (operator-built frame formulas effects (w .kind) (w .a)) frame formulas (size-at p) s after scratch s2 (z .full) (size-of z)
+          → length s2 ≡ length scratch
+          → r ≡ record { rows = z .rows; twins = z .twins; operators = p .operators + 1; full = z .full }
+          → Took frame formulas effects operators after s2 p r
+      took {after} {s2} {r} z y long e = rw e it-is
+        where
+          it-is : Took frame formulas effects operators after s2 p (record { rows = z .rows; twins = z .twins; operators = p .operators + 1; full = z .full })
+          it-is =
+              record {
+                next = refl;
+                taken =
+                    record {
+                      done = λ g.
+                          record { state = one-more ∙ y .done g .state; stands = stands-next (stood .stands) y g long };
+                      over = λ g v. y .over g (rw one-more at v);
+                    };
+              }
+
+  -- The goal, behind all operators.
+  module _ {s : Store} {scratch : List ℕ} {p : Progress} (count goal : ℕ) (all : p .operators ≡ count) (t : Taken frame formulas effects operators s scratch p) where
+    pub operators-full :
+        {after : Store} {s2 : List ℕ} {z : Step}
+        → p .full ≡ true
+        → z .full ≡ true
+        → FromStart (whole-built frame formulas effects operators count goal) frame formulas effects after s2 z
+    unfolding whole-built bind
+    operators-full q f =
+        record {
+          done = λ g. absurd (true≢false (sym f ∙ g));
+          over = λ _ w.
+              t .over q
+              (rw all
+              (within-before (steady-image-at frame formulas plain goal .grow (operators-built frame formulas effects operators count start .st)) w));
+        }
+
+    module _ (q : p .full ≡ false) where
+      before : operators-built frame formulas effects operators count start .st ≡ held (size-at p) s
+      before = ap (λ (n : ℕ). operators-built frame formulas effects operators n start .st) (sym all) ∙ t .done q .state
+
+      pub goal-asks : goal < frame .formulas → Asks frame formulas (size-at p) s scratch goal
+      goal-asks h =
+          let k = t .done q .stands in
+          record { source = k .source; ready = k .ready; memo = k .memo; formula = h }
 
       pub goal-built :
-          {after : Store} {s3 : List ℕ} {z : Step}
-          → r .full ≡ false
-          → Images (image-at frame formulas plain goal) frame formulas (size-of r) mid after s2 s3 z
-          → FromStart (whole-built frame formulas effects operators count goal) frame formulas after s3 z
+          {after : Store} {s2 : List ℕ} {z : Step}
+          → Images (image-at frame formulas plain goal) frame formulas (size-at p) s after scratch s2 z
+          → length s2 ≡ length scratch
+          → FromStart (whole-built frame formulas effects operators count goal) frame formulas effects after s2 z
       unfolding whole-built bind
-      goal-built q y =
-          let before : operators-built frame formulas effects operators count start .st ≡ held (size-of r) mid =
-          ap (λ (s : St). operators-built frame formulas effects operators count s .st) (sym begun-held) ∙ x .done q .state in
+      goal-built y long =
           let same = ap (image-at frame formulas plain goal) before in
           record {
-            done = λ e.
-                let d = y .builds .done e in
+            done = λ g.
+                let d = y .builds .done g in
                 record {
-                  value = ap (λ (g : Got ℕ). g .value) same ∙ d .value;
-                  state = ap (λ (g : Got ℕ). g .st) same ∙ d .state;
-                  ready = d .ready;
-                  memo = y .memo e;
-                  clean = λ j h. y .rest j h ∙ x .rest j h ∙ b .blank-scratch j;
-                  below = d .below;
+                  value = ap (λ (x : Got ℕ). x .value) same ∙ d .value;
+                  stood =
+                      record {
+                        state = ap (λ (x : Got ℕ). x .st) same ∙ d .state;
+                        stands = stands-next (t .done q .stands) (makes-row y .reaches) g long;
+                      };
                 };
-            over = λ e w. y .builds .over e (rw (ap (λ (g : Got ℕ). g .st) same) at w);
+            over = λ g w. y .builds .over g (rw (ap (λ (x : Got ℕ). x .st) same) at w);
           }

@@ -14,7 +14,7 @@ use Rattle.formula_builder.specs.declared.Frame.{Frame}
 use Rattle.images.specs.Images.{source-rows, tree, image-at}
 use Rattle.conditions.specs.Conditions.{effect-rows, effect-tree}
 use Rattle.operators.specs.Operator.{all-changes, operator-built, operator-here, operators-built}
-use Rattle.building.specs.Whole.{whole-built}
+use Rattle.building.specs.Taken.{whole-built}
 
 -- steps that leave the same states leave the same state
 each-same :

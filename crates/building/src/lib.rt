@@ -1,4 +1,13 @@
-// All that is built before the first rule: false and true, the operators in order, the goal last.
-mod whole;
+// Building the formulas of a compiled task, in parts: begin, then one operator after another. The goal, built last, is an image.
+mod taking;
 
-pub use whole::build;
+pub use taking::begin;
+pub use taking::take_operator;
+
+// What stands between two parts: so many rows and twins, so many operators taken; or that there was no room.
+pub struct Progress {
+    pub rows: usize,
+    pub twins: usize,
+    pub operators: usize,
+    pub full: bool,
+}

@@ -1,3 +1,1 @@
-pub mod Linked
-pub mod Filled
 pub mod Ways

@@ -18,12 +18,12 @@ use Rattle.normal_form.proofs.Compiled.{by-tables, by-twins, by-scratch, by-roo
 use Rattle.normal_form.proofs.ShapeAssembled.{assemble-effects}
 use Rattle.normal_form.proofs.ShapeFinished.{finished-operators}
 use Rattle.normal_form.proofs.ShapePassed.{finished-variables}
-use Rattle.compiler.specs.declared.Passes.{Passes}
+use Rattle.filling.specs.declared.Passes.{Passes}
+use Rattle.filling.specs.Fills.{Tables, room-of, Begins, Holds, Fills}
+use Rattle.filling.proofs.Linked.{source, its-variables}
 use Rattle.compiler.specs.declared.CompileAnswer.{CompileAnswer}
 use Rattle.compiler.specs.declared.CompileAnswer.the-variants.{Compiled, Refused}
-use Rattle.compiler.specs.Fills.{Tables, room-of, Begins, Holds, Fills}
 use Rattle.compiler.specs.Left.{left, Blanked, Passed, Least}
-use Rattle.compiler.proofs.Linked.{source, its-variables}
 
 -- tables as long are cleared alike
 pub blanked-as : {x y z : Tables} → room-of y ≡ room-of x → Blanked y z → Blanked x z
@@ -129,29 +129,32 @@ module _ (l : Lent) (x : Tables) where
         → Begins l rows twins effects x
     begins rows twins effects v limit o e r least w w' f =
         record {
-          passes = p .passes;
-          untwinned = p .untwinned;
-          memo = p .memo;
-          allows =
+          lends =
               record {
-                rows-allowed = λ k a b. r .most k a (omega arith);
-                twins-allowed = λ k a b d. w' .most k (omega arith) (w .most k d (omega arith));
-                effects-allowed = λ k a b. f .most k a (omega arith);
+                passes = p .passes;
+                untwinned = p .untwinned;
+                memo = p .memo;
+                allows =
+                    record {
+                      rows-allowed = λ k a b. r .most k a (omega arith);
+                      twins-allowed = λ k a b d. w' .most k (omega arith) (w .most k d (omega arith));
+                      effects-allowed = λ k a b. f .most k a (omega arith);
+                    };
+                rows-space = omega (arith, r .second);
+                rows-limit = r .first;
+                twins-space = omega (arith, w .first, w' .second);
+                variables-limit = omega (arith, w' .first);
+                initial-space = omega (arith, w .second, w' .second);
+                effects-space = omega (arith, f .second);
+                effects-limit = f .first;
+                one-effect = f .most 1 (omega arith) (omega arith);
+                operators-space = o;
+                blank-initial = p .blank .initial;
+                blank-effects = p .blank .effects;
+                blank-operators = p .blank .operators;
               };
-          rows-space = omega (arith, r .second);
-          rows-limit = r .first;
-          twins-space = omega (arith, w .first, w' .second);
-          variables-limit = omega (arith, w' .first);
-          initial-space = omega (arith, w .second, w' .second);
-          effects-space = omega (arith, f .second);
-          effects-limit = f .first;
-          one-effect = f .most 1 (omega arith) (omega arith);
-          operators-space = o;
-          blank-initial = p .blank .initial;
           blank-twins = p .blank .twins;
           blank-formulas = p .blank .formulas;
-          blank-effects = p .blank .effects;
-          blank-operators = p .blank .operators;
           blank-scratch = p .blank .scratch;
         }
 

@@ -1,8 +1,8 @@
 // Compiling a source that passes, into tables that are all 0.
 use crate::CompileAnswer;
 use crate::clear::clear_all;
-use crate::fill::fill;
 use crate::least::least;
+use filling::fill;
 use task::Head;
 use task::clear::clear_words;
 ghost use mathlib.Core.Path.{_≡_};

@@ -10,7 +10,7 @@ use mathlib.Core.Path.{_≡_, sym, ap, _∙_}
 use native.Mathlib.Omega.{arith}
 use Rattle.task.specs.Table.{lent}
 use Rattle.normal_form.specs.Compiled.{compiling}
-use Rattle.compiler.specs.Fills.{tables}
+use Rattle.filling.specs.Fills.{tables}
 use Rattle.compiler.proofs.Ways.{blanked-self, same-room, refuses-tables, refuses-twins, refuses-scratch}
 
 -- src/call.rt:31:5
@@ -23,27 +23,27 @@ check-requires c κs = search needs
 
 -- src/call.rt:34:9
 same-length : tie.Need-same-length
-same-length c = search needs
+same-length c = c .before .before .before .before .before .before .before .before .before .before .before .before .before .before .clear-all .kept .0
 
 -- src/call.rt:34:9
 same-length-2 : tie.Need-same-length-2
-same-length-2 c = search needs
+same-length-2 c = c .before .before .before .before .before .before .before .before .before .before .before .before .before .before .clear-all .kept .1 .0
 
 -- src/call.rt:34:9
 same-length-3 : tie.Need-same-length-3
-same-length-3 c = search needs
+same-length-3 c = c .before .before .before .before .before .before .before .before .before .before .before .before .before .before .clear-all .kept .1 .1 .0
 
 -- src/call.rt:34:9
 same-length-4 : tie.Need-same-length-4
-same-length-4 c = search needs
+same-length-4 c = c .before .before .before .before .before .before .before .before .before .before .before .before .before .before .clear-all .kept .1 .1 .1 .0
 
 -- src/call.rt:34:9
 same-length-5 : tie.Need-same-length-5
-same-length-5 c = search needs
+same-length-5 c = c .before .before .before .before .before .before .before .before .before .before .before .before .before .before .clear-all .kept .1 .1 .1 .1 .0
 
 -- src/call.rt:34:9
 same-length-6 : tie.Need-same-length-6
-same-length-6 c = search needs
+same-length-6 c = c .before .before .before .before .before .before .before .before .before .before .before .before .before .before .clear-all .kept .1 .1 .1 .1 .1 .0
 
 -- src/call.rt:34:9
 returns : tie.Need-returns
@@ -51,27 +51,27 @@ returns c = refuses-tables (lent (c .before .before .before .before .before .bef
 
 -- src/call.rt:37:9
 same-length-7 : tie.Need-same-length-7
-same-length-7 c = search needs
+same-length-7 c = c .before .before .before .before .before .before .before .before .before .before .before .before .before .before .before .before .clear-all .kept .0
 
 -- src/call.rt:37:9
 same-length-8 : tie.Need-same-length-8
-same-length-8 c = search needs
+same-length-8 c = c .before .before .before .before .before .before .before .before .before .before .before .before .before .before .before .before .clear-all .kept .1 .0
 
 -- src/call.rt:37:9
 same-length-9 : tie.Need-same-length-9
-same-length-9 c = search needs
+same-length-9 c = c .before .before .before .before .before .before .before .before .before .before .before .before .before .before .before .before .clear-all .kept .1 .1 .0
 
 -- src/call.rt:37:9
 same-length-10 : tie.Need-same-length-10
-same-length-10 c = search needs
+same-length-10 c = c .before .before .before .before .before .before .before .before .before .before .before .before .before .before .before .before .clear-all .kept .1 .1 .1 .0
 
 -- src/call.rt:37:9
 same-length-11 : tie.Need-same-length-11
-same-length-11 c = search needs
+same-length-11 c = c .before .before .before .before .before .before .before .before .before .before .before .before .before .before .before .before .clear-all .kept .1 .1 .1 .1 .0
 
 -- src/call.rt:37:9
 same-length-12 : tie.Need-same-length-12
-same-length-12 c = search needs
+same-length-12 c = c .before .before .before .before .before .before .before .before .before .before .before .before .before .before .before .before .clear-all .kept .1 .1 .1 .1 .1 .0
 
 -- src/call.rt:37:9
 returns-2 : tie.Need-returns-2
@@ -99,27 +99,27 @@ add-if3 c = search needs
 
 -- src/call.rt:40:9
 same-length-13 : tie.Need-same-length-13
-same-length-13 c = search needs
+same-length-13 c = c .before .before .before .before .before .before .before .before .before .before .before .before .before .before .before .before .before .before .before .clear-all .kept .0
 
 -- src/call.rt:40:9
 same-length-14 : tie.Need-same-length-14
-same-length-14 c = search needs
+same-length-14 c = c .before .before .before .before .before .before .before .before .before .before .before .before .before .before .before .before .before .before .before .clear-all .kept .1 .0
 
 -- src/call.rt:40:9
 same-length-15 : tie.Need-same-length-15
-same-length-15 c = search needs
+same-length-15 c = c .before .before .before .before .before .before .before .before .before .before .before .before .before .before .before .before .before .before .before .clear-all .kept .1 .1 .0
 
 -- src/call.rt:40:9
 same-length-16 : tie.Need-same-length-16
-same-length-16 c = search needs
+same-length-16 c = c .before .before .before .before .before .before .before .before .before .before .before .before .before .before .before .before .before .before .before .clear-all .kept .1 .1 .1 .0
 
 -- src/call.rt:40:9
 same-length-17 : tie.Need-same-length-17
-same-length-17 c = search needs
+same-length-17 c = c .before .before .before .before .before .before .before .before .before .before .before .before .before .before .before .before .before .before .before .clear-all .kept .1 .1 .1 .1 .0
 
 -- src/call.rt:40:9
 same-length-18 : tie.Need-same-length-18
-same-length-18 c = search needs
+same-length-18 c = c .before .before .before .before .before .before .before .before .before .before .before .before .before .before .before .before .before .before .before .clear-all .kept .1 .1 .1 .1 .1 .0
 
 -- src/call.rt:40:9
 returns-3 : tie.Need-returns-3
@@ -151,7 +151,7 @@ same-length-23 c = c .before .before .before .before .before .before .before .be
 
 -- src/call.rt:15:1
 same-length-24 : tie.Need-same-length-24
-same-length-24 c = search needs
+same-length-24 c = c .before .before .before .before .before .before .before .before .before .before .before .before .compile-checked .kept .1 .1 .1 .1 .1 .1 .1 .1 .1 .1 .1 .0 ∙ c .before .before .before .before .before .before .before .before .before .before .before .before .before .before .before .before .before .before .before .before .before .before .before .before .before .before .before .before .before .before .before .before .before .before .before .before .before .before .clear-all .kept .1 .1 .1 .1 .1 .0
 
 -- src/call.rt:15:1
 returns-4 : tie.Need-returns-4

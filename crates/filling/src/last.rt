@@ -1,15 +1,16 @@
-// Both passes, into tables that are all 0.
+// The last part: the goal, the rules, the initial values.
 use crate::Passes;
 use assembling::assemble_operators;
-use building::build;
+use building::Progress;
 use formula_builder::Frame;
 use formula_builder::Size;
+use images::image;
 use rule_writer::write_initial;
 use task::Head;
 ghost use mathlib.Core.Path.{_≡_};
 ghost use mathlib.Core.Bool.{true};
 ghost use Rattle.task.specs.Table.{lent};
-ghost use Rattle.compiler.specs.Fills.{tables, Begins, Fills};
+ghost use Rattle.filling.specs.Fills.{tables, Ends, Fills};
 
 // No room.
 fn full() -> Passes
@@ -24,9 +25,9 @@ fn full() -> Passes
     }
 }
 
-// Builds all formulas, then writes the rules, the operators and the initial values. The tables have room for so many rows, twins and
-// effect rows; stops at the first without room.
-pub fn fill(
+// All operators are taken: builds the goal, then writes the rules, the operators and the initial values. Stops at the first row without
+// room. A second walk over every operator, as costly as the first at most, since every row is found.
+pub fn finish(
     head: Head,
     initial: &[u8],
     twins: &[u16],
@@ -36,6 +37,7 @@ pub fn fill(
     rows: usize,
     most: usize,
     room: usize,
+    at: Progress,
     values: &mut [u8],
     originals: &mut [u16],
     table: &mut [u16],
@@ -43,9 +45,12 @@ pub fn fill(
     written: &mut [u16],
     scratch: &mut [u16],
 ) -> Passes
-    requires { ⌜ Begins (lent head (now initial) (now twins) (now formulas) (now effects) (now operators)) rows most room (tables (now values) (now originals) (now table) (now out) (now written) (now scratch)) ⌝ }
+    requires { ⌜ Ends (lent head (now initial) (now twins) (now formulas) (now effects) (now operators)) rows most room (tables (now values) (now originals) (now table) (now out) (now written) (now scratch)) at ⌝ }
     ensures { λ r. ⌜ Fills (lent head (now (initial .entry)) (now (twins .entry)) (now (formulas .entry)) (now (effects .entry)) (now (operators .entry))) (tables (now (values .entry)) (now (originals .entry)) (now (table .entry)) (now (out .entry)) (now (written .entry)) (now (scratch .entry))) (tables (now (values .exit)) (now (originals .exit)) (now (table .exit)) (now (out .exit)) (now (written .exit)) (now (scratch .exit))) r ⌝ }
 {
+    if at.full {
+        return full();
+    }
     let frame = Frame {
         variables: head.variables as usize,
         formulas: head.formulas as usize,
@@ -53,18 +58,19 @@ pub fn fill(
         rows: rows,
         twins: most,
     };
-    let b = build(
+    let g = image(
         formulas,
-        effects,
-        operators,
-        head.operators as usize,
         head.goal as usize,
         frame,
+        Size {
+            rows: at.rows,
+            twins: at.twins,
+        },
         table,
         originals,
         scratch,
     );
-    if b.full {
+    if g.full {
         return full();
     }
     let r = assemble_operators(
@@ -74,8 +80,8 @@ pub fn fill(
         head.operators as usize,
         frame,
         Size {
-            rows: b.rows,
-            twins: b.twins,
+            rows: g.rows,
+            twins: g.twins,
         },
         room,
         table,
@@ -87,12 +93,12 @@ pub fn fill(
     if r.full {
         return full();
     }
-    write_initial(initial, originals, values, head.variables as usize, b.twins);
+    write_initial(initial, originals, values, head.variables as usize, g.twins);
     Passes {
-        rows: b.rows as u16,
-        twins: b.twins as u16,
+        rows: g.rows as u16,
+        twins: g.twins as u16,
         effects: r.rows as u16,
-        goal: b.row,
+        goal: g.row,
         full: false,
     }
 }

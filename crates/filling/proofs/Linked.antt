@@ -7,6 +7,7 @@ use lib.ListN.{length, getD, replicate}
 use Rattle.task.specs.Bounded.{upto}
 use Rattle.task.specs.Table.{Row, Operator, Lent, Task, task-of, row-at, operator-at}
 use Rattle.task.specs.Check.{refusal}
+use Rattle.task.specs.Words.{words-of}
 use Rattle.task.specs.Rules.{LongEnough, Rules, no-operator}
 use Rattle.task.specs.Run.{operator-of, effect-of-operator}
 use Rattle.task.specs.Tree.{formula-of}
@@ -17,15 +18,20 @@ use Rattle.normal_form.specs.Builder.{St, Build, start, plain}
 use Rattle.normal_form.specs.Image.{image}
 use Rattle.normal_form.specs.Operators.{Changes, Built, changes-of, built-operator}
 use Rattle.normal_form.specs.Assembly.{Assembled, assemble, unassembled}
-use Rattle.normal_form.specs.Finished.{built, assembled}
+use Rattle.normal_form.specs.Finished.{built, assembled, finished}
+use Rattle.normal_form.specs.Compiled.{padded}
 use Rattle.normal_form.proofs.Again.{Settled, precondition-settled, changes-settled, operator-again, operators-again}
 use Rattle.formula_builder.specs.declared.Frame.{Frame}
 use Rattle.images.specs.Images.{source-rows, tree, image-at}
 use Rattle.conditions.specs.Conditions.{effect-rows, effect-tree}
-use Rattle.building.specs.Whole.{whole-built, Zeros, Blank}
+use Rattle.formula_builder.specs.Held.{store}
+use Rattle.building.specs.declared.Progress.{Progress}
+use Rattle.building.specs.Taken.{whole-built, Zeros, Fresh, Begun, Blank, Taken, Takes, Took}
+use Rattle.building.proofs.Begun.{taken-none}
 use Rattle.building.proofs.Parts.{same-state, same-value}
 use Rattle.assembling.specs.Assembles.{changes-at, changes-below, built-again, all-again, assembled-again, Knows}
-use Rattle.compiler.specs.Fills.{Tables, frame-of, Begins}
+use Rattle.filling.specs.declared.Passes.{Passes}
+use Rattle.filling.specs.Fills.{Tables, room-of, frame-of, Lends, Begins, Ends, Holds, Fills}
 
 zero-at : (n j : ℕ) → _≡_ {A = ℕ} (getD (replicate n 0) j 0) 0
 zero-at zero j = refl
@@ -150,36 +156,135 @@ module _ (l : Lent) (rows twins : ℕ) (passes : refusal l ≡ 0) where
       (ap (λ (b : List Built). assemble (l .head .variables) (built t .st .twins) unassembled b)
       (upto-same (l .head .operators) _ _ its-again))
 
-  pub blank-is :
-      (effects : ℕ) (x : Tables)
-      → Begins l rows twins effects x
-      → Blank (frame-of (l .head) rows twins) (l .formulas) (l .effects) (l .operators) (l .head .operators) (l .head .goal) (x .formulas) (x .twins) (x .scratch)
-  blank-is effects x b =
+  pub goal-below : l .head .goal < l .head .formulas
+  goal-below = omega (arith, source .goal-is-formula, length-formulas l, goal-is)
+
+  -- What the parts ask.
+  module _ (effects : ℕ) (x : Tables) (b : Begins l rows twins effects x) where
+    pub fresh-is : Fresh (frame-of (l .head) rows twins) (x .formulas)
+    fresh-is =
+        record {
+          room = b .lends .rows-space;
+          limit = b .lends .rows-limit;
+          blank = zeros (x .formulas) (b .blank-formulas);
+        }
+
+    blank-is : Blank (frame-of (l .head) rows twins) (l .formulas) (l .effects) (x .twins) (x .scratch)
+    blank-is =
+        record {
+          source =
+              record {
+                words = long .formulas;
+                memo = omega (arith, b .lends .memo);
+                limit = omega (arith, source .limits .formulas, length-formulas l);
+                down = rw its-formulas at (rw its-variables at (rules-formulas t source));
+              };
+          effect-source =
+              record {
+                words = long .effects;
+                memo = b .lends .memo;
+                limit = omega (arith, source .limits .effects, length-effects l);
+                down = rw its-effects at (rw (length-formulas l) at (rw its-variables at (rules-effects t source)));
+              };
+          twins = b .lends .twins-space;
+          variables = b .lends .variables-limit;
+          blank-originals = zeros (x .twins) (b .blank-twins);
+          blank-scratch = zeros (x .scratch) (b .blank-scratch);
+        }
+
+    pub first-taken :
+        {table : List ℕ} {p : Progress}
+        → Begun (frame-of (l .head) rows twins) table p
+        → Taken (frame-of (l .head) rows twins) (l .formulas) (l .effects) (l .operators) (store table (x .twins)) (x .scratch) p
+    first-taken g = taken-none frame (l .formulas) (l .effects) (l .operators) blank-is g
+
+  pub next-asks :
+      {table originals scratch : List ℕ} {p : Progress}
+      → p .operators < l .head .operators
+      → Taken (frame-of (l .head) rows twins) (l .formulas) (l .effects) (l .operators) (store table originals) scratch p
+      → Takes (frame-of (l .head) rows twins) (l .formulas) (l .effects) (l .operators) (store table originals) scratch p
+  next-asks {p = p} h k =
       record {
-        source =
-            record {
-              words = long .formulas;
-              memo = omega (arith, b .memo);
-              limit = omega (arith, source .limits .formulas, length-formulas l);
-              down = rw its-formulas at (rw its-variables at (rules-formulas t source));
-            };
-        effect-source =
-            record {
-              words = long .effects;
-              memo = b .memo;
-              limit = omega (arith, source .limits .effects, length-effects l);
-              down = rw its-effects at (rw (length-formulas l) at (rw its-variables at (rules-effects t source)));
-            };
-        words = long .operators;
+        taken = k;
+        words = omega (arith, long .operators);
         limit = omega (arith, source .limits .operators, length-operators l);
-        precondition = λ o h. operator-known o h .formula;
-        effect = λ o h. operator-known o h .effect;
-        goal-there = omega (arith, source .goal-is-formula, length-formulas l, goal-is);
-        rows = b .rows-space;
-        rows-limit = b .rows-limit;
-        twins = b .twins-space;
-        variables = b .variables-limit;
-        blank-table = zeros (x .formulas) (b .blank-formulas);
-        blank-originals = zeros (x .twins) (b .blank-twins);
-        blank-scratch = zeros (x .scratch) (b .blank-scratch);
+        precondition = operator-known (p .operators) h .formula;
+        effect = operator-known (p .operators) h .effect;
       }
+
+  -- what the last part asks, behind so many operators
+  pub last-asks :
+      {effects : ℕ} {x : Tables} {table originals scratch : List ℕ} {p : Progress}
+      → Begins l rows twins effects x
+      → length table ≡ length (x .formulas)
+      → length originals ≡ length (x .twins)
+      → length scratch ≡ length (x .scratch)
+      → p .operators ≡ l .head .operators
+      → Taken (frame-of (l .head) rows twins) (l .formulas) (l .effects) (l .operators) (store table originals) scratch p
+      → Ends l rows twins effects (record { initial = x .initial; twins = originals; formulas = table; effects = x .effects; operators = x .operators; scratch = scratch }) p
+  last-asks {effects} {x} {table} {originals} {scratch} b f w s all k =
+      record {
+        lends =
+            record {
+              passes = b .lends .passes;
+              untwinned = b .lends .untwinned;
+              memo = omega (arith, b .lends .memo, s);
+              allows =
+                  record {
+                    rows-allowed = λ n p q. b .lends .allows .rows-allowed n p (omega (arith, f));
+                    twins-allowed = λ n p q r. b .lends .allows .twins-allowed n p q (omega (arith, w));
+                    effects-allowed = b .lends .allows .effects-allowed;
+                  };
+              rows-space = omega (arith, b .lends .rows-space, f);
+              rows-limit = b .lends .rows-limit;
+              twins-space = omega (arith, b .lends .twins-space, w);
+              variables-limit = b .lends .variables-limit;
+              initial-space = b .lends .initial-space;
+              effects-space = b .lends .effects-space;
+              effects-limit = b .lends .effects-limit;
+              one-effect = b .lends .one-effect;
+              operators-space = b .lends .operators-space;
+              blank-initial = b .lends .blank-initial;
+              blank-effects = b .lends .blank-effects;
+              blank-operators = b .lends .blank-operators;
+            };
+        all = all;
+        taken = k;
+      }
+
+-- tables as long are filled alike
+pub fills-as :
+    {l : Lent} {x y : Tables} {r : Passes} {table originals scratch : List ℕ}
+    → length table ≡ length (x .formulas)
+    → length originals ≡ length (x .twins)
+    → length scratch ≡ length (x .scratch)
+    → Fills l (record { initial = x .initial; twins = originals; formulas = table; effects = x .effects; operators = x .operators; scratch = scratch }) y r
+    → Fills l x y r
+fills-as {l} {x} {y} {r} {table} {originals} {scratch} f w s k =
+    record {
+      done = λ q.
+          let h = k .done q in
+          record {
+            fits = rw same at (h .fits);
+            head = h .head;
+            initial = h .initial;
+            twins = h .twins ∙ ap (λ (n : ℕ). padded n (finished (task-of l) .originals)) w;
+            formulas = h .formulas ∙ ap (λ (n : ℕ). padded n (words-of (finished (task-of l) .formulas))) f;
+            effects = h .effects;
+            operators = h .operators;
+          };
+      over = λ q fit. k .over q (rw same fit);
+    }
+  where
+    same :
+        room-of (record { initial = x .initial; twins = originals; formulas = table; effects = x .effects; operators = x .operators; scratch = scratch })
+        ≡ room-of x
+    same = λ i.
+        record {
+          initial = length (x .initial);
+          twins = w i;
+          formulas = f i;
+          effects = length (x .effects);
+          operators = length (x .operators);
+          scratch = s i;
+        }

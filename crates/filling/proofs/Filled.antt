@@ -1,4 +1,4 @@
--- Both passes: each way out. Assumes nothing.
+-- The last part: each way out. Assumes nothing.
 use Prim.Native.Nat.{ℕ, zero, suc, _+_, _-_, _*_, _≤_, _<_}
 use native.Mathlib.Omega.{arith}
 use mathlib.Core.Path.{_≡_, refl, sym, ap, ap₂, _∙_}
@@ -13,7 +13,7 @@ use Rattle.task.specs.Rules.{Limits, Rules}
 use Rattle.task.specs.Words.{words-of, operator-words, head-of}
 use Rattle.task.proofs.Bounded.{length-upto}
 use Rattle.task.proofs.Held.{length-operators, initial-held}
-use Rattle.normal_form.specs.Builder.{St, start}
+use Rattle.normal_form.specs.Builder.{St, start, plain}
 use Rattle.normal_form.specs.Assembly.{Assembled}
 use Rattle.normal_form.specs.Finished.{built, assembled, twin-values, finished}
 use Rattle.normal_form.specs.Compiled.{Room, Fits, padded}
@@ -27,15 +27,18 @@ use Rattle.formula_builder.specs.declared.Frame.{Frame}
 use Rattle.formula_builder.specs.declared.Size.{Size}
 use Rattle.formula_builder.specs.declared.Step.{Step}
 use Rattle.formula_builder.specs.Held.{Store, store, held, size-of, Ready, Within}
-use Rattle.building.specs.Whole.{whole-built, Blank, Whole, FromStart}
+use Rattle.images.specs.Images.{image-at, Asks, Images}
+use Rattle.building.specs.declared.Progress.{Progress}
+use Rattle.building.specs.Taken.{size-at, whole-built, Whole, FromStart}
+use Rattle.building.proofs.Begun.{operators-full, goal-asks, goal-built as goal-reached}
 use Rattle.rule_writer.specs.declared.Chain.{Chain}
 use Rattle.rule_writer.specs.Writes.{InitialReady}
 use Rattle.assembling.specs.Assembles.{assembled-again, Knows, Same, Holding, Assembles, Assembling, AssembledAll}
-use Rattle.compiler.specs.declared.Passes.{Passes}
-use Rattle.compiler.specs.Fills.{Tables, room-of, frame-of, Begins, Holds, Fills}
-use Rattle.compiler.proofs.Linked.{long, source, its-variables, state-built, goal-built, operator-known, assembled-is, blank-is}
+use Rattle.filling.specs.declared.Passes.{Passes}
+use Rattle.filling.specs.Fills.{Tables, room-of, frame-of, Lends, Ends, Holds, Fills}
+use Rattle.filling.proofs.Linked.{long, source, its-variables, state-built, goal-built, goal-below, operator-known, assembled-is}
 
-module _ (l : Lent) (rows twins effects : ℕ) (x : Tables) (b : Begins l rows twins effects x) where
+module _ (l : Lent) (rows twins effects : ℕ) (x : Tables) (b : Lends l rows twins effects x) where
   abbrev t : Task
   t = task-of l
 
@@ -50,7 +53,7 @@ module _ (l : Lent) (rows twins effects : ℕ) (x : Tables) (b : Begins l rows t
 
   pub building-full :
       {after : Store} {s2 : List ℕ} {r : Step} {y : Tables} {z : Passes}
-      → FromStart (whole-built (frame-of (l .head) rows twins) (l .formulas) (l .effects) (l .operators) (l .head .operators) (l .head .goal)) (frame-of (l .head) rows twins) (l .formulas) after s2 r
+      → FromStart (whole-built (frame-of (l .head) rows twins) (l .formulas) (l .effects) (l .operators) (l .head .operators) (l .head .goal)) (frame-of (l .head) rows twins) (l .formulas) (l .effects) after s2 r
       → r .full ≡ true
       → z .full ≡ true
       → Fills l x y z
@@ -61,42 +64,20 @@ module _ (l : Lent) (rows twins effects : ℕ) (x : Tables) (b : Begins l rows t
       let v : Within frame (built t .st) = record { rows = w .rows-within; twins = w .twins-within } in
       f .over q (rw (state-built l rows twins (b .passes)) at v))
 
-  -- After the first pass.
-  module _ {mid : Store} {s2 : List ℕ} {r : Step} (f : FromStart (whole-built (frame-of (l .head) rows twins) (l .formulas) (l .effects) (l .operators) (l .head .operators) (l .head .goal)) (frame-of (l .head) rows twins) (l .formulas) mid s2 r) (q : r .full ≡ false) where
-    w : Whole (whole-built (frame-of (l .head) rows twins) (l .formulas) (l .effects) (l .operators) (l .head .operators) (l .head .goal)) (frame-of (l .head) rows twins) (l .formulas) mid s2 r
+  -- After the goal.
+  module _ {mid : Store} {s2 : List ℕ} {r : Step} (f : FromStart (whole-built (frame-of (l .head) rows twins) (l .formulas) (l .effects) (l .operators) (l .head .operators) (l .head .goal)) (frame-of (l .head) rows twins) (l .formulas) (l .effects) mid s2 r) (q : r .full ≡ false) where
+    w : Whole (whole-built (frame-of (l .head) rows twins) (l .formulas) (l .effects) (l .operators) (l .head .operators) (l .head .goal)) (frame-of (l .head) rows twins) (l .formulas) (l .effects) mid s2 r
     w = f .done q
 
     held-is : held (size-of r) mid ≡ built (task-of l) .st
-    held-is = sym (state-built l rows twins (b .passes) ∙ w .state)
+    held-is = sym (state-built l rows twins (b .passes) ∙ w .stood .state)
 
-    pub assembling-asks :
-        length s2 ≡ length (x .scratch)
-        → Assembles (frame-of (l .head) rows twins) (l .formulas) (l .effects) (l .operators) (l .head .operators) (size-of r) mid s2 effects (x .effects) (x .operators)
-    assembling-asks same =
-        let k = blank-is l rows twins (b .passes) effects x b in
+    pub assembling-asks : Assembles (frame-of (l .head) rows twins) (l .formulas) (l .effects) (l .operators) (l .head .operators) (size-of r) mid s2 effects (x .effects) (x .operators)
+    assembling-asks =
         record {
-          stands =
-              record {
-                source =
-                    record {
-                      words = k .source .words;
-                      memo = omega (arith, k .source .memo, same);
-                      limit = k .source .limit;
-                      down = k .source .down;
-                    };
-                effect-source =
-                    record {
-                      words = k .effect-source .words;
-                      memo = omega (arith, k .effect-source .memo, same);
-                      limit = k .effect-source .limit;
-                      down = k .effect-source .down;
-                    };
-                ready = w .ready;
-                memo = w .memo;
-                clean = w .clean;
-              };
-          words = k .words;
-          limit = k .limit;
+          stands = w .stood .stands;
+          words = long l rows twins (b .passes) .operators;
+          limit = omega (arith, source l rows twins (b .passes) .limits .operators, length-operators l);
           knows = λ o h. rw held-is (operator-known l rows twins (b .passes) o h);
           one = b .one-effect;
           rows-limit = b .effects-limit;
@@ -106,7 +87,7 @@ module _ (l : Lent) (rows twins effects : ℕ) (x : Tables) (b : Begins l rows t
           blank-operators = b .blank-operators;
         }
 
-    -- After the second.
+    -- After the rules.
     module _ {after : Store} {s3 out outs : List ℕ} {c : Chain} (a : AssembledAll (frame-of (l .head) rows twins) (l .formulas) (l .effects) (l .operators) (l .head .operators) (size-of r) mid after s3 effects out outs c) where
       assembles : Assembling (assembled (task-of l)) effects (l .head .operators) c out outs
       assembles = rw (assembled-is l rows twins (b .passes)) (rw held-is at (a .assembles))
@@ -266,3 +247,30 @@ module _ (l : Lent) (rows twins effects : ℕ) (x : Tables) (b : Begins l rows t
                         };
                     over = λ q f. true≢false (sym q);
                   }
+
+-- Up to the goal.
+module _ (l : Lent) (rows twins effects : ℕ) (x : Tables) (p : Progress) (e : Ends l rows twins effects x p) where
+  abbrev no-step : Step
+  no-step = record { rows = 0; twins = 0; row = 0; full = true }
+
+  pub taken-full : {y : Tables} {z : Passes} → p .full ≡ true → z .full ≡ true → Fills l x y z
+  taken-full q f =
+      building-full l rows twins effects x (e .lends) {after = store (x .formulas) (x .twins)} {s2 = x .scratch} {r = no-step}
+      (operators-full (frame-of (l .head) rows twins) (l .formulas) (l .effects) (l .operators) (l .head .operators) (l .head .goal) (e .all)
+      (e .taken) q refl)
+      refl f
+
+  module _ (q : p .full ≡ false) where
+    pub goal-ready : Asks (frame-of (l .head) rows twins) (l .formulas) (size-at p) (store (x .formulas) (x .twins)) (x .scratch) (l .head .goal)
+    goal-ready =
+        goal-asks (frame-of (l .head) rows twins) (l .formulas) (l .effects) (l .operators) (l .head .operators) (l .head .goal) (e .all) (e .taken) q
+        (goal-below l rows twins (e .lends .passes))
+
+    pub goal-stands :
+        {after : Store} {s2 : List ℕ} {z : Step}
+        → Images (image-at (frame-of (l .head) rows twins) (l .formulas) plain (l .head .goal)) (frame-of (l .head) rows twins) (l .formulas) (size-at p) (store (x .formulas) (x .twins)) after (x .scratch) s2 z
+        → length s2 ≡ length (x .scratch)
+        → FromStart (whole-built (frame-of (l .head) rows twins) (l .formulas) (l .effects) (l .operators) (l .head .operators) (l .head .goal)) (frame-of (l .head) rows twins) (l .formulas) (l .effects) after s2 z
+    goal-stands y long =
+        goal-reached (frame-of (l .head) rows twins) (l .formulas) (l .effects) (l .operators) (l .head .operators) (l .head .goal) (e .all) (e .taken) q y
+        long

@@ -1,0 +1,92 @@
+-- Building in parts: what each part asks, and what stands behind it.
+use Prim.Native.Nat.{ℕ, _+_, _*_, _≤_, _<_}
+use mathlib.Core.Path.{_≡_}
+use mathlib.Core.Bool.{Bool, true, false}
+use mathlib.Core.List.{List}
+use lib.ListN.{length, getD}
+use Rattle.task.specs.Table.{row-at}
+use Rattle.normal_form.specs.Builder.{St, Build, bind, start, plain}
+use Rattle.formula_builder.specs.declared.Frame.{Frame}
+use Rattle.formula_builder.specs.declared.Size.{Size}
+use Rattle.formula_builder.specs.declared.Step.{Step}
+use Rattle.formula_builder.specs.Held.{Store, store, held, size-of, RowsReady, Within}
+use Rattle.images.specs.Images.{image-at, Source}
+use Rattle.conditions.specs.Conditions.{EffectSource}
+use Rattle.changes.specs.Stands.{Stands}
+use Rattle.operators.specs.Operator.{operators-built}
+use Rattle.building.specs.declared.Progress.{Progress}
+
+abbrev pub size-at : Progress → Size
+size-at p = record { rows = p .rows; twins = p .twins }
+
+-- all words are 0
+abbrev pub Zeros : List ℕ → Type 0
+Zeros l = (j : ℕ) → getD l j 0 ≡ 0
+
+-- A formula table that nothing stands in.
+pub record Fresh (frame : Frame) (table : List ℕ) : Type 0 where
+  pub room : 3 * frame .rows ≤ length table
+  pub limit : frame .rows ≤ 4096
+  pub blank : Zeros table
+
+-- What the start has stands in the table, whatever stands among the twins.
+pub record Started (frame : Frame) (table : List ℕ) (p : Progress) : Type 0 where
+  pub state : (originals : List ℕ) → start ≡ held (size-at p) (store table originals)
+  pub rows : RowsReady frame (p .rows) table
+  pub two : 2 ≤ p .rows
+  pub twins : p .twins ≡ 0
+  pub past-rows : (j : ℕ) → 3 * p .rows ≤ j → getD table j 0 ≡ 0
+
+-- It stands there, or there is no room for it; no operator is taken.
+pub record Begun (frame : Frame) (table : List ℕ) (p : Progress) : Type 0 where
+  pub none : p .operators ≡ 0
+  pub done : p .full ≡ false → Started frame table p
+  pub over : p .full ≡ true → Within frame start → ⊥
+
+-- The source keeps the rules, scratch is all 0, and there are no twins.
+pub record Blank (frame : Frame) (formulas effects originals scratch : List ℕ) : Type 0 where
+  pub source : Source frame formulas scratch
+  pub effect-source : EffectSource frame effects scratch
+  pub twins : frame .twins ≤ length originals
+  pub variables : frame .variables + frame .twins ≤ 512
+  pub blank-originals : Zeros originals
+  pub blank-scratch : Zeros scratch
+
+-- The tables hold a state, and building may go on.
+pub record Stood (t : St) (frame : Frame) (formulas effects : List ℕ) (at : Size) (s : Store) (scratch : List ℕ) : Type 0 where
+  pub state : t ≡ held at s
+  pub stands : Stands frame formulas effects at s scratch
+
+-- So many operators are taken: the tables hold what building them gives from the start, or there is no room for it.
+pub record Taken (frame : Frame) (formulas effects operators : List ℕ) (s : Store) (scratch : List ℕ) (p : Progress) : Type 0 where
+  pub done :
+      p .full ≡ false
+      → Stood (operators-built frame formulas effects operators (p .operators) start .st) frame formulas effects (size-at p) s scratch
+  pub over : p .full ≡ true → Within frame (operators-built frame formulas effects operators (p .operators) start .st) → ⊥
+
+-- There is a next operator.
+pub record Takes (frame : Frame) (formulas effects operators : List ℕ) (s : Store) (scratch : List ℕ) (p : Progress) : Type 0 where
+  pub taken : Taken frame formulas effects operators s scratch p
+  pub words : 3 * p .operators + 3 ≤ length operators
+  pub limit : p .operators < 256
+  pub precondition : row-at operators (p .operators) .kind < frame .formulas
+  pub effect : row-at operators (p .operators) .a < frame .effects
+
+-- It is taken.
+pub record Took (frame : Frame) (formulas effects operators : List ℕ) (s : Store) (scratch : List ℕ) (p r : Progress) : Type 0 where
+  pub next : r .operators ≡ p .operators + 1
+  pub taken : Taken frame formulas effects operators s scratch r
+
+-- the operators in order, the goal last
+unfoldable pub whole-built : Frame → List ℕ → List ℕ → List ℕ → ℕ → ℕ → Build ℕ
+whole-built frame formulas effects operators count goal =
+    bind (operators-built frame formulas effects operators count) (λ _. image-at frame formulas plain goal)
+
+-- All of it stands, the goal being the last row that was built or found; or there is no room for it.
+pub record Whole (m : Build ℕ) (frame : Frame) (formulas effects : List ℕ) (s : Store) (scratch : List ℕ) (r : Step) : Type 0 where
+  pub value : m start .value ≡ r .row
+  pub stood : Stood (m start .st) frame formulas effects (size-of r) s scratch
+
+pub record FromStart (m : Build ℕ) (frame : Frame) (formulas effects : List ℕ) (s : Store) (scratch : List ℕ) (r : Step) : Type 0 where
+  pub done : r .full ≡ false → Whole m frame formulas effects s scratch r
+  pub over : r .full ≡ true → Within frame (m start .st) → ⊥

@@ -1,0 +1,15 @@
+// Filling the lent tables with the finished task: begin, one operator after another, finish.
+mod last;
+mod whole;
+
+pub use last::finish;
+pub use whole::fill;
+
+// The numbers of rows, twins and effect rows of the finished task and its goal; or that it does not fit.
+pub struct Passes {
+    pub rows: u16,
+    pub twins: u16,
+    pub effects: u16,
+    pub goal: u16,
+    pub full: bool,
+}

@@ -1,0 +1,72 @@
+// All parts, into tables that are all 0.
+use crate::Passes;
+use crate::last::finish;
+use building::begin;
+use building::take_operator;
+use formula_builder::Frame;
+use task::Head;
+ghost use Rattle.task.specs.Table.{lent};
+ghost use Rattle.filling.specs.Fills.{tables, Begins, Fills};
+
+// Begins, takes the operators in order, finishes. The tables have room for so many rows, twins and effect rows. Costs what its parts do,
+// twice a walk over every operator.
+pub fn fill(
+    head: Head,
+    initial: &[u8],
+    twins: &[u16],
+    formulas: &[u16],
+    effects: &[u16],
+    operators: &[u16],
+    rows: usize,
+    most: usize,
+    room: usize,
+    values: &mut [u8],
+    originals: &mut [u16],
+    table: &mut [u16],
+    out: &mut [u16],
+    written: &mut [u16],
+    scratch: &mut [u16],
+) -> Passes
+    requires { ⌜ Begins (lent head (now initial) (now twins) (now formulas) (now effects) (now operators)) rows most room (tables (now values) (now originals) (now table) (now out) (now written) (now scratch)) ⌝ }
+    ensures { λ r. ⌜ Fills (lent head (now (initial .entry)) (now (twins .entry)) (now (formulas .entry)) (now (effects .entry)) (now (operators .entry))) (tables (now (values .entry)) (now (originals .entry)) (now (table .entry)) (now (out .entry)) (now (written .entry)) (now (scratch .entry))) (tables (now (values .exit)) (now (originals .exit)) (now (table .exit)) (now (out .exit)) (now (written .exit)) (now (scratch .exit))) r ⌝ }
+{
+    let frame = Frame {
+        variables: head.variables as usize,
+        formulas: head.formulas as usize,
+        effects: head.effects as usize,
+        rows: rows,
+        twins: most,
+    };
+    let count = head.operators as usize;
+    let mut at = begin(frame, table);
+    while at.operators < count {
+        at = take_operator(
+            formulas,
+            effects,
+            operators,
+            frame,
+            at,
+            table,
+            originals,
+            scratch,
+        );
+    }
+    finish(
+        head,
+        initial,
+        twins,
+        formulas,
+        effects,
+        operators,
+        rows,
+        most,
+        room,
+        at,
+        values,
+        originals,
+        table,
+        out,
+        written,
+        scratch,
+    )
+}
