@@ -1,31 +1,28 @@
 -- Building in parts, from the start. Assumes nothing.
-use Prim.Native.Nat.{ℕ, zero, suc, _+_, _*_, _≤_, _<_}
+use Prim.Native.Nat.{ℕ, _+_, _≤_, _<_}
 use native.Mathlib.Omega.{arith}
 use native.Mathlib.Numerals.{add-one}
 use mathlib.Core.Path.{_≡_, refl, sym, ap, _∙_}
-use mathlib.Core.Bool.{Bool, true, false, true≢false}
-use mathlib.Core.List.{List, [], _∷_, _++_}
+use mathlib.Core.Bool.{true, false, true≢false}
+use mathlib.Core.List.{List, []}
 use lib.ListN.{length}
 use Rattle.task.specs.Table.{Row, row-at}
-use Rattle.normal_form.specs.Builder.{St, Got, Build, give, bind, each, start, plain}
-use Rattle.normal_form.specs.Growth.{Grows, Steady}
-use Rattle.normal_form.proofs.ShapeSizes.{each-grows}
+use Rattle.normal_form.specs.Builder.{St, Got, give, bind, each, start, plain}
 use Rattle.formula_builder.specs.declared.Words.{Words}
 use Rattle.formula_builder.specs.declared.Frame.{Frame}
-use Rattle.formula_builder.specs.declared.Size.{Size}
 use Rattle.formula_builder.specs.declared.Step.{Step}
 use Rattle.formula_builder.specs.Index.{begun as first-two}
-use Rattle.formula_builder.specs.Held.{Store, store, row-of, held, size-of, Ready, Within}
+use Rattle.formula_builder.specs.Held.{Store, store, row-of, held, size-of}
 use Rattle.formula_builder.proofs.Indexing.{length-begun, begun-rows, begun-indexed}
 use Rattle.formula_builder.proofs.Steps.{within-before}
-use Rattle.images.specs.Images.{image-at, memo-place, Memo, Images, Asks}
+use Rattle.images.specs.Images.{image-at, memo-place, Images, Asks}
 use Rattle.images.proofs.Memos.{steady-image-at}
-use Rattle.changes.specs.Stands.{Stands, Reaches}
+use Rattle.changes.specs.Stands.{Reaches}
 use Rattle.changes.proofs.Standing.{stands-next, makes-row}
 use Rattle.operators.specs.Operator.{operator-built, operators-built, operator-here, BuildsOperator}
-use Rattle.operators.proofs.InOrder.{steady-operator-built}
+use Rattle.operators.proofs.InOrder.{more-grows}
 use Rattle.building.specs.declared.Progress.{Progress}
-use Rattle.building.specs.Taken.{size-at, Fresh, Started, Begun, Blank, Stood, Taken, Takes, Took, whole-built, Whole, FromStart}
+use Rattle.building.specs.Taken.{size-at, Fresh, Started, Begun, Blank, Stood, Taken, Takes, Took, whole-built, FromStart}
 
 abbrev pub begun : Progress
 begun = record { rows = 2; twins = 0; operators = 0; full = false }
@@ -101,14 +98,6 @@ module _ (frame : Frame) (formulas effects operators : List ℕ) where
         over = λ q w. g .over q (rw (none-taken (p .operators) (g .none)) at w);
       }
 
-  steady-here : (o : ℕ) → Steady (operator-here frame formulas effects operators o)
-  unfolding operator-here
-  steady-here o = steady-operator-built frame formulas effects (row-at operators o .kind) (row-at operators o .a)
-
-  more-grows : (n : ℕ) → Grows (operators-built frame formulas effects operators n start .st) (operators-built frame formulas effects operators (n + 1) start .st)
-  unfolding operators-built
-  more-grows n = each-grows (operator-here frame formulas effects operators) start steady-here n (n + 1) (omega arith)
-
   module _ {s : Store} {scratch : List ℕ} {p : Progress} (t : Takes frame formulas effects operators s scratch p) where
     -- without room it stays so
     pub took-full : {r : Progress} → p .full ≡ true → r .operators ≡ p .operators + 1 → r .full ≡ true → Took frame formulas effects operators s scratch p r
@@ -118,7 +107,7 @@ module _ (frame : Frame) (formulas effects operators : List ℕ) where
           taken =
               record {
                 done = λ g. absurd (true≢false (sym f ∙ g));
-                over = λ _ w. t .taken .over q (within-before (more-grows (p .operators)) (rw e at w));
+                over = λ _ w. t .taken .over q (within-before (more-grows frame formulas effects operators start (p .operators)) (rw e at w));
               };
         }
 

@@ -1,7 +1,7 @@
 -- What the code builds from tables is what the definition builds from the task that they hold. Assumes nothing.
 use Prim.Native.Nat.{ℕ, zero, suc, _<_}
 use native.Mathlib.Omega.{arith}
-use mathlib.Core.Path.{_≡_, refl, sym, ap, _∙_}
+use mathlib.Core.Path.{_≡_, refl, ap, _∙_}
 use lib.ListN.{length}
 use mathlib.Core.List.{List}
 use Rattle.task.specs.Table.{Task, row-at}

@@ -1,4 +1,5 @@
 // What an operator's effect does to one variable: the row under which it is set, and the row under which it is cleared.
+mod conflict;
 mod fresh;
 mod variable;
 

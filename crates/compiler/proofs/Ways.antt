@@ -2,7 +2,7 @@
 use Prim.Native.Nat.{ℕ, zero, suc, _+_, _-_, _*_, _/_, _≤_, _<_}
 use native.Mathlib.Omega.{arith}
 use mathlib.Core.Path.{_≡_, refl, sym, ap, _∙_}
-use mathlib.Core.Bool.{Bool, true, false}
+use mathlib.Core.Bool.{true, false}
 use mathlib.Core.List.{List}
 use lib.ListN.{length, replicate, length-replicate}
 use Rattle.task.specs.declared.Head.{Head}
@@ -19,9 +19,8 @@ use Rattle.normal_form.proofs.ShapeAssembled.{assemble-effects}
 use Rattle.normal_form.proofs.ShapeFinished.{finished-operators}
 use Rattle.normal_form.proofs.ShapePassed.{finished-variables}
 use Rattle.filling.specs.declared.Passes.{Passes}
-use Rattle.filling.specs.Fills.{Tables, room-of, Begins, Holds, Fills}
+use Rattle.filling.specs.Fills.{Tables, room-of, Begins, Fills}
 use Rattle.filling.proofs.Linked.{source, its-variables}
-use Rattle.compiler.specs.declared.CompileAnswer.{CompileAnswer}
 use Rattle.compiler.specs.declared.CompileAnswer.the-variants.{Compiled, Refused}
 use Rattle.compiler.specs.Left.{left, Blanked, Passed, Least}
 

@@ -1,3 +1,4 @@
 pub mod LayWays
 pub mod ReadWays
 pub mod RunWays
+pub mod CompileWays

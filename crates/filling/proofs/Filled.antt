@@ -1,22 +1,19 @@
 -- The last part: each way out. Assumes nothing.
-use Prim.Native.Nat.{ℕ, zero, suc, _+_, _-_, _*_, _≤_, _<_}
+use Prim.Native.Nat.{ℕ, _+_, _*_, _≤_}
 use native.Mathlib.Omega.{arith}
 use mathlib.Core.Path.{_≡_, refl, sym, ap, ap₂, _∙_}
-use mathlib.Core.Bool.{Bool, true, false, true≢false}
-use mathlib.Core.List.{List, [], _∷_, _++_}
-use lib.ListN.{length, getD, take, drop, replicate, length-append}
+use mathlib.Core.Bool.{true, false, true≢false}
+use mathlib.Core.List.{List, _++_}
+use lib.ListN.{length, getD, take, drop}
 use lib.Seq.{length-take-le, getD-take}
 use Rattle.task.specs.Bounded.{upto}
-use Rattle.task.specs.declared.Head.{Head}
 use Rattle.task.specs.Table.{Row, Lent, Task, task-of, row-at}
-use Rattle.task.specs.Rules.{Limits, Rules}
 use Rattle.task.specs.Words.{words-of, operator-words, head-of}
 use Rattle.task.proofs.Bounded.{length-upto}
 use Rattle.task.proofs.Held.{length-operators, initial-held}
-use Rattle.normal_form.specs.Builder.{St, start, plain}
-use Rattle.normal_form.specs.Assembly.{Assembled}
+use Rattle.normal_form.specs.Builder.{St, plain}
 use Rattle.normal_form.specs.Finished.{built, assembled, twin-values, finished}
-use Rattle.normal_form.specs.Compiled.{Room, Fits, padded}
+use Rattle.normal_form.specs.Compiled.{Fits, padded}
 use Rattle.normal_form.proofs.Growth.{grows-refl}
 use Rattle.normal_form.proofs.Over.{Allows, building-within}
 use Rattle.normal_form.proofs.Compiled.{fits-if}
@@ -24,7 +21,6 @@ use Rattle.normal_form.proofs.Padded.{padded-over, padded-front}
 use Rattle.normal_form.proofs.ShapePassed.{finished-variables, finished-rules}
 use Rattle.normal_form.proofs.ShapeFinished.{finished-operators}
 use Rattle.formula_builder.specs.declared.Frame.{Frame}
-use Rattle.formula_builder.specs.declared.Size.{Size}
 use Rattle.formula_builder.specs.declared.Step.{Step}
 use Rattle.formula_builder.specs.Held.{Store, store, held, size-of, Ready, Within}
 use Rattle.images.specs.Images.{image-at, Asks, Images}
@@ -33,9 +29,9 @@ use Rattle.building.specs.Taken.{size-at, whole-built, Whole, FromStart}
 use Rattle.building.proofs.Begun.{operators-full, goal-asks, goal-built as goal-reached}
 use Rattle.rule_writer.specs.declared.Chain.{Chain}
 use Rattle.rule_writer.specs.Writes.{InitialReady}
-use Rattle.assembling.specs.Assembles.{assembled-again, Knows, Same, Holding, Assembles, Assembling, AssembledAll}
+use Rattle.assembling.specs.Assembles.{Holding, Assembles, Assembling, AssembledAll}
 use Rattle.filling.specs.declared.Passes.{Passes}
-use Rattle.filling.specs.Fills.{Tables, room-of, frame-of, Lends, Ends, Holds, Fills}
+use Rattle.filling.specs.Fills.{Tables, room-of, frame-of, Lends, Ends, Fills}
 use Rattle.filling.proofs.Copied.{copied-rows}
 use Rattle.filling.proofs.Linked.{long, source, its-variables, state-built, goal-built, goal-below, operator-known, assembled-is}
 

@@ -1,37 +1,37 @@
 -- A source that passes, as the code's passes see it. Assumes nothing.
-use Prim.Native.Nat.{ℕ, zero, suc, _+_, _*_, _≤_, _<_}
+use Prim.Native.Nat.{ℕ, zero, suc, _+_, _<_}
 use native.Mathlib.Omega.{arith}
 use mathlib.Core.Path.{_≡_, refl, sym, ap, ap₂, _∙_}
 use mathlib.Core.List.{List, [], _∷_, _++_}
 use lib.ListN.{length, getD, replicate, length-replicate}
 use Rattle.task.specs.Bounded.{upto}
-use Rattle.task.specs.Table.{Row, Operator, Lent, Task, task-of, row-at, operator-at}
+use Rattle.task.specs.Table.{Operator, Lent, Task, task-of, row-at, operator-at}
 use Rattle.task.specs.Check.{refusal}
 use Rattle.task.specs.Words.{words-of}
-use Rattle.task.specs.Rules.{LongEnough, Rules, no-operator}
+use Rattle.task.specs.Rules.{LongEnough, Rules}
 use Rattle.task.specs.Run.{operator-of, effect-of-operator}
 use Rattle.task.specs.Tree.{formula-of}
 use Rattle.task.proofs.Held.{length-initial, length-formulas, length-effects, length-operators, operator-held}
 use Rattle.task.proofs.Kept.{kept-rules}
 use Rattle.task.proofs.Trees.{rules-formulas, rules-effects}
-use Rattle.normal_form.specs.Builder.{St, Build, start, plain}
+use Rattle.normal_form.specs.Builder.{start, plain}
 use Rattle.normal_form.specs.Image.{image}
-use Rattle.normal_form.specs.Operators.{Changes, Built, changes-of, built-operator}
-use Rattle.normal_form.specs.Assembly.{Assembled, assemble, unassembled}
+use Rattle.normal_form.specs.Operators.{Built, changes-of, built-operator}
+use Rattle.normal_form.specs.Assembly.{assemble, unassembled}
 use Rattle.normal_form.specs.Finished.{built, assembled, finished}
 use Rattle.normal_form.specs.Compiled.{padded}
-use Rattle.normal_form.proofs.Again.{Settled, precondition-settled, changes-settled, operator-again, operators-again}
+use Rattle.normal_form.proofs.Again.{precondition-settled, changes-settled, operator-again, operators-again}
 use Rattle.formula_builder.specs.declared.Frame.{Frame}
 use Rattle.images.specs.Images.{source-rows, tree, image-at}
 use Rattle.conditions.specs.Conditions.{effect-rows, effect-tree}
 use Rattle.formula_builder.specs.Held.{store}
 use Rattle.building.specs.declared.Progress.{Progress}
-use Rattle.building.specs.Taken.{whole-built, Zeros, Fresh, Begun, Blank, Taken, Takes, Took}
+use Rattle.building.specs.Taken.{whole-built, Zeros, Fresh, Begun, Blank, Taken, Takes}
 use Rattle.building.proofs.Begun.{taken-none}
 use Rattle.building.proofs.Parts.{same-state, same-value}
 use Rattle.assembling.specs.Assembles.{changes-at, changes-below, built-again, all-again, assembled-again, Knows}
 use Rattle.filling.specs.declared.Passes.{Passes}
-use Rattle.filling.specs.Fills.{Tables, room-of, frame-of, Lends, Begins, Starts, Ends, Holds, Fills}
+use Rattle.filling.specs.Fills.{Tables, room-of, frame-of, Begins, Starts, Ends, Fills}
 
 zero-at : (n j : ℕ) → _≡_ {A = ℕ} (getD (replicate n 0) j 0) 0
 zero-at zero j = refl

@@ -1,11 +1,11 @@
 -- Filling the lent tables, in parts or all at once: what it asks, and what it leaves.
-use Prim.Native.Nat.{ℕ, _+_, _*_, _≤_, _<_}
+use Prim.Native.Nat.{ℕ, _+_, _*_, _≤_}
 use mathlib.Core.Path.{_≡_}
-use mathlib.Core.Bool.{Bool, true, false}
+use mathlib.Core.Bool.{true, false}
 use mathlib.Core.List.{List}
 use lib.ListN.{length, replicate}
 use Rattle.task.specs.declared.Head.{Head}
-use Rattle.task.specs.Table.{Lent, Task, task-of}
+use Rattle.task.specs.Table.{Lent, task-of}
 use Rattle.task.specs.Check.{refusal}
 use Rattle.task.specs.Words.{words-of, operator-words, head-of}
 use Rattle.normal_form.specs.Finished.{finished}

@@ -5,7 +5,7 @@ use task::Head;
 ghost use Rattle.task.specs.Table.{lent};
 ghost use Rattle.filling.specs.Fills.{tables, Begins, Fills};
 
-// The words of 4,096 rows, a link for each, and the heads of 4,096 chains: 40 KiB, cleared.
+// That table has the words of 4,096 rows, a link for each, and the heads of 4,096 chains: 40 KiB, cleared.
 pub fn fill(
     head: Head,
     initial: &[u8],

@@ -8,9 +8,8 @@ use task::Head;
 ghost use Rattle.task.specs.Table.{lent};
 ghost use Rattle.filling.specs.Fills.{tables, Starts, Fills};
 
-// Begins, takes the operators in order, finishes. The tables have room for so many rows, twins and effect rows; rows are
-// built in a table of their own, which has their index. Costs what its parts do,
-// twice a walk over every operator.
+// Begins, takes the operators in order, finishes. The tables have room for so many rows, twins and effect rows; rows are built in a table
+// of their own, which has their index. Costs what its parts do, twice a walk over every operator.
 pub fn fill_built(
     head: Head,
     initial: &[u8],

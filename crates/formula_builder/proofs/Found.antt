@@ -1,5 +1,5 @@
 -- What a search from the front finds is the place of find-or-append. Assumes nothing.
-use Prim.Native.Nat.{ℕ, zero, suc, _+_, _≤_, _<_}
+use Prim.Native.Nat.{ℕ, suc, _≤_, _<_}
 use native.Mathlib.Nat.{not-suc-le-zero}
 use native.Mathlib.Omega.{arith}
 use mathlib.Core.Path.{_≡_, refl, sym, ap, _∙_}
@@ -14,48 +14,7 @@ use Rattle.task.specs.Table.{Row}
 use Rattle.task.proofs.Bounded.{length-upto, getD-upto}
 use Rattle.normal_form.specs.Builder.{place, kept, same-row}
 use Rattle.normal_form.proofs.Growth.{same-row-itself}
-
-module _ {A : Type 0} (same : A → A → Bool) (x d : A) where
-  pub place-first :
-      (l : List A) (i : ℕ)
-      → i < length l
-      → ((j : ℕ) → j < i → same (getD l j d) x ≡ false)
-      → same (getD l i d) x ≡ true
-      → place same x l ≡ i
-  unfolding place
-  place-first [] i h before e = absurd (not-suc-le-zero h)
-  place-first (y ∷ ys) zero h before e = rw e
-  place-first (y ∷ ys) (suc i) h before e =
-      let here : same y x ≡ false = before 0 (omega arith) in
-      rw here (ap suc (place-first ys i (omega arith) (λ j k. before (suc j) (omega arith)) e))
-
-  pub place-none :
-      (l : List A) → ((j : ℕ) → j < length l → same (getD l j d) x ≡ false) → place same x l ≡ length l
-  unfolding place
-  place-none [] none = refl
-  place-none (y ∷ ys) none =
-      let here : same y x ≡ false = none 0 (omega arith) in
-      rw here (ap suc (place-none ys (λ j k. none (suc j) (omega arith))))
-
-  -- where the search ends without it, none is the same
-  pub place-past :
-      (l : List A) → length l ≤ place same x l → (j : ℕ) → j < length l → same (getD l j d) x ≡ true → ⊥
-  unfolding place
-  place-past [] h j k e = not-suc-le-zero k
-  place-past (y ∷ ys) h j k e = go (same y x) refl h j k e (place-past ys)
-    where
-      go :
-          (b : Bool)
-          → same y x ≡ b
-          → suc (length ys) ≤ cond b 0 (suc (place same x ys))
-          → (j : ℕ)
-          → j < suc (length ys)
-          → same (getD (y ∷ ys) j d) x ≡ true
-          → (length ys ≤ place same x ys → (j : ℕ) → j < length ys → same (getD ys j d) x ≡ true → ⊥)
-          → ⊥
-      go true q h j k e again = not-suc-le-zero h
-      go false q h zero k e again = true≢false (sym e ∙ q)
-      go false q h (suc j) k e again = again (omega arith) j (omega arith) e
+use Rattle.normal_form.proofs.Place.{Placed, found, added, placed, place-first, place-none}
 
 module _ {A : Type 0} (same : A → A → Bool) (x : A) where
   pub place-bound : (l : List A) → place same x l ≤ length l
@@ -123,9 +82,14 @@ module _ (r d : Row) (n : ℕ) (g : ℕ → Row) where
 -- not there: none is the row
 pub row-missing :
     (r : Row) (n : ℕ) (g : ℕ → Row) → n ≤ place same-row r (upto n g) → (i : ℕ) → i < n → g i ≡ r → ⊥
-row-missing r n g h i k e =
-    place-past same-row r r (upto n g) (omega (arith, length-upto n g)) i (omega (arith, length-upto n g))
-    (ap (λ (t : Row). same-row t r) (getD-upto n g i r k ∙ e) ∙ same-row-itself r)
+row-missing r n g h i k e = go (placed same-row r (upto n g))
+  where
+    it-is : same-row (getD (upto n g) i r) r ≡ true
+    it-is = ap (λ (t : Row). same-row t r) (getD-upto n g i r k ∙ e) ∙ same-row-itself r
+
+    go : Placed same-row r (upto n g) → ⊥
+    go (found b _) = omega (arith, length-upto n g)
+    go (added _ _ f) = true≢false (sym it-is ∙ f r i (omega (arith, length-upto n g)))
 
 module _ (v w : ℕ) (o : List ℕ) (room : w ≤ length o) where
   pub twin-found :

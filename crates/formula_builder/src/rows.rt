@@ -43,7 +43,8 @@ fn same(table: &[u16], i: usize, r: Words) -> bool
     t.b == r.b
 }
 
-// Where the row with these words stands among n rows, no two of which are the same; n if it is not there. Compares the rows of one chain alone.
+// Where the row with these words stands among n rows, no two of which are the same; n if it is not there. Compares the rows of one chain,
+// 1 or 2 as a rule and n at the worst.
 fn find_row(table: &[u16], n: usize, r: Words) -> usize
     requires { ⌜ Searchable n (now table) ⌝ }
     ensures { λ i. ⌜ i ≡ place same-row (row-of r) (upto n (row-at (now (table .entry)))) ⌝ }
@@ -71,7 +72,7 @@ fn store_row(table: &mut [u16], n: usize, r: Words)
     table[k + 2] = r.b;
 }
 
-// Stores a row behind n rows, and in the index.
+// Stores a row behind n rows, and in the index. Constant time.
 fn append_row(table: &mut [u16], n: usize, r: Words)
     requires { ⌜ (n < 4096) × (20480 ≤ length (now table)) ⌝ }
     ensures { λ _. ⌜ now (table .exit) ≡ appended (now (table .entry)) n (row-of r) ⌝ }
@@ -106,7 +107,7 @@ pub fn first_rows(table: &mut [u16])
     );
 }
 
-// The row with these words: the one that stands, or appended.
+// The row with these words: the one that stands, or appended. Costs what finding it does.
 pub fn row(table: &mut [u16], frame: Frame, at: Size, r: Words) -> Step
     requires { ⌜ RowsReady frame (at .rows) (now table) ⌝ }
     ensures { λ s. ⌜ ((o : List ℕ) → Ready frame at (store (now (table .entry)) o) → Builds (row-built (row-of r)) frame at (store (now (table .entry)) o) (store (now (table .exit)) o) s) ⌝ }

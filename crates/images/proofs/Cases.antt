@@ -6,7 +6,7 @@ use mathlib.Core.Bool.{Bool, true, false}
 use mathlib.Core.List.{List}
 use lib.ListN.{length}
 use Rattle.task.specs.Table.{Row, row-at}
-use Rattle.normal_form.specs.Builder.{Build, give, join, pair, Polarity, plain, negated, opposite}
+use Rattle.normal_form.specs.Builder.{Build, give, join, pair, row, variable-row, Polarity, plain, negated, opposite}
 use Rattle.normal_form.specs.Image.{literal}
 use Rattle.normal_form.specs.Growth.{Steady}
 use Rattle.normal_form.proofs.Growth.{steady-give}
@@ -19,7 +19,7 @@ use Rattle.formula_builder.specs.Held.{Store, row-of, held, size-of, side, done
 use Rattle.formula_builder.proofs.Steps.{builds-give}
 use Rattle.images.specs.declared.Sides.{Sides}
 use Rattle.images.specs.Images.{image-at, pair-at, equivalent-at, Notes, Asks, AsksPair, Images}
-use Rattle.images.proofs.Rows.{sides-by, crossed-by, constant-by, operands, negated-operand, of-constant, of-variable, of-negation, of-pair, of-equivalent}
+use Rattle.images.proofs.Rows.{sides-by, crossed-by, constant-by, operands, negated-operand, unused-word, of-constant, of-variable, of-negation, of-pair, of-equivalent}
 use Rattle.images.proofs.Memos.{images-as, images-leaf}
 
 constant-small : (p : Polarity) (k : ℕ) → k < 2 → constant-by p k < 2
@@ -129,6 +129,19 @@ module _ (frame : Frame) (formulas : List ℕ) (at : Size) (before : Store) (scr
         case-equivalent l x =
             images-as (of-equivalent frame formulas scratch (a .source) i (a .formula) p (omega (arith, kind-read))) x
 
+  -- a variable's row, copied
+  pub case-copied :
+      {after : Store} {r : Step}
+      → 2 ≤ w .kind
+      → w .kind < 3
+      → Builds (row (row-of w)) frame at before after r
+      → Images (image-at frame formulas plain i) frame formulas at before after scratch scratch r
+  unfolding literal variable-row
+  case-copied l h b =
+      let k : w .kind ≡ 2 = omega arith in
+      let z : w .b ≡ 0 = b-read ∙ unused-word frame formulas scratch (a .source) i (a .formula) (sym kind-read ∙ k) in
+      case-variable plain k (rw (k, z) at b)
+
 -- Row i's operands, with the words w.
 module _ (frame : Frame) (formulas : List ℕ) (at : Size) (before : Store) (scratch : List ℕ) (i : ℕ) (a : AsksPair frame formulas at before scratch i) (w : Words) (e : row-of w ≡ row-at formulas i) where
   pub left-lower : w .a < i
@@ -152,6 +165,9 @@ module _ (frame : Frame) (formulas : List ℕ) (at : Size) (before : Store) (scr
       ≡ pair (side (s .or)) (image-at frame formulas (side (s .left)) (w .a)) (image-at frame formulas (side (s .right)) (w .b))
   unfolding pair-at
   pair-read s = rw (← e)
+
+pub past-three : (k : ℕ) → 3 ≤ k → (k ≡ 3 → ⊥) → 4 ≤ k
+past-three k h p = omega arith
 
 -- a kind that is none of 0 to 3
 pub four : (k : ℕ) → 2 ≤ k → (k ≡ 2 → ⊥) → (k ≡ 3 → ⊥) → 4 ≤ k

@@ -169,6 +169,14 @@ module _ (frame : Frame) (formulas scratch : List ℕ) (source : Source frame fo
       rw e at rule-held in
       r .0
 
+  -- the last word of a variable's row is not used
+  pub unused-word : row-at formulas i .kind ≡ 2 → row-at formulas i .b ≡ 0
+  unfolding formula-kind
+  unused-word e =
+      let r : FormulaRule (frame .variables) i (formula-kind 2) (row-at formulas i .a) (row-at formulas i .b) =
+      rw e at rule-held in
+      r .1
+
   module _ (p : Polarity) where
     node : Build ℕ
     node =

@@ -8,9 +8,9 @@ use formula_builder::Size;
 use formula_builder::Step;
 use formula_builder::join;
 use formula_builder::read_row;
+use formula_builder::row;
 use formula_builder::standing;
 use formula_builder::twin_row;
-use formula_builder::variable_row;
 ghost use Rattle.normal_form.specs.Builder.{plain, negated};
 ghost use Rattle.formula_builder.specs.Held.{store, side};
 ghost use Rattle.images.specs.Images.{Asks, AsksPair, Images, image-at, pair-at, equivalent-at};
@@ -60,7 +60,7 @@ pub fn negated_image(
     r
 }
 
-// The image of formula i, which the memo has not, by its kind.
+// The image of formula i, which the memo has not, by its kind: a variable's row is copied.
 fn image_of_row(
     formulas: &[u16],
     i: usize,
@@ -77,8 +77,8 @@ fn image_of_row(
     if r.kind < 2 {
         return standing(at, r.kind);
     }
-    if r.kind == 2 {
-        return variable_row(table, frame, at, r.a);
+    if r.kind < 3 {
+        return row(table, frame, at, r);
     }
     if r.kind == 3 {
         return negated_image(formulas, r.a as usize, frame, at, table, originals, scratch);

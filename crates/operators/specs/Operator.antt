@@ -1,7 +1,7 @@
 -- What building one operator asks and gives.
-use Prim.Native.Nat.{ℕ, _+_, _*_, _≤_, _<_}
+use Prim.Native.Nat.{ℕ, _≤_, _<_}
 use mathlib.Core.Path.{_≡_}
-use mathlib.Core.Bool.{Bool, true, false}
+use mathlib.Core.Bool.{Bool, false}
 use mathlib.Core.List.{List}
 use lib.ListN.{length, getD}
 use Rattle.normal_form.specs.Builder.{Build, bind, each, plain}
@@ -12,7 +12,7 @@ use Rattle.formula_builder.specs.Held.{Store}
 use Rattle.images.specs.Images.{image-at}
 use Rattle.conditions.specs.Conditions.{effect-tree}
 use Rattle.task.specs.Table.{row-at}
-use Rattle.changes.specs.Stands.{Stands, StandsAt}
+use Rattle.changes.specs.Stands.{StandsAt}
 use Rattle.touched.specs.Touched.{Untouched}
 
 -- the changes of the variables below v
@@ -45,10 +45,3 @@ operator-here frame formulas effects operators o =
 -- the first n operators
 unfoldable pub operators-built : Frame → List ℕ → List ℕ → List ℕ → ℕ → Build (List (List Changes))
 operators-built frame formulas effects operators n = each n (operator-here frame formulas effects operators)
-
-pub record BuildsAll (frame : Frame) (formulas effects operators : List ℕ) (count : ℕ) (at : Size) (s : Store) (scratch : List ℕ) : Type 0 where
-  pub stands : Stands frame formulas effects at s scratch
-  pub words : 3 * count ≤ length operators
-  pub limit : count ≤ 256
-  pub precondition : (o : ℕ) → o < count → row-at operators o .kind < frame .formulas
-  pub effect : (o : ℕ) → o < count → row-at operators o .a < frame .effects

@@ -1,8 +1,6 @@
 // Building operators: of each its precondition, then what its effect does to each variable that it touches.
 mod operator;
-mod sequence;
 mod walk;
 
 pub use operator::build_operator;
-pub use sequence::build_operators;
 pub use walk::change_if;

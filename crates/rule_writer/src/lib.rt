@@ -3,13 +3,11 @@ mod initial;
 mod operators;
 mod rows;
 mod rules;
-mod twins;
 
 pub use initial::write_initial;
 pub use operators::write_operator;
 pub use rules::write_changes;
 pub use rules::write_rule;
-pub use twins::find_twin;
 
 // The source's variables, the twins that stand after the goal, and how many effect rows there is room for.
 pub struct Frame {

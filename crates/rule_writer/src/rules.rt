@@ -4,7 +4,7 @@ use crate::Changes;
 use crate::Frame;
 use crate::Rule;
 use crate::rows::store;
-use crate::twins::find_twin;
+use formula_builder::find_twin;
 ghost use mathlib.Core.Path.{_≡_};
 ghost use mathlib.Core.Bool.{true};
 ghost use Prim.Native.Nat.{_+_, _*_, _≤_};

@@ -1,3 +1,4 @@
 pub mod Told
 pub mod RunsLeave
 pub mod FilesLeave
+pub mod TaskLeaves

@@ -1,3 +1,4 @@
 pub mod Buffers
+pub mod Compiling
 pub mod Reading
 pub mod Running

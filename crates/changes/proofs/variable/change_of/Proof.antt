@@ -4,7 +4,7 @@ use Rattle.changes.proofs.variable.change_of.Tie as tie
 use Rattle.changes.proofs.variable.change_of.Reads as reads
 use Rattle.changes.proofs.variable.change_of.Lts as lts
 use Rattle.changes.proofs.fresh.condition_of.Reads as condition-of-reads
-use Rattle.changes.proofs.variable.deletes.Reads as deletes-reads
+use Rattle.changes.proofs.conflict.deletes.Reads as deletes-reads
 use Rattle.changes.proofs.Standing.{set-full, clear-full, change-made, stands-at-next}
 use mathlib.Core.Path.{_∙_}
 use Rattle.conditions.specs.Conditions.{effect-tree, condition-at}

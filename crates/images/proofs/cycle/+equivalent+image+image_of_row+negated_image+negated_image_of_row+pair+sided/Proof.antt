@@ -25,7 +25,7 @@ use Rattle.images.proofs.cycle.+equivalent+image+image_of_row+negated_i
 use Rattle.formula_builder.proofs.join.Reads as join-reads
 use Rattle.formula_builder.proofs.standing.Reads as standing-reads
 use Rattle.formula_builder.proofs.read_row.Reads as read-row-reads
-use Rattle.formula_builder.proofs.variable_row.Reads as variable-row-reads
+use Rattle.formula_builder.proofs.row.Reads as row-reads
 use Rattle.formula_builder.proofs.twin_row.Reads as twin-row-reads
 use Rattle.images.proofs.memo.note.Reads as note-reads
 use Rattle.images.proofs.operands.opposite.Reads as opposite-reads
@@ -43,7 +43,7 @@ use Rattle.formula_builder.specs.Held.{store, side}
 use Rattle.normal_form.specs.Image.{literal}
 use Rattle.images.specs.Images.{equivalent-at as equivalent-built}
 use Rattle.images.proofs.Memos.{steady-image-at, steady-pair-at, images-as, asks-next, pair-left-full, pair-right-full, pair-done, images-known, images-noted}
-use Rattle.images.proofs.Cases.{four, join-asks, notes-ready, lower, asks-operand, asks-pair, case-constant, case-variable, case-negation, case-pair, case-equivalent, left-lower, right-lower, asks-left, pair-read}
+use Rattle.images.proofs.Cases.{past-three, four, join-asks, notes-ready, lower, asks-operand, asks-pair, case-constant, case-variable, case-copied, case-negation, case-pair, case-equivalent, left-lower, right-lower, asks-left, pair-read}
 
 abbrev μ-equivalent : Measures 4 equivalent-kinds.ps ℕ
 μ-equivalent κs a = 6 * a .1 .0 + 2
@@ -240,96 +240,95 @@ image-returns-2 : (t : ℕ) → image-lts.Need-returns-2 (standing-reads.Asked, 
 image-returns-2 t c = rw (c .before .before .note .ensures) (images-noted (c .before .before .before .before .before .before .before .before .before .before .before .before .before .before .before .before .before .before .before .before .args .frame) (c .before .before .before .before .before .before .before .before .before .before .before .before .before .before .before .before .before .before .before .before .args .formulas .now) (c .before .before .before .before .before .before .before .before .before .before .before .before .before .before .before .before .before .before .before .before .args .at) _ _ _ _ plain (c .before .before .before .before .before .before .before .before .before .before .before .before .before .before .before .before .before .before .before .before .args .i) (c .before .before .before .before .before .before .before .before .before .before .image-of-row .result) (c .before .before .before .before .before .before .before .before .before .before .before .before .before .before .before .before .before .before .before .before .pre .1 .formula) (omega (arith, c .before .before .before .before .before .before .before .before .before .before .image-of-row .kept .1 .1 .1 .1 .1 .1 .0, c .before .before .before .before .before .before .before .before .before .before .before .before .before .before .before .before .before .before .before .before .pre .1 .source .memo)) (c .before .before .before .before .before .before .before .before .before .before .image-of-row .ensures))
 
 -- src/cycle.rt:44:9
-image-of-row-read-row-requires : (t : ℕ) → image-of-row-lts.Need-read-row-requires (read-row-reads.Asked, read-row-reads.Learnt, standing-reads.Asked, standing-reads.Learnt, variable-row-reads.Asked, variable-row-reads.Learnt, negated-image-below t, negated-image.Post, sides-reads.Asked, sides-reads.Learnt, pair-below t, pair.Post, equivalent-below t, equivalent.Post) (image-of-row-at t) image-of-row.Post
+image-of-row-read-row-requires : (t : ℕ) → image-of-row-lts.Need-read-row-requires (read-row-reads.Asked, read-row-reads.Learnt, standing-reads.Asked, standing-reads.Learnt, row-reads.Asked, row-reads.Learnt, negated-image-below t, negated-image.Post, sides-reads.Asked, sides-reads.Learnt, pair-below t, pair.Post, equivalent-below t, equivalent.Post) (image-of-row-at t) image-of-row.Post
 image-of-row-read-row-requires t c κs = omega (arith, c .before .before .before .before .pre .1 .source .words, c .before .before .before .before .pre .1 .formula)
 
 -- src/cycle.rt:46:9
-image-of-row-standing-requires : (t : ℕ) → image-of-row-lts.Need-standing-requires (read-row-reads.Asked, read-row-reads.Learnt, standing-reads.Asked, standing-reads.Learnt, variable-row-reads.Asked, variable-row-reads.Learnt, negated-image-below t, negated-image.Post, sides-reads.Asked, sides-reads.Learnt, pair-below t, pair.Post, equivalent-below t, equivalent.Post) (image-of-row-at t) image-of-row.Post
+image-of-row-standing-requires : (t : ℕ) → image-of-row-lts.Need-standing-requires (read-row-reads.Asked, read-row-reads.Learnt, standing-reads.Asked, standing-reads.Learnt, row-reads.Asked, row-reads.Learnt, negated-image-below t, negated-image.Post, sides-reads.Asked, sides-reads.Learnt, pair-below t, pair.Post, equivalent-below t, equivalent.Post) (image-of-row-at t) image-of-row.Post
 image-of-row-standing-requires t c κs = search needs
 
 -- src/cycle.rt:46:9
-image-of-row-returns : (t : ℕ) → image-of-row-lts.Need-returns (read-row-reads.Asked, read-row-reads.Learnt, standing-reads.Asked, standing-reads.Learnt, variable-row-reads.Asked, variable-row-reads.Learnt, negated-image-below t, negated-image.Post, sides-reads.Asked, sides-reads.Learnt, pair-below t, pair.Post, equivalent-below t, equivalent.Post) (image-of-row-at t) image-of-row.Post
+image-of-row-returns : (t : ℕ) → image-of-row-lts.Need-returns (read-row-reads.Asked, read-row-reads.Learnt, standing-reads.Asked, standing-reads.Learnt, row-reads.Asked, row-reads.Learnt, negated-image-below t, negated-image.Post, sides-reads.Asked, sides-reads.Learnt, pair-below t, pair.Post, equivalent-below t, equivalent.Post) (image-of-row-at t) image-of-row.Post
 image-of-row-returns t c = rw (c .standing .ensures) (case-constant (c .before .before .before .before .before .before .before .before .args .frame) (c .before .before .before .before .before .before .before .before .args .formulas .now) (c .before .before .before .before .before .before .before .before .args .at) (store (c .before .before .before .before .before .before .before .before .args .table .now) (c .before .before .before .before .before .before .before .before .args .originals .now)) (c .before .before .before .before .before .before .before .before .args .scratch .now) (c .before .before .before .before .before .before .before .before .args .i) (c .before .before .before .before .before .before .before .before .pre .1) (c .before .before .before .read-row .result) (c .before .before .before .read-row .ensures) plain (c .before .if1 .taken))
 
 -- src/cycle.rt:49:9
-image-of-row-variable-row-requires : (t : ℕ) → image-of-row-lts.Need-variable-row-requires (read-row-reads.Asked, read-row-reads.Learnt, standing-reads.Asked, standing-reads.Learnt, variable-row-reads.Asked, variable-row-reads.Learnt, negated-image-below t, negated-image.Post, sides-reads.Asked, sides-reads.Learnt, pair-below t, pair.Post, equivalent-below t, equivalent.Post) (image-of-row-at t) image-of-row.Post
-image-of-row-variable-row-requires t c κs = c .before .before .before .before .before .before .before .before .before .before .pre .1 .ready .rows
+image-of-row-row-requires : (t : ℕ) → image-of-row-lts.Need-row-requires (read-row-reads.Asked, read-row-reads.Learnt, standing-reads.Asked, standing-reads.Learnt, row-reads.Asked, row-reads.Learnt, negated-image-below t, negated-image.Post, sides-reads.Asked, sides-reads.Learnt, pair-below t, pair.Post, equivalent-below t, equivalent.Post) (image-of-row-at t) image-of-row.Post
+image-of-row-row-requires t c κs = c .before .before .before .before .before .before .before .before .before .before .pre .1 .ready .rows
 
 -- src/cycle.rt:49:9
-image-of-row-same-length : (t : ℕ) → image-of-row-lts.Need-same-length (read-row-reads.Asked, read-row-reads.Learnt, standing-reads.Asked, standing-reads.Learnt, variable-row-reads.Asked, variable-row-reads.Learnt, negated-image-below t, negated-image.Post, sides-reads.Asked, sides-reads.Learnt, pair-below t, pair.Post, equivalent-below t, equivalent.Post) (image-of-row-at t) image-of-row.Post
+image-of-row-same-length : (t : ℕ) → image-of-row-lts.Need-same-length (read-row-reads.Asked, read-row-reads.Learnt, standing-reads.Asked, standing-reads.Learnt, row-reads.Asked, row-reads.Learnt, negated-image-below t, negated-image.Post, sides-reads.Asked, sides-reads.Learnt, pair-below t, pair.Post, equivalent-below t, equivalent.Post) (image-of-row-at t) image-of-row.Post
 image-of-row-same-length t c = search needs
 
 -- src/cycle.rt:49:9
-image-of-row-returns-2 : (t : ℕ) → image-of-row-lts.Need-returns-2 (read-row-reads.Asked, read-row-reads.Learnt, standing-reads.Asked, standing-reads.Learnt, variable-row-reads.Asked, variable-row-reads.Learnt, negated-image-below t, negated-image.Post, sides-reads.Asked, sides-reads.Learnt, pair-below t, pair.Post, equivalent-below t, equivalent.Post) (image-of-row-at t) image-of-row.Post
-unfolding literal
-image-of-row-returns-2 t c = case-variable (c .before .before .before .before .before .before .before .before .before .before .before .before .before .args .frame) (c .before .before .before .before .before .before .before .before .before .before .before .before .before .args .formulas .now) (c .before .before .before .before .before .before .before .before .before .before .before .before .before .args .at) (store (c .before .before .before .before .before .before .before .before .before .before .before .before .before .args .table .now) (c .before .before .before .before .before .before .before .before .before .before .before .before .before .args .originals .now)) (c .before .before .before .before .before .before .before .before .before .before .before .before .before .args .scratch .now) (c .before .before .before .before .before .before .before .before .before .before .before .before .before .args .i) (c .before .before .before .before .before .before .before .before .before .before .before .before .before .pre .1) (c .before .before .before .before .before .before .before .before .read-row .result) (c .before .before .before .before .before .before .before .before .read-row .ensures) plain (c .before .before .before .before .if2 .taken) (c .before .before .variable-row .ensures (c .before .before .before .before .before .before .before .before .before .before .before .before .before .args .originals .now) (c .before .before .before .before .before .before .before .before .before .before .before .before .before .pre .1 .ready))
+image-of-row-returns-2 : (t : ℕ) → image-of-row-lts.Need-returns-2 (read-row-reads.Asked, read-row-reads.Learnt, standing-reads.Asked, standing-reads.Learnt, row-reads.Asked, row-reads.Learnt, negated-image-below t, negated-image.Post, sides-reads.Asked, sides-reads.Learnt, pair-below t, pair.Post, equivalent-below t, equivalent.Post) (image-of-row-at t) image-of-row.Post
+image-of-row-returns-2 t c = case-copied (c .before .before .before .before .before .before .before .before .before .before .before .before .before .args .frame) (c .before .before .before .before .before .before .before .before .before .before .before .before .before .args .formulas .now) (c .before .before .before .before .before .before .before .before .before .before .before .before .before .args .at) (store (c .before .before .before .before .before .before .before .before .before .before .before .before .before .args .table .now) (c .before .before .before .before .before .before .before .before .before .before .before .before .before .args .originals .now)) (c .before .before .before .before .before .before .before .before .before .before .before .before .before .args .scratch .now) (c .before .before .before .before .before .before .before .before .before .before .before .before .before .args .i) (c .before .before .before .before .before .before .before .before .before .before .before .before .before .pre .1) (c .before .before .before .before .before .before .before .before .read-row .result) (c .before .before .before .before .before .before .before .before .read-row .ensures) (c .before .before .before .before .before .before .if1 .left) (c .before .before .before .before .if2 .taken) (c .before .before .row .ensures (c .before .before .before .before .before .before .before .before .before .before .before .before .before .args .originals .now) (c .before .before .before .before .before .before .before .before .before .before .before .before .before .pre .1 .ready))
 
 -- src/cycle.rt:52:40
-image-of-row-cast-negated-image : (t : ℕ) → image-of-row-lts.Need-cast-negated-image (read-row-reads.Asked, read-row-reads.Learnt, standing-reads.Asked, standing-reads.Learnt, variable-row-reads.Asked, variable-row-reads.Learnt, negated-image-below t, negated-image.Post, sides-reads.Asked, sides-reads.Learnt, pair-below t, pair.Post, equivalent-below t, equivalent.Post) (image-of-row-at t) image-of-row.Post
+image-of-row-cast-negated-image : (t : ℕ) → image-of-row-lts.Need-cast-negated-image (read-row-reads.Asked, read-row-reads.Learnt, standing-reads.Asked, standing-reads.Learnt, row-reads.Asked, row-reads.Learnt, negated-image-below t, negated-image.Post, sides-reads.Asked, sides-reads.Learnt, pair-below t, pair.Post, equivalent-below t, equivalent.Post) (image-of-row-at t) image-of-row.Post
 image-of-row-cast-negated-image t c = search needs
 
 -- src/cycle.rt:52:9
-image-of-row-negated-image-requires : (t : ℕ) → image-of-row-lts.Need-negated-image-requires (read-row-reads.Asked, read-row-reads.Learnt, standing-reads.Asked, standing-reads.Learnt, variable-row-reads.Asked, variable-row-reads.Learnt, negated-image-below t, negated-image.Post, sides-reads.Asked, sides-reads.Learnt, pair-below t, pair.Post, equivalent-below t, equivalent.Post) (image-of-row-at t) image-of-row.Post
+image-of-row-negated-image-requires : (t : ℕ) → image-of-row-lts.Need-negated-image-requires (read-row-reads.Asked, read-row-reads.Learnt, standing-reads.Asked, standing-reads.Learnt, row-reads.Asked, row-reads.Learnt, negated-image-below t, negated-image.Post, sides-reads.Asked, sides-reads.Learnt, pair-below t, pair.Post, equivalent-below t, equivalent.Post) (image-of-row-at t) image-of-row.Post
 image-of-row-negated-image-requires t c κs = (omega (arith, c .before .before .before .before .before .before .before .before .before .before .before .before .before .before .before .pre .0, lower (c .before .before .before .before .before .before .before .before .before .before .before .before .before .before .before .args .frame) (c .before .before .before .before .before .before .before .before .before .before .before .before .before .before .before .args .formulas .now) (c .before .before .before .before .before .before .before .before .before .before .before .before .before .before .before .args .at) (store (c .before .before .before .before .before .before .before .before .before .before .before .before .before .before .before .args .table .now) (c .before .before .before .before .before .before .before .before .before .before .before .before .before .before .before .args .originals .now)) (c .before .before .before .before .before .before .before .before .before .before .before .before .before .before .before .args .scratch .now) (c .before .before .before .before .before .before .before .before .before .before .before .before .before .before .before .args .i) (c .before .before .before .before .before .before .before .before .before .before .before .before .before .before .before .pre .1) (c .before .before .before .before .before .before .before .before .before .before .read-row .result) (c .before .before .before .before .before .before .before .before .before .before .read-row .ensures) (c .before .before .before .before .if3 .taken)), asks-operand (c .before .before .before .before .before .before .before .before .before .before .before .before .before .before .before .args .frame) (c .before .before .before .before .before .before .before .before .before .before .before .before .before .before .before .args .formulas .now) (c .before .before .before .before .before .before .before .before .before .before .before .before .before .before .before .args .at) (store (c .before .before .before .before .before .before .before .before .before .before .before .before .before .before .before .args .table .now) (c .before .before .before .before .before .before .before .before .before .before .before .before .before .before .before .args .originals .now)) (c .before .before .before .before .before .before .before .before .before .before .before .before .before .before .before .args .scratch .now) (c .before .before .before .before .before .before .before .before .before .before .before .before .before .before .before .args .i) (c .before .before .before .before .before .before .before .before .before .before .before .before .before .before .before .pre .1) (c .before .before .before .before .before .before .before .before .before .before .read-row .result) (c .before .before .before .before .before .before .before .before .before .before .read-row .ensures) (c .before .before .before .before .if3 .taken))
 
 -- src/cycle.rt:52:9
-image-of-row-same-length-2 : (t : ℕ) → image-of-row-lts.Need-same-length-2 (read-row-reads.Asked, read-row-reads.Learnt, standing-reads.Asked, standing-reads.Learnt, variable-row-reads.Asked, variable-row-reads.Learnt, negated-image-below t, negated-image.Post, sides-reads.Asked, sides-reads.Learnt, pair-below t, pair.Post, equivalent-below t, equivalent.Post) (image-of-row-at t) image-of-row.Post
+image-of-row-same-length-2 : (t : ℕ) → image-of-row-lts.Need-same-length-2 (read-row-reads.Asked, read-row-reads.Learnt, standing-reads.Asked, standing-reads.Learnt, row-reads.Asked, row-reads.Learnt, negated-image-below t, negated-image.Post, sides-reads.Asked, sides-reads.Learnt, pair-below t, pair.Post, equivalent-below t, equivalent.Post) (image-of-row-at t) image-of-row.Post
 image-of-row-same-length-2 t c = search needs
 
 -- src/cycle.rt:52:9
-image-of-row-same-length-3 : (t : ℕ) → image-of-row-lts.Need-same-length-3 (read-row-reads.Asked, read-row-reads.Learnt, standing-reads.Asked, standing-reads.Learnt, variable-row-reads.Asked, variable-row-reads.Learnt, negated-image-below t, negated-image.Post, sides-reads.Asked, sides-reads.Learnt, pair-below t, pair.Post, equivalent-below t, equivalent.Post) (image-of-row-at t) image-of-row.Post
+image-of-row-same-length-3 : (t : ℕ) → image-of-row-lts.Need-same-length-3 (read-row-reads.Asked, read-row-reads.Learnt, standing-reads.Asked, standing-reads.Learnt, row-reads.Asked, row-reads.Learnt, negated-image-below t, negated-image.Post, sides-reads.Asked, sides-reads.Learnt, pair-below t, pair.Post, equivalent-below t, equivalent.Post) (image-of-row-at t) image-of-row.Post
 image-of-row-same-length-3 t c = search needs
 
 -- src/cycle.rt:52:9
-image-of-row-same-length-4 : (t : ℕ) → image-of-row-lts.Need-same-length-4 (read-row-reads.Asked, read-row-reads.Learnt, standing-reads.Asked, standing-reads.Learnt, variable-row-reads.Asked, variable-row-reads.Learnt, negated-image-below t, negated-image.Post, sides-reads.Asked, sides-reads.Learnt, pair-below t, pair.Post, equivalent-below t, equivalent.Post) (image-of-row-at t) image-of-row.Post
+image-of-row-same-length-4 : (t : ℕ) → image-of-row-lts.Need-same-length-4 (read-row-reads.Asked, read-row-reads.Learnt, standing-reads.Asked, standing-reads.Learnt, row-reads.Asked, row-reads.Learnt, negated-image-below t, negated-image.Post, sides-reads.Asked, sides-reads.Learnt, pair-below t, pair.Post, equivalent-below t, equivalent.Post) (image-of-row-at t) image-of-row.Post
 image-of-row-same-length-4 t c = search needs
 
 -- src/cycle.rt:52:9
-image-of-row-returns-3 : (t : ℕ) → image-of-row-lts.Need-returns-3 (read-row-reads.Asked, read-row-reads.Learnt, standing-reads.Asked, standing-reads.Learnt, variable-row-reads.Asked, variable-row-reads.Learnt, negated-image-below t, negated-image.Post, sides-reads.Asked, sides-reads.Learnt, pair-below t, pair.Post, equivalent-below t, equivalent.Post) (image-of-row-at t) image-of-row.Post
+image-of-row-returns-3 : (t : ℕ) → image-of-row-lts.Need-returns-3 (read-row-reads.Asked, read-row-reads.Learnt, standing-reads.Asked, standing-reads.Learnt, row-reads.Asked, row-reads.Learnt, negated-image-below t, negated-image.Post, sides-reads.Asked, sides-reads.Learnt, pair-below t, pair.Post, equivalent-below t, equivalent.Post) (image-of-row-at t) image-of-row.Post
 image-of-row-returns-3 t c = case-negation (c .before .before .before .before .before .before .before .before .before .before .before .before .before .before .before .before .before .before .before .before .before .before .args .frame) (c .before .before .before .before .before .before .before .before .before .before .before .before .before .before .before .before .before .before .before .before .before .before .args .formulas .now) (c .before .before .before .before .before .before .before .before .before .before .before .before .before .before .before .before .before .before .before .before .before .before .args .at) (store (c .before .before .before .before .before .before .before .before .before .before .before .before .before .before .before .before .before .before .before .before .before .before .args .table .now) (c .before .before .before .before .before .before .before .before .before .before .before .before .before .before .before .before .before .before .before .before .before .before .args .originals .now)) (c .before .before .before .before .before .before .before .before .before .before .before .before .before .before .before .before .before .before .before .before .before .before .args .scratch .now) (c .before .before .before .before .before .before .before .before .before .before .before .before .before .before .before .before .before .before .before .before .before .before .args .i) (c .before .before .before .before .before .before .before .before .before .before .before .before .before .before .before .before .before .before .before .before .before .before .pre .1) (c .before .before .before .before .before .before .before .before .before .before .before .before .before .before .before .before .before .read-row .result) (c .before .before .before .before .before .before .before .before .before .before .before .before .before .before .before .before .before .read-row .ensures) plain (c .before .before .before .before .before .before .before .before .before .before .before .if3 .taken) (c .before .before .before .before .before .before .negated-image .ensures)
 
 -- src/cycle.rt:55:34
-image-of-row-sides-requires : (t : ℕ) → image-of-row-lts.Need-sides-requires (read-row-reads.Asked, read-row-reads.Learnt, standing-reads.Asked, standing-reads.Learnt, variable-row-reads.Asked, variable-row-reads.Learnt, negated-image-below t, negated-image.Post, sides-reads.Asked, sides-reads.Learnt, pair-below t, pair.Post, equivalent-below t, equivalent.Post) (image-of-row-at t) image-of-row.Post
+image-of-row-sides-requires : (t : ℕ) → image-of-row-lts.Need-sides-requires (read-row-reads.Asked, read-row-reads.Learnt, standing-reads.Asked, standing-reads.Learnt, row-reads.Asked, row-reads.Learnt, negated-image-below t, negated-image.Post, sides-reads.Asked, sides-reads.Learnt, pair-below t, pair.Post, equivalent-below t, equivalent.Post) (image-of-row-at t) image-of-row.Post
 image-of-row-sides-requires t c κs = search needs
 
 -- src/cycle.rt:55:9
-image-of-row-pair-requires : (t : ℕ) → image-of-row-lts.Need-pair-requires (read-row-reads.Asked, read-row-reads.Learnt, standing-reads.Asked, standing-reads.Learnt, variable-row-reads.Asked, variable-row-reads.Learnt, negated-image-below t, negated-image.Post, sides-reads.Asked, sides-reads.Learnt, pair-below t, pair.Post, equivalent-below t, equivalent.Post) (image-of-row-at t) image-of-row.Post
-image-of-row-pair-requires t c κs = (omega (arith, c .before .before .before .before .before .before .before .before .before .before .before .before .before .before .before .before .before .pre .0), asks-pair (c .before .before .before .before .before .before .before .before .before .before .before .before .before .before .before .before .before .args .frame) (c .before .before .before .before .before .before .before .before .before .before .before .before .before .before .before .before .before .args .formulas .now) (c .before .before .before .before .before .before .before .before .before .before .before .before .before .before .before .before .before .args .at) (store (c .before .before .before .before .before .before .before .before .before .before .before .before .before .before .before .before .before .args .table .now) (c .before .before .before .before .before .before .before .before .before .before .before .before .before .before .before .before .before .args .originals .now)) (c .before .before .before .before .before .before .before .before .before .before .before .before .before .before .before .before .before .args .scratch .now) (c .before .before .before .before .before .before .before .before .before .before .before .before .before .before .before .before .before .args .i) (c .before .before .before .before .before .before .before .before .before .before .before .before .before .before .before .before .before .pre .1) (c .before .before .before .before .before .before .before .before .before .before .before .before .read-row .result) (c .before .before .before .before .before .before .before .before .before .before .before .before .read-row .ensures) (four (c .before .before .before .before .before .before .before .before .before .before .before .before .read-row .result .kind) (c .before .before .before .before .before .before .before .before .before .before .if1 .left) (c .before .before .before .before .before .before .before .before .if2 .left) (c .before .before .before .before .before .before .if3 .left)))
+image-of-row-pair-requires : (t : ℕ) → image-of-row-lts.Need-pair-requires (read-row-reads.Asked, read-row-reads.Learnt, standing-reads.Asked, standing-reads.Learnt, row-reads.Asked, row-reads.Learnt, negated-image-below t, negated-image.Post, sides-reads.Asked, sides-reads.Learnt, pair-below t, pair.Post, equivalent-below t, equivalent.Post) (image-of-row-at t) image-of-row.Post
+image-of-row-pair-requires t c κs = (omega (arith, c .before .before .before .before .before .before .before .before .before .before .before .before .before .before .before .before .before .pre .0), asks-pair (c .before .before .before .before .before .before .before .before .before .before .before .before .before .before .before .before .before .args .frame) (c .before .before .before .before .before .before .before .before .before .before .before .before .before .before .before .before .before .args .formulas .now) (c .before .before .before .before .before .before .before .before .before .before .before .before .before .before .before .before .before .args .at) (store (c .before .before .before .before .before .before .before .before .before .before .before .before .before .before .before .before .before .args .table .now) (c .before .before .before .before .before .before .before .before .before .before .before .before .before .before .before .before .before .args .originals .now)) (c .before .before .before .before .before .before .before .before .before .before .before .before .before .before .before .before .before .args .scratch .now) (c .before .before .before .before .before .before .before .before .before .before .before .before .before .before .before .before .before .args .i) (c .before .before .before .before .before .before .before .before .before .before .before .before .before .before .before .before .before .pre .1) (c .before .before .before .before .before .before .before .before .before .before .before .before .read-row .result) (c .before .before .before .before .before .before .before .before .before .before .before .before .read-row .ensures) (past-three (c .before .before .before .before .before .before .before .before .before .before .before .before .read-row .result .kind) (c .before .before .before .before .before .before .before .before .if2 .left) (c .before .before .before .before .before .before .if3 .left)))
 
 -- src/cycle.rt:55:9
-image-of-row-same-length-5 : (t : ℕ) → image-of-row-lts.Need-same-length-5 (read-row-reads.Asked, read-row-reads.Learnt, standing-reads.Asked, standing-reads.Learnt, variable-row-reads.Asked, variable-row-reads.Learnt, negated-image-below t, negated-image.Post, sides-reads.Asked, sides-reads.Learnt, pair-below t, pair.Post, equivalent-below t, equivalent.Post) (image-of-row-at t) image-of-row.Post
+image-of-row-same-length-5 : (t : ℕ) → image-of-row-lts.Need-same-length-5 (read-row-reads.Asked, read-row-reads.Learnt, standing-reads.Asked, standing-reads.Learnt, row-reads.Asked, row-reads.Learnt, negated-image-below t, negated-image.Post, sides-reads.Asked, sides-reads.Learnt, pair-below t, pair.Post, equivalent-below t, equivalent.Post) (image-of-row-at t) image-of-row.Post
 image-of-row-same-length-5 t c = search needs
 
 -- src/cycle.rt:55:9
-image-of-row-same-length-6 : (t : ℕ) → image-of-row-lts.Need-same-length-6 (read-row-reads.Asked, read-row-reads.Learnt, standing-reads.Asked, standing-reads.Learnt, variable-row-reads.Asked, variable-row-reads.Learnt, negated-image-below t, negated-image.Post, sides-reads.Asked, sides-reads.Learnt, pair-below t, pair.Post, equivalent-below t, equivalent.Post) (image-of-row-at t) image-of-row.Post
+image-of-row-same-length-6 : (t : ℕ) → image-of-row-lts.Need-same-length-6 (read-row-reads.Asked, read-row-reads.Learnt, standing-reads.Asked, standing-reads.Learnt, row-reads.Asked, row-reads.Learnt, negated-image-below t, negated-image.Post, sides-reads.Asked, sides-reads.Learnt, pair-below t, pair.Post, equivalent-below t, equivalent.Post) (image-of-row-at t) image-of-row.Post
 image-of-row-same-length-6 t c = search needs
 
 -- src/cycle.rt:55:9
-image-of-row-same-length-7 : (t : ℕ) → image-of-row-lts.Need-same-length-7 (read-row-reads.Asked, read-row-reads.Learnt, standing-reads.Asked, standing-reads.Learnt, variable-row-reads.Asked, variable-row-reads.Learnt, negated-image-below t, negated-image.Post, sides-reads.Asked, sides-reads.Learnt, pair-below t, pair.Post, equivalent-below t, equivalent.Post) (image-of-row-at t) image-of-row.Post
+image-of-row-same-length-7 : (t : ℕ) → image-of-row-lts.Need-same-length-7 (read-row-reads.Asked, read-row-reads.Learnt, standing-reads.Asked, standing-reads.Learnt, row-reads.Asked, row-reads.Learnt, negated-image-below t, negated-image.Post, sides-reads.Asked, sides-reads.Learnt, pair-below t, pair.Post, equivalent-below t, equivalent.Post) (image-of-row-at t) image-of-row.Post
 image-of-row-same-length-7 t c = search needs
 
 -- src/cycle.rt:55:9
-image-of-row-returns-4 : (t : ℕ) → image-of-row-lts.Need-returns-4 (read-row-reads.Asked, read-row-reads.Learnt, standing-reads.Asked, standing-reads.Learnt, variable-row-reads.Asked, variable-row-reads.Learnt, negated-image-below t, negated-image.Post, sides-reads.Asked, sides-reads.Learnt, pair-below t, pair.Post, equivalent-below t, equivalent.Post) (image-of-row-at t) image-of-row.Post
-image-of-row-returns-4 t c = case-pair (c .before .before .before .before .before .before .before .before .before .before .before .before .before .before .before .before .before .before .before .before .before .before .before .before .args .frame) (c .before .before .before .before .before .before .before .before .before .before .before .before .before .before .before .before .before .before .before .before .before .before .before .before .args .formulas .now) (c .before .before .before .before .before .before .before .before .before .before .before .before .before .before .before .before .before .before .before .before .before .before .before .before .args .at) (store (c .before .before .before .before .before .before .before .before .before .before .before .before .before .before .before .before .before .before .before .before .before .before .before .before .args .table .now) (c .before .before .before .before .before .before .before .before .before .before .before .before .before .before .before .before .before .before .before .before .before .before .before .before .args .originals .now)) (c .before .before .before .before .before .before .before .before .before .before .before .before .before .before .before .before .before .before .before .before .before .before .before .before .args .scratch .now) (c .before .before .before .before .before .before .before .before .before .before .before .before .before .before .before .before .before .before .before .before .before .before .before .before .args .i) (c .before .before .before .before .before .before .before .before .before .before .before .before .before .before .before .before .before .before .before .before .before .before .before .before .pre .1) (c .before .before .before .before .before .before .before .before .before .before .before .before .before .before .before .before .before .before .before .read-row .result) (c .before .before .before .before .before .before .before .before .before .before .before .before .before .before .before .before .before .before .before .read-row .ensures) plain (four (c .before .before .before .before .before .before .before .before .before .before .before .before .before .before .before .before .before .before .before .read-row .result .kind) (c .before .before .before .before .before .before .before .before .before .before .before .before .before .before .before .before .before .if1 .left) (c .before .before .before .before .before .before .before .before .before .before .before .before .before .before .before .if2 .left) (c .before .before .before .before .before .before .before .before .before .before .before .before .before .if3 .left)) (c .before .before .before .before .before .before .before .before .before .before .before .if4 .taken) (rw (c .before .before .before .before .before .before .before .before .before .before .sides .ensures) at (c .before .before .before .before .before .before .pair .ensures))
+image-of-row-returns-4 : (t : ℕ) → image-of-row-lts.Need-returns-4 (read-row-reads.Asked, read-row-reads.Learnt, standing-reads.Asked, standing-reads.Learnt, row-reads.Asked, row-reads.Learnt, negated-image-below t, negated-image.Post, sides-reads.Asked, sides-reads.Learnt, pair-below t, pair.Post, equivalent-below t, equivalent.Post) (image-of-row-at t) image-of-row.Post
+image-of-row-returns-4 t c = case-pair (c .before .before .before .before .before .before .before .before .before .before .before .before .before .before .before .before .before .before .before .before .before .before .before .before .args .frame) (c .before .before .before .before .before .before .before .before .before .before .before .before .before .before .before .before .before .before .before .before .before .before .before .before .args .formulas .now) (c .before .before .before .before .before .before .before .before .before .before .before .before .before .before .before .before .before .before .before .before .before .before .before .before .args .at) (store (c .before .before .before .before .before .before .before .before .before .before .before .before .before .before .before .before .before .before .before .before .before .before .before .before .args .table .now) (c .before .before .before .before .before .before .before .before .before .before .before .before .before .before .before .before .before .before .before .before .before .before .before .before .args .originals .now)) (c .before .before .before .before .before .before .before .before .before .before .before .before .before .before .before .before .before .before .before .before .before .before .before .before .args .scratch .now) (c .before .before .before .before .before .before .before .before .before .before .before .before .before .before .before .before .before .before .before .before .before .before .before .before .args .i) (c .before .before .before .before .before .before .before .before .before .before .before .before .before .before .before .before .before .before .before .before .before .before .before .before .pre .1) (c .before .before .before .before .before .before .before .before .before .before .before .before .before .before .before .before .before .before .before .read-row .result) (c .before .before .before .before .before .before .before .before .before .before .before .before .before .before .before .before .before .before .before .read-row .ensures) plain (past-three (c .before .before .before .before .before .before .before .before .before .before .before .before .before .before .before .before .before .before .before .read-row .result .kind) (c .before .before .before .before .before .before .before .before .before .before .before .before .before .before .before .if2 .left) (c .before .before .before .before .before .before .before .before .before .before .before .before .before .if3 .left)) (c .before .before .before .before .before .before .before .before .before .before .before .if4 .taken) (rw (c .before .before .before .before .before .before .before .before .before .before .sides .ensures) at (c .before .before .before .before .before .before .pair .ensures))
 
 -- src/cycle.rt:57:5
-image-of-row-equivalent-requires : (t : ℕ) → image-of-row-lts.Need-equivalent-requires (read-row-reads.Asked, read-row-reads.Learnt, standing-reads.Asked, standing-reads.Learnt, variable-row-reads.Asked, variable-row-reads.Learnt, negated-image-below t, negated-image.Post, sides-reads.Asked, sides-reads.Learnt, pair-below t, pair.Post, equivalent-below t, equivalent.Post) (image-of-row-at t) image-of-row.Post
+image-of-row-equivalent-requires : (t : ℕ) → image-of-row-lts.Need-equivalent-requires (read-row-reads.Asked, read-row-reads.Learnt, standing-reads.Asked, standing-reads.Learnt, row-reads.Asked, row-reads.Learnt, negated-image-below t, negated-image.Post, sides-reads.Asked, sides-reads.Learnt, pair-below t, pair.Post, equivalent-below t, equivalent.Post) (image-of-row-at t) image-of-row.Post
 image-of-row-equivalent-requires t c κs = (omega (arith, c .before .before .before .before .before .before .before .before .before .before .before .before .before .before .before .before .pre .0), asks-pair (c .before .before .before .before .before .before .before .before .before .before .before .before .before .before .before .before .args .frame) (c .before .before .before .before .before .before .before .before .before .before .before .before .before .before .before .before .args .formulas .now) (c .before .before .before .before .before .before .before .before .before .before .before .before .before .before .before .before .args .at) (store (c .before .before .before .before .before .before .before .before .before .before .before .before .before .before .before .before .args .table .now) (c .before .before .before .before .before .before .before .before .before .before .before .before .before .before .before .before .args .originals .now)) (c .before .before .before .before .before .before .before .before .before .before .before .before .before .before .before .before .args .scratch .now) (c .before .before .before .before .before .before .before .before .before .before .before .before .before .before .before .before .args .i) (c .before .before .before .before .before .before .before .before .before .before .before .before .before .before .before .before .pre .1) (c .before .before .before .before .before .before .before .before .before .before .before .read-row .result) (c .before .before .before .before .before .before .before .before .before .before .before .read-row .ensures) (omega (arith, c .before .before .before .if4 .left)))
 
 -- src/cycle.rt:40:1
-image-of-row-same-length-8 : (t : ℕ) → image-of-row-lts.Need-same-length-8 (read-row-reads.Asked, read-row-reads.Learnt, standing-reads.Asked, standing-reads.Learnt, variable-row-reads.Asked, variable-row-reads.Learnt, negated-image-below t, negated-image.Post, sides-reads.Asked, sides-reads.Learnt, pair-below t, pair.Post, equivalent-below t, equivalent.Post) (image-of-row-at t) image-of-row.Post
+image-of-row-same-length-8 : (t : ℕ) → image-of-row-lts.Need-same-length-8 (read-row-reads.Asked, read-row-reads.Learnt, standing-reads.Asked, standing-reads.Learnt, row-reads.Asked, row-reads.Learnt, negated-image-below t, negated-image.Post, sides-reads.Asked, sides-reads.Learnt, pair-below t, pair.Post, equivalent-below t, equivalent.Post) (image-of-row-at t) image-of-row.Post
 image-of-row-same-length-8 t c = search needs
 
 -- src/cycle.rt:40:1
-image-of-row-same-length-9 : (t : ℕ) → image-of-row-lts.Need-same-length-9 (read-row-reads.Asked, read-row-reads.Learnt, standing-reads.Asked, standing-reads.Learnt, variable-row-reads.Asked, variable-row-reads.Learnt, negated-image-below t, negated-image.Post, sides-reads.Asked, sides-reads.Learnt, pair-below t, pair.Post, equivalent-below t, equivalent.Post) (image-of-row-at t) image-of-row.Post
+image-of-row-same-length-9 : (t : ℕ) → image-of-row-lts.Need-same-length-9 (read-row-reads.Asked, read-row-reads.Learnt, standing-reads.Asked, standing-reads.Learnt, row-reads.Asked, row-reads.Learnt, negated-image-below t, negated-image.Post, sides-reads.Asked, sides-reads.Learnt, pair-below t, pair.Post, equivalent-below t, equivalent.Post) (image-of-row-at t) image-of-row.Post
 image-of-row-same-length-9 t c = search needs
 
 -- src/cycle.rt:40:1
-image-of-row-same-length-10 : (t : ℕ) → image-of-row-lts.Need-same-length-10 (read-row-reads.Asked, read-row-reads.Learnt, standing-reads.Asked, standing-reads.Learnt, variable-row-reads.Asked, variable-row-reads.Learnt, negated-image-below t, negated-image.Post, sides-reads.Asked, sides-reads.Learnt, pair-below t, pair.Post, equivalent-below t, equivalent.Post) (image-of-row-at t) image-of-row.Post
+image-of-row-same-length-10 : (t : ℕ) → image-of-row-lts.Need-same-length-10 (read-row-reads.Asked, read-row-reads.Learnt, standing-reads.Asked, standing-reads.Learnt, row-reads.Asked, row-reads.Learnt, negated-image-below t, negated-image.Post, sides-reads.Asked, sides-reads.Learnt, pair-below t, pair.Post, equivalent-below t, equivalent.Post) (image-of-row-at t) image-of-row.Post
 image-of-row-same-length-10 t c = search needs
 
 -- src/cycle.rt:40:1
-image-of-row-returns-5 : (t : ℕ) → image-of-row-lts.Need-returns-5 (read-row-reads.Asked, read-row-reads.Learnt, standing-reads.Asked, standing-reads.Learnt, variable-row-reads.Asked, variable-row-reads.Learnt, negated-image-below t, negated-image.Post, sides-reads.Asked, sides-reads.Learnt, pair-below t, pair.Post, equivalent-below t, equivalent.Post) (image-of-row-at t) image-of-row.Post
+image-of-row-returns-5 : (t : ℕ) → image-of-row-lts.Need-returns-5 (read-row-reads.Asked, read-row-reads.Learnt, standing-reads.Asked, standing-reads.Learnt, row-reads.Asked, row-reads.Learnt, negated-image-below t, negated-image.Post, sides-reads.Asked, sides-reads.Learnt, pair-below t, pair.Post, equivalent-below t, equivalent.Post) (image-of-row-at t) image-of-row.Post
 image-of-row-returns-5 t c = case-equivalent (c .before .before .before .before .before .before .before .before .before .before .before .before .before .before .before .before .before .before .before .before .before .before .before .args .frame) (c .before .before .before .before .before .before .before .before .before .before .before .before .before .before .before .before .before .before .before .before .before .before .before .args .formulas .now) (c .before .before .before .before .before .before .before .before .before .before .before .before .before .before .before .before .before .before .before .before .before .before .before .args .at) (store (c .before .before .before .before .before .before .before .before .before .before .before .before .before .before .before .before .before .before .before .before .before .before .before .args .table .now) (c .before .before .before .before .before .before .before .before .before .before .before .before .before .before .before .before .before .before .before .before .before .before .before .args .originals .now)) (c .before .before .before .before .before .before .before .before .before .before .before .before .before .before .before .before .before .before .before .before .before .before .before .args .scratch .now) (c .before .before .before .before .before .before .before .before .before .before .before .before .before .before .before .before .before .before .before .before .before .before .before .args .i) (c .before .before .before .before .before .before .before .before .before .before .before .before .before .before .before .before .before .before .before .before .before .before .before .pre .1) (c .before .before .before .before .before .before .before .before .before .before .before .before .before .before .before .before .before .before .read-row .result) (c .before .before .before .before .before .before .before .before .before .before .before .before .before .before .before .before .before .before .read-row .ensures) plain (c .before .before .before .before .before .before .before .before .before .before .if4 .left) (c .before .before .before .before .before .before .equivalent .ensures)
 
 -- src/cycle.rt:29:13
@@ -677,8 +676,8 @@ pub +equivalent+image+image-of-row+negated-image+negated-image-of-row+pair+sided
       read-row-reads.Learnt,
       standing-reads.Asked,
       standing-reads.Learnt,
-      variable-row-reads.Asked,
-      variable-row-reads.Learnt,
+      row-reads.Asked,
+      row-reads.Learnt,
       negated-image-below t,
       negated-image.Post,
       sides-reads.Asked,
@@ -693,7 +692,7 @@ pub +equivalent+image+image-of-row+negated-image+negated-image-of-row+pair+sided
     (image-of-row-read-row-requires t)
     (image-of-row-standing-requires t)
     (image-of-row-returns t)
-    (image-of-row-variable-row-requires t)
+    (image-of-row-row-requires t)
     (image-of-row-same-length t)
     (image-of-row-returns-2 t)
     (image-of-row-cast-negated-image t)

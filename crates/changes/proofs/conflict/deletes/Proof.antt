@@ -1,8 +1,8 @@
 use borrow.Author.Needs.{needs}
-use Rattle.changes.proofs.variable.deletes.Statement.{statement}
-use Rattle.changes.proofs.variable.deletes.Tie as tie
-use Rattle.changes.proofs.variable.deletes.Reads as reads
-use Rattle.changes.proofs.variable.deletes.Lts as lts
+use Rattle.changes.proofs.conflict.deletes.Statement.{statement}
+use Rattle.changes.proofs.conflict.deletes.Tie as tie
+use Rattle.changes.proofs.conflict.deletes.Reads as reads
+use Rattle.changes.proofs.conflict.deletes.Lts as lts
 use Rattle.changes.proofs.fresh.condition_of.Reads as condition-of-reads
 use Rattle.formula_builder.proofs.join.Reads as join-reads
 use Rattle.formula_builder.proofs.standing.Reads as standing-reads
@@ -10,61 +10,61 @@ use Rattle.changes.proofs.Standing.{never-set, never-cleared, negated-f
 use Rattle.formula_builder.specs.Held.{store}
 use Rattle.conditions.specs.Conditions.{condition-at}
 
--- src/variable.rt:22:9
+-- src/conflict.rt:22:9
 standing-requires : tie.Need-standing-requires
 standing-requires c κs = search needs
 
--- src/variable.rt:22:9
+-- src/conflict.rt:22:9
 returns : tie.Need-returns
 returns c = rw (c .standing .ensures) (never-set (c .before .before .before .before .before .before .before .args .frame) (c .before .before .before .before .before .before .before .args .formulas .now) (c .before .before .before .before .before .before .before .args .effects .now) (c .before .before .before .before .before .before .before .args .at) (store (c .before .before .before .before .before .before .before .args .table .now) (c .before .before .before .before .before .before .before .args .originals .now)) (c .before .before .before .before .before .before .before .args .scratch .now) (c .before .before .before .before .before .before .before .args .e) (c .before .before .before .before .before .before .before .args .v) (c .before .before .before .before .before .before .before .args .a) (c .before .before .before .before .before .before .before .args .d) (c .before .before .before .before .before .before .before .pre) (c .before .if1 .taken))
 
--- src/variable.rt:25:9
+-- src/conflict.rt:25:9
 standing-requires-2 : tie.Need-standing-requires-2
 standing-requires-2 c κs = search needs
 
--- src/variable.rt:25:9
+-- src/conflict.rt:25:9
 returns-2 : tie.Need-returns-2
 returns-2 c = rw (c .standing2 .ensures) (never-cleared (c .before .before .before .before .before .before .before .before .args .frame) (c .before .before .before .before .before .before .before .before .args .formulas .now) (c .before .before .before .before .before .before .before .before .args .effects .now) (c .before .before .before .before .before .before .before .before .args .at) (store (c .before .before .before .before .before .before .before .before .args .table .now) (c .before .before .before .before .before .before .before .before .args .originals .now)) (c .before .before .before .before .before .before .before .before .args .scratch .now) (c .before .before .before .before .before .before .before .before .args .e) (c .before .before .before .before .before .before .before .before .args .v) (c .before .before .before .before .before .before .before .before .args .a) (c .before .before .before .before .before .before .before .before .args .d) (c .before .before .before .before .before .before .before .before .pre) (c .before .before .if1 .left) (c .before .if2 .taken))
 
--- src/variable.rt:28:9
+-- src/conflict.rt:28:9
 condition-of-requires : tie.Need-condition-of-requires
 condition-of-requires c κs = search needs
 
--- src/variable.rt:30:9
+-- src/conflict.rt:30:9
 same-length : tie.Need-same-length
 same-length c = search needs
 
--- src/variable.rt:30:9
+-- src/conflict.rt:30:9
 same-length-2 : tie.Need-same-length-2
 same-length-2 c = search needs
 
--- src/variable.rt:30:9
+-- src/conflict.rt:30:9
 same-length-3 : tie.Need-same-length-3
 same-length-3 c = search needs
 
--- src/variable.rt:30:9
+-- src/conflict.rt:30:9
 returns-3 : tie.Need-returns-3
 unfolding condition-at
 returns-3 c = negated-full (c .before .before .before .before .before .before .before .before .before .before .before .before .before .before .before .before .before .before .args .frame) (c .before .before .before .before .before .before .before .before .before .before .before .before .before .before .before .before .before .before .args .formulas .now) (c .before .before .before .before .before .before .before .before .before .before .before .before .before .before .before .before .before .before .args .effects .now) (c .before .before .before .before .before .before .before .before .before .before .before .before .before .before .before .before .before .before .args .at) (store (c .before .before .before .before .before .before .before .before .before .before .before .before .before .before .before .before .before .before .args .table .now) (c .before .before .before .before .before .before .before .before .before .before .before .before .before .before .before .before .before .before .args .originals .now)) (c .before .before .before .before .before .before .before .before .before .before .before .before .before .before .before .before .before .before .args .scratch .now) (c .before .before .before .before .before .before .before .before .before .before .before .before .before .before .before .before .before .before .args .e) (c .before .before .before .before .before .before .before .before .before .before .before .before .before .before .before .before .before .before .args .v) (c .before .before .before .before .before .before .before .before .before .before .before .before .before .before .before .before .before .before .args .a) (c .before .before .before .before .before .before .before .before .before .before .before .before .before .before .before .before .before .before .args .d) (c .before .before .before .before .before .before .before .before .before .before .before .before .before .before .before .before .before .before .pre) (c .before .before .before .before .before .before .before .before .before .before .before .before .if1 .left) (c .before .before .before .before .before .before .before .before .before .before .before .if2 .left) (c .before .before .before .before .before .before .before .condition-of .ensures) (c .if3 .taken)
 
--- src/variable.rt:32:5
+-- src/conflict.rt:32:5
 join-requires : tie.Need-join-requires
 unfolding condition-at
 join-requires c κs = negated-join-asks (c .before .before .before .before .before .before .before .before .before .before .before .before .before .before .before .before .before .before .before .args .frame) (c .before .before .before .before .before .before .before .before .before .before .before .before .before .before .before .before .before .before .before .args .formulas .now) (c .before .before .before .before .before .before .before .before .before .before .before .before .before .before .before .before .before .before .before .args .effects .now) (c .before .before .before .before .before .before .before .before .before .before .before .before .before .before .before .before .before .before .before .args .at) (store (c .before .before .before .before .before .before .before .before .before .before .before .before .before .before .before .before .before .before .before .args .table .now) (c .before .before .before .before .before .before .before .before .before .before .before .before .before .before .before .before .before .before .before .args .originals .now)) (c .before .before .before .before .before .before .before .before .before .before .before .before .before .before .before .before .before .before .before .args .scratch .now) (c .before .before .before .before .before .before .before .before .before .before .before .before .before .before .before .before .before .before .before .args .e) (c .before .before .before .before .before .before .before .before .before .before .before .before .before .before .before .before .before .before .before .args .v) (c .before .before .before .before .before .before .before .before .before .before .before .before .before .before .before .before .before .before .before .args .a) (c .before .before .before .before .before .before .before .before .before .before .before .before .before .before .before .before .before .before .before .args .d) (c .before .before .before .before .before .before .before .before .before .before .before .before .before .before .before .before .before .before .before .pre) (c .before .before .before .before .before .before .before .before .before .before .before .before .before .if1 .left) (c .before .before .before .before .before .before .before .before .before .before .before .before .if2 .left) (c .before .before .before .before .before .before .before .before .condition-of .ensures) (c .before .if3 .left)
 
--- src/variable.rt:17:1
+-- src/conflict.rt:17:1
 same-length-4 : tie.Need-same-length-4
 same-length-4 c = search needs
 
--- src/variable.rt:17:1
+-- src/conflict.rt:17:1
 same-length-5 : tie.Need-same-length-5
 same-length-5 c = search needs
 
--- src/variable.rt:17:1
+-- src/conflict.rt:17:1
 same-length-6 : tie.Need-same-length-6
 same-length-6 c = search needs
 
--- src/variable.rt:17:1
+-- src/conflict.rt:17:1
 returns-4 : tie.Need-returns-4
 unfolding condition-at
 returns-4 c = negated-joined (c .before .before .before .before .before .before .before .before .before .before .before .before .before .before .before .before .before .before .before .before .before .before .args .frame) (c .before .before .before .before .before .before .before .before .before .before .before .before .before .before .before .before .before .before .before .before .before .before .args .formulas .now) (c .before .before .before .before .before .before .before .before .before .before .before .before .before .before .before .before .before .before .before .before .before .before .args .effects .now) (c .before .before .before .before .before .before .before .before .before .before .before .before .before .before .before .before .before .before .before .before .before .before .args .at) (store (c .before .before .before .before .before .before .before .before .before .before .before .before .before .before .before .before .before .before .before .before .before .before .args .table .now) (c .before .before .before .before .before .before .before .before .before .before .before .before .before .before .before .before .before .before .before .before .before .before .args .originals .now)) (c .before .before .before .before .before .before .before .before .before .before .before .before .before .before .before .before .before .before .before .before .before .before .args .scratch .now) (c .before .before .before .before .before .before .before .before .before .before .before .before .before .before .before .before .before .before .before .before .before .before .args .e) (c .before .before .before .before .before .before .before .before .before .before .before .before .before .before .before .before .before .before .before .before .before .before .args .v) (c .before .before .before .before .before .before .before .before .before .before .before .before .before .before .before .before .before .before .before .before .before .before .args .a) (c .before .before .before .before .before .before .before .before .before .before .before .before .before .before .before .before .before .before .before .before .before .before .args .d) (c .before .before .before .before .before .before .before .before .before .before .before .before .before .before .before .before .before .before .before .before .before .before .pre) (c .before .before .before .before .before .before .before .before .before .before .before .before .before .before .before .before .if1 .left) (c .before .before .before .before .before .before .before .before .before .before .before .before .before .before .before .if2 .left) (c .before .before .before .before .before .before .before .before .before .before .before .condition-of .ensures) (c .before .before .before .before .if3 .left) (c .before .before .join .ensures _ (c .before .before .before .before .before .before .before .before .before .before .before .condition-of .ensures .builds .done (c .before .before .before .before .if3 .left) .ready))

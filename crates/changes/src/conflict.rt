@@ -1,0 +1,68 @@
+// D and N of one variable.
+use crate::fresh::condition_of;
+use conditions::Target;
+use formula_builder::Frame;
+use formula_builder::Size;
+use formula_builder::Step;
+use formula_builder::join;
+use formula_builder::standing;
+ghost use Rattle.normal_form.specs.Operators.{deletes-of};
+ghost use Rattle.formula_builder.specs.Held.{store};
+ghost use Rattle.images.specs.Images.{Images};
+ghost use Rattle.conditions.specs.Conditions.{effect-tree};
+ghost use Rattle.changes.specs.Stands.{Deletes};
+
+// D, freed of conflict with A: if neither is row 0, D and N, with N the negated condition of set v.
+pub fn deletes(
+    formulas: &[u16],
+    effects: &[u16],
+    e: usize,
+    v: u16,
+    a: u16,
+    d: u16,
+    frame: Frame,
+    at: Size,
+    table: &mut [u16],
+    originals: &mut [u16],
+    scratch: &mut [u16],
+) -> Step
+    requires { ⌜ Deletes frame (now formulas) (now effects) at (store (now table) (now originals)) (now scratch) e d ⌝ }
+    ensures { λ r. ⌜ Images (deletes-of (frame .variables) (effect-tree frame (now (formulas .entry)) (now (effects .entry)) e) v a d) frame (now (formulas .entry)) at (store (now (table .entry)) (now (originals .entry))) (store (now (table .exit)) (now (originals .exit))) (now (scratch .entry)) (now (scratch .exit)) r ⌝ }
+{
+    if a == 0 {
+        return standing(at, d);
+    }
+    if d == 0 {
+        return standing(at, d);
+    }
+    let t = Target {
+        clear: false,
+        variable: v,
+        negated: true,
+    };
+    let n = condition_of(
+        formulas,
+        effects,
+        e,
+        t,
+        frame,
+        at,
+        table,
+        originals,
+        scratch,
+    );
+    if n.full {
+        return n;
+    }
+    join(
+        table,
+        frame,
+        Size {
+            rows: n.rows,
+            twins: n.twins,
+        },
+        false,
+        d,
+        n.row,
+    )
+}

@@ -1,0 +1,197 @@
+// Compiling a task file into the compiled task's file.
+ghost use mathlib.Core.Path.{_≡_};
+ghost use lib.ListN.{length};
+ghost use Rattle.task.specs.Table.{lent, task-of};
+ghost use Rattle.task.specs.Check.{refusal};
+ghost use Rattle.file_format.specs.Bytes.{file-of};
+ghost use Rattle.normal_form.specs.Finished.{finished};
+ghost use Rattle.compiler.specs.Fills.{tables};
+ghost use Rattle.entries.specs.Entries.{compile-number, compile-given, compile-entry};
+ghost use Rattle.entries.specs.Giving.{Own};
+ghost use Rattle.entries.specs.CompileGiving.{CompileGives, CompileIn, given-file, refused-compile};
+use compiler::CompileAnswer;
+use task::Head;
+use task_file::ReadAnswer;
+use task_file::clear::clear_bytes;
+use task_writer::WriteAnswer;
+
+// The file of tables that pass, and its length; 20 and all 0 if one of the two does not fit. One pass over the tables.
+fn give_file(
+    head: Head,
+    initial: &[u8],
+    twins: &[u16],
+    formulas: &[u16],
+    effects: &[u16],
+    operators: &[u16],
+    out: &mut [u8],
+    result: &mut [u8],
+) -> u32
+    requires { ⌜ refusal (lent head (now initial) (now twins) (now formulas) (now effects) (now operators)) ≡ 0 ⌝ }
+    ensures { λ r. ⌜ CompileGives (given-file (file-of (task-of (lent head (now (initial .entry)) (now (twins .entry)) (now (formulas .entry)) (now (effects .entry)) (now (operators .entry))))) (length (now (out .entry))) (length (now (result .entry)))) r (now (out .exit)) (now (result .exit)) ⌝ }
+{
+    clear_bytes(result);
+    if result.len() < 4 {
+        clear_bytes(out);
+        return 20;
+    }
+    let r = task_writer::write::write(head, initial, twins, formulas, effects, operators, out);
+    let WriteAnswer::Written(size) = r else {
+        return 20;
+    };
+    crate::results::put_low(result, 0, 4, size as u64);
+    0
+}
+
+// A refusal's number. Constant time.
+fn refused(r: CompileAnswer) -> u32
+    ensures { λ n. ⌜ n ≡ refused-compile r ⌝ }
+{
+    match r {
+        CompileAnswer::Refused(n) => n as u32,
+        CompileAnswer::Compiled(_) => 0,
+    }
+}
+
+// Compiles tables that pass, through tables that are lent.
+fn compile_through(
+    head: Head,
+    initial: &[u8],
+    twins: &[u16],
+    formulas: &[u16],
+    effects: &[u16],
+    operators: &[u16],
+    values: &mut [u8],
+    originals: &mut [u16],
+    table: &mut [u16],
+    rules: &mut [u16],
+    written: &mut [u16],
+    scratch: &mut [u16],
+    out: &mut [u8],
+    result: &mut [u8],
+) -> u32
+    requires { ⌜ CompileIn (lent head (now initial) (now twins) (now formulas) (now effects) (now operators)) (tables (now values) (now originals) (now table) (now rules) (now written) (now scratch)) ⌝ }
+    ensures { λ r. ⌜ CompileGives (compile-given (compile-number (task-of (lent head (now (initial .entry)) (now (twins .entry)) (now (formulas .entry)) (now (effects .entry)) (now (operators .entry)))) (length (now (out .entry))) (length (now (result .entry)))) (file-of (finished (task-of (lent head (now (initial .entry)) (now (twins .entry)) (now (formulas .entry)) (now (effects .entry)) (now (operators .entry)))))) (length (now (out .entry))) (length (now (result .entry)))) r (now (out .exit)) (now (result .exit)) ⌝ }
+{
+    let r = compiler::compile(
+        head,
+        initial,
+        twins,
+        formulas,
+        effects,
+        operators,
+        values,
+        originals,
+        table,
+        rules,
+        written,
+        scratch,
+    );
+    let CompileAnswer::Compiled(compiled) = r else {
+        clear_bytes(out);
+        clear_bytes(result);
+        return refused(r);
+    };
+    give_file(
+        compiled,
+        values,
+        originals,
+        table,
+        rules,
+        written,
+        out,
+        result,
+    )
+}
+
+// Compiles tables that pass.
+fn compile_read(
+    head: Head,
+    initial: &[u8],
+    twins: &[u16],
+    formulas: &[u16],
+    effects: &[u16],
+    operators: &[u16],
+    out: &mut [u8],
+    result: &mut [u8],
+) -> u32
+    requires { ⌜ refusal (lent head (now initial) (now twins) (now formulas) (now effects) (now operators)) ≡ 0 ⌝ }
+    ensures { λ r. ⌜ CompileGives (compile-given (compile-number (task-of (lent head (now (initial .entry)) (now (twins .entry)) (now (formulas .entry)) (now (effects .entry)) (now (operators .entry)))) (length (now (out .entry))) (length (now (result .entry)))) (file-of (finished (task-of (lent head (now (initial .entry)) (now (twins .entry)) (now (formulas .entry)) (now (effects .entry)) (now (operators .entry)))))) (length (now (out .entry))) (length (now (result .entry)))) r (now (out .exit)) (now (result .exit)) ⌝ }
+{
+    let mut values = [0u8; 512];
+    let mut originals = [0u16; 256];
+    let mut table = [0u16; 12288];
+    let mut rules = [0u16; 12288];
+    let mut written = [0u16; 768];
+    let mut scratch = [0u16; 16384];
+    compile_through(
+        head,
+        initial,
+        twins,
+        formulas,
+        effects,
+        operators,
+        &mut values,
+        &mut originals,
+        &mut table,
+        &mut rules,
+        &mut written,
+        &mut scratch,
+        out,
+        result,
+    )
+}
+
+// Reads into tables that are lent, then compiles.
+fn read_and_compile(
+    file: &[u8],
+    initial: &mut [u8],
+    twins: &mut [u16],
+    formulas: &mut [u16],
+    effects: &mut [u16],
+    operators: &mut [u16],
+    out: &mut [u8],
+    result: &mut [u8],
+) -> u32
+    requires { ⌜ Own (now initial) (now twins) (now formulas) (now effects) (now operators) ⌝ }
+    ensures { λ r. ⌜ CompileGives (compile-entry (now (file .entry)) (length (now (out .entry))) (length (now (result .entry)))) r (now (out .exit)) (now (result .exit)) ⌝ }
+{
+    let r = task_file::read::read(file, initial, twins, formulas, effects, operators);
+    let ReadAnswer::Read(head) = r else {
+        clear_bytes(out);
+        clear_bytes(result);
+        return crate::reading::refused(r);
+    };
+    compile_read(
+        head,
+        initial,
+        twins,
+        formulas,
+        effects,
+        operators,
+        out,
+        result,
+    )
+}
+
+// Compiles a task file: 0, the compiled task's file and its length, or the number and all 0.
+// Cost: one pass over the file, compiling, one pass over the compiled task.
+#[no_mangle]
+pub extern "C" fn pnf_compile(file: &[u8], out: &mut [u8], result: &mut [u8]) -> u32
+    ensures { λ r. ⌜ CompileGives (compile-entry (now (file .entry)) (length (now (out .entry))) (length (now (result .entry)))) r (now (out .exit)) (now (result .exit)) ⌝ }
+{
+    let mut initial = [0u8; 512];
+    let mut twins = [0u16; 256];
+    let mut formulas = [0u16; 12288];
+    let mut effects = [0u16; 12288];
+    let mut operators = [0u16; 768];
+    read_and_compile(
+        file,
+        &mut initial,
+        &mut twins,
+        &mut formulas,
+        &mut effects,
+        &mut operators,
+        out,
+        result,
+    )
+}
