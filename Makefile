@@ -1,4 +1,4 @@
-# make run                 show the check on a worked example
+# make run                 prove the program and compile an example with it
 # make test                the gate: every proof, every must-fail edit, every test; its last line is 'N passed, 0 failed'
 # make lib                 prove the C entries and build build/lib/libpnf.a
 # make install PREFIX=..   put library, header and pkg-config file below PREFIX (and DESTDIR)

@@ -236,17 +236,50 @@ pub fn conjunctions(rows: u16) -> Task {
 /// Operators that set the first so many of 512 variables, a rule for each:
 /// an operator with r rules takes 3 r - 1 effect rows.
 pub fn many_rules(counts: &[u16]) -> Task {
-    let mut draft = Draft::new(&[0; MOST_VARIABLES]);
+    let (draft, yes) = rules(MOST_VARIABLES, counts);
+    draft.finish(yes)
+}
+
+/// The same over 500 variables, with the goal "not v0": v0's twin, met last,
+/// is one rule more for every operator.
+pub fn rules_and_last_twin(counts: &[u16]) -> Task {
+    let (mut draft, _) = rules(500, counts);
+    let v0 = draft.variable(0);
+    let goal = draft.not(v0);
+    draft.finish(goal)
+}
+
+/// The operators, and the row of true.
+fn rules(variables: usize, counts: &[u16]) -> (Draft, u16) {
+    let mut draft = Draft::new(&vec![0; variables]);
     let yes = draft.yes();
     let mut tops = vec![draft.set(0)];
-    for variable in 1..MOST_VARIABLES {
+    for variable in 1..variables {
         let atom = draft.set(variable as u16);
         tops.push(draft.all(&[tops[variable - 1], atom]));
     }
     for &count in counts {
         draft.operator(yes, tops[usize::from(count) - 1], 1);
     }
-    draft.finish(yes)
+    (draft, yes)
+}
+
+/// So many variables; the operator's conflict brings a twin, and the goal so
+/// many more.
+pub fn last_twins(variables: u16, twins: u16) -> Task {
+    let mut draft = Draft::new(&vec![0; usize::from(variables)]);
+    let (yes, v1) = (draft.yes(), draft.variable(1));
+    let (set, clear) = (draft.set(0), draft.clear(0));
+    let set = draft.under(v1, set);
+    let effect = draft.all(&[set, clear]);
+    draft.operator(yes, effect, 1);
+    let mut goal = yes;
+    for variable in (0..variables).filter(|&v| v != 1).take(usize::from(twins)) {
+        let atom = draft.variable(variable);
+        let negated = draft.not(atom);
+        goal = draft.and(goal, negated);
+    }
+    draft.finish(goal)
 }
 
 /// So many variables, of which the first so many get a twin.

@@ -136,6 +136,26 @@ pub fn task(random: &mut Random, shape: &Shape) -> Task {
     task
 }
 
+/// The same task with a goal that negates some variables too: it may bring
+/// twins that no operator brought. The number of formulas must allow it.
+pub fn with_twins_in_goal(random: &mut Random, mut task: Task) -> Task {
+    for variable in 0..task.head.variables {
+        if random.chance(60) {
+            continue;
+        }
+        let next = task.head.formula_count;
+        let rows = [
+            [formula::VARIABLE, variable, 0],
+            [formula::NOT, next, 0],
+            [formula::AND, task.head.goal, next + 1],
+        ];
+        task.tables.formulas.extend(rows.concat());
+        task.head.formula_count = next + 3;
+        task.head.goal = next + 2;
+    }
+    task
+}
+
 /// A task of these counts with the plainest rows: all formulas true, all
 /// effects empty, twin k of variable k. Its counts may break the limits.
 pub fn plain(head: Head) -> Task {

@@ -24,6 +24,6 @@ pub mod print;
 pub mod random;
 pub mod semantics;
 pub mod shrink;
-pub mod stored;
 pub mod stack;
+pub mod stored;
 pub mod task;

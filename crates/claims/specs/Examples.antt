@@ -7,13 +7,12 @@ use lib.ListN.{replicate}
 use Rattle.task.specs.Table.{Row, Operator, Lent, Task, task-of}
 use Rattle.task.specs.Check.{refusal}
 use Rattle.task.specs.Words.{lent-of}
-use Rattle.file_format.specs.Reading.{Lengths, Outcome as Read, accepted, rejected, reading}
-use Rattle.printing.specs.Lines.{lines, refusal-line}
 use Rattle.printing.proofs.Examples.{bytes}
 use Rattle.plan.specs.declared.outcome.RunOutcome.{RunOutcome}
 use Rattle.plan.specs.declared.outcome.End.the-variants.{Ended}
 use Rattle.plan.specs.Outcome.{ran}
 use Rattle.normal_form.specs.Compiled.{Room, Answer, compiled-head, refused, Outcome, compiling, given}
+use Rattle.compile_text.specs.Text.{text-of}
 
 -- What is asked: the check of tables; a run on tables, from a state; the compiling of tables into what is lent; the compiling
 -- program, given a file.
@@ -21,7 +20,7 @@ pub data Asked : Type 0 where
   check : Lent → Asked
   run : Lent → (state numbers scratch : List ℕ) → Asked
   compile : Lent → Room → Asked
-  program : (file : List ℕ) → Lengths → Room → Asked
+  program : (file : List ℕ) → Asked
 
 -- What is told: a number; the outcome of a run and the state that it left; the compiled task; a text.
 pub data Told : Type 0 where
@@ -35,17 +34,6 @@ abbrev pub gave : Answer → Outcome → Told
 gave (compiled-head h) o = compiled (task-of (given h o))
 gave (refused n) o = number n
 
--- what the program prints: of the file of a task that compiles, the compiled task's lines, else the line of the refusal
-abbrev pub compiled-lines : Answer → Outcome → List ℕ
-compiled-lines (compiled-head h) o = lines (task-of (given h o))
-compiled-lines (refused n) o = refusal-line n
-
-abbrev pub file-lines : Read → Room → List ℕ
-file-lines (accepted t) room =
-    let o = compiling (lent-of t) room in
-    compiled-lines (o .answer) o
-file-lines (rejected n) room = refusal-line n
-
 -- by the definitions that the calls are held to
 unfoldable pub outcome : Asked → Told
 outcome (check l) = number (refusal l)
@@ -55,7 +43,7 @@ outcome (run l s numbers scratch) =
 outcome (compile l room) =
     let o = compiling l room in
     gave (o .answer) o
-outcome (program file lengths room) = printed (file-lines (reading lengths file) room)
+outcome (program file) = printed (text-of file)
 
 pub record Example : Type 0 where
   pub asked : Asked
@@ -164,10 +152,7 @@ whole-compiled =
       goal = 6;
     }
 
--- room that the whole example just fills, for its tables and for the compiled ones
-abbrev pub lengths : Lengths
-lengths = record { initial = 2; twins = 0; formulas = 15; effects = 12; operators = 3 }
-
+-- room that the whole example's compiled task just fills
 abbrev pub room : Room
 room = record { initial = 4; twins = 2; formulas = 21; effects = 36; operators = 3; scratch = 18 }
 
@@ -270,7 +255,7 @@ table =
     -- the whole example: its tables compiled, and what the program prints, given its file
     ∷ record { asked = compile whole room; told = compiled whole-compiled }
     ∷ record {
-      asked = program whole-file lengths room;
+      asked = program whole-file;
       told =
           printed
           (bytes

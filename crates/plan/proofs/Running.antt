@@ -12,13 +12,13 @@ use Rattle.task.specs.declared.Head.{Head}
 use Rattle.task.specs.Table.{Task, task-of}
 use Rattle.task.specs.Semantics.{effcond, sets, clears, holds, value-after, apply}
 use Rattle.task.specs.Tree.{formula-of}
-use Rattle.task.specs.Run.{Run, Progress, ended, stopped, effect-of-operator, goal-holds, applicable, charge, after-step, answer, run-on, plain-run}
+use Rattle.task.specs.Run.{Run, Progress, ended, stopped, effect-of-operator, goal-holds, applicable, after-step, answer, run-on, plain-run}
 use Rattle.task.proofs.Bounded.{length-upto, getD-upto}
 use Rattle.plan.specs.declared.outcome.End.the-variants.{Ended, Stopped}
 use Rattle.plan.specs.declared.steps.Taken.{Taken}
 use Rattle.plan.specs.Outcome.{run-answer, end-of}
 use Rattle.plan.specs.Values.{rows-of}
-use Rattle.plan.specs.Steps.{running, StateReady, Took, took, Takes, RunDone}
+use Rattle.plan.specs.Steps.{running, StateReady, Took, took-by, took, Takes, RunDone}
 
 -- a step of the plain run, by what a step gives
 module _ (t : Task) (p : Progress) (o : ℕ) (rest : List ℕ) where
@@ -32,12 +32,12 @@ module _ (t : Task) (p : Progress) (o : ℕ) (rest : List ℕ) where
         cost = p .cost + took t (p .state) o .answer .charge;
       })
       rest
-  unfolding run-on took after-step
+  unfolding run-on took took-by after-step
   goes-on = go (ltb o (length (t .operators))) (applicable t (p .state) o)
     where
       go :
           (b c : Bool)
-          → let w : Took = cond b (cond c (record { answer = record { stop = 0; charge = charge t (p .state) o }; state = apply (p .state) (effect-of-operator t o) }) (record { answer = record { stop = 18; charge = 0 }; state = p .state })) (record { answer = record { stop = 17; charge = 0 }; state = p .state }) in
+          → let w : Took = took-by b c t (p .state) o in
           w .answer .stop ≡ 0
           → cond b (cond c (run-on t (after-step t p o) rest) (answer t p (stopped 18))) (answer t p (stopped 17))
           ≡ run-on t (record { state = w .state; steps = p .steps + 1; cost = p .cost + w .answer .charge }) rest
@@ -48,12 +48,12 @@ module _ (t : Task) (p : Progress) (o : ℕ) (rest : List ℕ) where
   pub stops :
       (took t (p .state) o .answer .stop ≡ 0 → ⊥)
       → (run-on t p (o ∷ rest) ≡ answer t p (stopped (took t (p .state) o .answer .stop))) × (took t (p .state) o .state ≡ p .state)
-  unfolding run-on took
+  unfolding run-on took took-by
   stops = go (ltb o (length (t .operators))) (applicable t (p .state) o)
     where
       go :
           (b c : Bool)
-          → let w : Took = cond b (cond c (record { answer = record { stop = 0; charge = charge t (p .state) o }; state = apply (p .state) (effect-of-operator t o) }) (record { answer = record { stop = 18; charge = 0 }; state = p .state })) (record { answer = record { stop = 17; charge = 0 }; state = p .state }) in
+          → let w : Took = took-by b c t (p .state) o in
           (w .answer .stop ≡ 0 → ⊥)
           → (cond b (cond c (run-on t (after-step t p o) rest) (answer t p (stopped 18))) (answer t p (stopped 17)) ≡ answer t p (stopped (w .answer .stop)))
           × (w .state ≡ p .state)
@@ -82,12 +82,12 @@ module _ (h : Head) (t : Task) (s : List ℕ) (ready : StateReady h s) (o : ℕ)
       }
 
   took-ready : StateReady h (took t s o .state)
-  unfolding took
+  unfolding took took-by
   took-ready = go (ltb o (length (t .operators))) (applicable t s o)
     where
       go :
           (b c : Bool)
-          → let w : Took = cond b (cond c (record { answer = record { stop = 0; charge = charge t s o }; state = apply s (effect-of-operator t o) }) (record { answer = record { stop = 18; charge = 0 }; state = s })) (record { answer = record { stop = 17; charge = 0 }; state = s }) in
+          → let w : Took = took-by b c t s o in
           StateReady h (w .state)
       go true true = applied-ready
       go true false = ready

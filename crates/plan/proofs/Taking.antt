@@ -1,11 +1,14 @@
 -- Laws of one step: what each way out gives is what the definition of a step gives. Assumes nothing.
 use Prim.Native.Nat.{ℕ, _+_, _≤_, _<_}
 use native.Mathlib.Omega.{arith}
-use mathlib.Core.Path.{_≡_, sym, ap, _∙_}
-use mathlib.Core.Bool.{true, false}
+use mathlib.Core.Path.{_≡_, refl, sym, ap, _∙_}
+use mathlib.Core.Bool.{Bool, true, false}
 use mathlib.Core.List.{List}
-use lib.ListN.{length, getD}
-use borrow.Author.Tests.{lt-ltb, le-ltb, eq-eqb, ne-eqb}
+use lib.ListN.{length, getD, List·getD-eq-default}
+use lib.Dec.{ltb}
+use borrow.Author.Tests.{ltb-true, ltb-false}
+use Rattle.task.specs.Bounded.{upto}
+use Rattle.task.specs.Check.{unless}
 use Rattle.task.specs.declared.Head.{Head}
 use Rattle.task.specs.Table.{Task, Operator, row-at, operator-at, task-of}
 use Rattle.task.specs.Rules.{no-row, no-operator}
@@ -14,31 +17,46 @@ use Rattle.task.specs.Tree.{formula-of, effect-of}
 use Rattle.task.specs.Run.{operator-of, effect-of-operator, applicable, charge}
 use Rattle.task.proofs.Bounded.{length-upto, getD-upto}
 use Rattle.task.proofs.Trees.{EffectsDown}
-use Rattle.task.proofs.Values.{told, bit-small, Values, value-told}
+use Rattle.task.proofs.Values.{Values}
 use Rattle.plan.specs.Values.{rows-of, Valuable}
 use Rattle.plan.specs.Marks.{changed, Markable}
-use Rattle.plan.specs.Steps.{running, StateReady, Ready, Carried, Took, took, Takes}
+use Rattle.plan.specs.Steps.{running, StateReady, Ready, Carried, Took, stayed, took-by, took, Takes}
 use Rattle.plan.proofs.Applying.{applied}
 
--- the three ways of a step
-module _ (t : Task) (s : List ℕ) (n : ℕ) where
-  pub took-outside :
-      length (t .operators) ≤ n → took t s n ≡ record { answer = record { stop = 17; charge = 0 }; state = s }
-  unfolding took
-  took-outside b = rw (le-ltb n (length (t .operators)) b)
+-- the formula that an operator asks for, by its number
+module _ (o : List ℕ) (m n : ℕ) where
+  pub none-asked : m ≤ n → 0 ≡ getD (upto m (operator-at o)) n no-operator .precondition
+  none-asked b =
+      let outside : length (upto m (operator-at o)) ≤ n = rw (length-upto m (operator-at o)) b in
+      ap (λ (r : Operator). r .precondition) (sym (List·getD-eq-default (upto m (operator-at o)) no-operator {n = n} outside))
 
-  module _ (there : n < length (t .operators)) where
-    pub took-not :
-        applicable t s n ≡ false → took t s n ≡ record { answer = record { stop = 18; charge = 0 }; state = s }
-    unfolding took
-    took-not q = rw (lt-ltb n (length (t .operators)) there, q)
+  pub one-asked : n < m → operator-at o n .precondition ≡ getD (upto m (operator-at o)) n no-operator .precondition
+  one-asked b = ap (λ (r : Operator). r .precondition) (sym (getD-upto m (operator-at o) n no-operator b))
 
-    pub took-done :
-        applicable t s n ≡ true
-        → took t s n
-        ≡ record { answer = record { stop = 0; charge = charge t s n }; state = apply s (effect-of-operator t n) }
-    unfolding took
-    took-done q = rw (lt-ltb n (length (t .operators)) there, q)
+-- the two ways of a step, by the number that stops it
+module _
+    (t : Task) (s : List ℕ) (n stop : ℕ)
+    (told : stop ≡ unless (ltb n (length (t .operators))) 17 (unless (applicable t s n) 18 0)) where
+  took-stopped : (stop ≡ 0 → ⊥) → took t s n ≡ stayed stop s
+  unfolding took took-by
+  took-stopped = go (ltb n (length (t .operators))) (applicable t s n) told
+    where
+      go : (b c : Bool) → stop ≡ unless b 17 (unless c 18 0) → (stop ≡ 0 → ⊥) → took-by b c t s n ≡ stayed stop s
+      go true true q d = absurd (d q)
+      go true false q d = ap (λ (k : ℕ). stayed k s) (sym q)
+      go false c q d = ap (λ (k : ℕ). stayed k s) (sym q)
+
+  took-done : stop ≡ 0 → (ltb n (length (t .operators)) ≡ true) × (took t s n ≡ took-by true true t s n)
+  unfolding took took-by
+  took-done z = go (ltb n (length (t .operators))) (applicable t s n) (sym told ∙ z)
+    where
+      go :
+          (b c : Bool)
+          → unless b 17 (unless c 18 0) ≡ 0
+          → (b ≡ true) × (took-by b c t s n ≡ took-by true true t s n)
+      go true true q = (refl, refl)
+      go true false q = absurd (omega (arith, q))
+      go false c q = absurd (omega (arith, q))
 
 takes : (t : Task) (s : List ℕ) (n : ℕ) (w : Took) → took t s n ≡ w → w .answer .charge ≤ 65535 → Takes t s n (w .answer) (w .state)
 takes t s n w q small =
@@ -67,95 +85,92 @@ module _ {h : Head} {f e o s scratch : List ℕ} (ready : Ready h f e o s scratc
             rw (getD-upto (h .effects) (row-at e) i no-row b, ready .state .size) (ready .tables .effect i b);
       }
 
-  module _ {n : ℕ} where
-    pub not-there : h .operators ≤ n → Takes (running h f e o) s n (record { stop = 17; charge = 0 }) s
-    unfolding task-of
-    not-there b =
-        takes (running h f e o) s n (record { answer = record { stop = 17; charge = 0 }; state = s })
-        (took-outside (running h f e o) s n (rw (length-upto (h .operators) (operator-at o)) b)) (omega arith)
+  operators-same : length (running h f e o .operators) ≡ h .operators
+  unfolding task-of
+  operators-same = length-upto (h .operators) (operator-at o)
 
-    module _ (there : n < h .operators) where
-      pub precondition-below : operator-at o n .precondition < h .formulas
-      precondition-below = ready .tables .operator n there .formula
+  module _ (n : ℕ) where
+    operator-same : n < h .operators → operator-of (running h f e o) n ≡ operator-at o n
+    unfolding operator-of task-of
+    operator-same there = getD-upto (h .operators) (operator-at o) n no-operator there
 
-      operator-same : operator-of (running h f e o) n ≡ operator-at o n
-      unfolding operator-of task-of
-      operator-same = getD-upto (h .operators) (operator-at o) n no-operator there
-
-      pub markable :
-          (values : List ℕ)
-          → length values ≡ length scratch
-          → Markable e (length s) (h .formulas) (operator-at o n .effect) values
-      markable values same =
-          let b : operator-at o n .effect < h .effects = ready .tables .operator n there .changes in
-          record {
-            rows = omega (arith, ready .tables .effects-there);
-            marks = omega (arith, ready .room);
-            rule = λ k l. rw (ready .state .size) (ready .tables .effect k (omega arith));
-          }
-
-      applicable-same :
-          (values : List ℕ)
-          → Values s (rows-of (h .formulas) f) (h .formulas) values
-          → told values (operator-at o n .precondition) ≡ applicable (running h f e o) s n
-      unfolding applicable task-of
-      applicable-same values known =
-          value-told known (operator-at o n .precondition) precondition-below
-          ∙ ap (λ (r : Operator). holds s (formula-of (rows-of (h .formulas) f) (r .precondition))) (sym operator-same)
-
-      inside : n < length (running h f e o .operators)
-      unfolding task-of
-      inside = rw (length-upto (h .operators) (operator-at o)) there
-
-      pub not-applicable :
-          (values : List ℕ)
-          → Values s (rows-of (h .formulas) f) (h .formulas) values
-          → getD values (operator-at o n .precondition) 0 ≡ 0
-          → Takes (running h f e o) s n (record { stop = 18; charge = 0 }) s
-      not-applicable values known z =
-          takes (running h f e o) s n (record { answer = record { stop = 18; charge = 0 }; state = s })
-          (took-not (running h f e o) s n inside
-          (sym (applicable-same values known) ∙ ne-eqb (getD values (operator-at o n .precondition) 0) 1 (omega arith)))
-          (omega arith)
-
-      pub carried-out :
-          (values marks after : List ℕ)
-          → Values s (rows-of (h .formulas) f) (h .formulas) values
-          → (getD values (operator-at o n .precondition) 0 ≡ 0 → ⊥)
-          → length values ≡ length scratch
-          → Carried e (h .formulas) (operator-at o n .effect) s after values marks
-          → operator-at o n .cost ≤ 65535
-          → Takes (running h f e o) s n (record { stop = 0; charge = operator-at o n .cost }) after
-      unfolding charge effect-of-operator task-of
-      carried-out values marks after known d same done low =
-          rw (done .state ∙ law)
-          (takes (running h f e o) s n (by-row (operator-at o n))
-          (took-done (running h f e o) s n inside holding ∙ ap by-row operator-same)
-          low)
+    -- the precondition that is looked at, and what it gives
+    module _ {p : ℕ} (asked : p ≡ getD (upto (h .operators) (operator-at o)) n no-operator .precondition) where
+      pub asked-below : p < h .formulas
+      asked-below = rw asked (go (ltb n (h .operators)) refl)
         where
-          by-row : Operator → Took
-          by-row r =
+          go :
+              (b : Bool)
+              → ltb n (h .operators) ≡ b
+              → getD (upto (h .operators) (operator-at o)) n no-operator .precondition < h .formulas
+          go true q =
+              let inside : n < h .operators = ltb-true n (h .operators) q in
+              rw (← one-asked o (h .operators) n inside) (ready .tables .operator n inside .formula)
+          go false q =
+              rw (← none-asked o (h .operators) n (ltb-false n (h .operators) q)) (omega (arith, ready .tables .goal))
+
+      module _
+          {holding : Bool} {stop : ℕ}
+          (held : holding ≡ holds s (formula-of (rows-of (h .formulas) f) p))
+          (told : stop ≡ unless (ltb n (h .operators)) 17 (unless holding 18 0)) where
+        applicable-same : holding ≡ applicable (running h f e o) s n
+        unfolding applicable operator-of task-of
+        applicable-same = held ∙ ap (λ (i : ℕ). holds s (formula-of (rows-of (h .formulas) f) i)) asked
+
+        stop-same :
+            stop
+            ≡ unless (ltb n (length (running h f e o .operators))) 17 (unless (applicable (running h f e o) s n) 18 0)
+        stop-same = told ∙ rw (operators-same, applicable-same)
+
+        pub stays : (stop ≡ 0 → ⊥) → Takes (running h f e o) s n (record { stop = stop; charge = 0 }) s
+        stays d =
+            takes (running h f e o) s n (stayed stop s)
+            (took-stopped (running h f e o) s n stop stop-same d) (omega arith)
+
+        module _ (z : stop ≡ 0) where
+          pub there : n < h .operators
+          there = rw operators-same at (ltb-true n (length (running h f e o .operators)) (took-done (running h f e o) s n stop stop-same z .0))
+
+          pub markable :
+              (values : List ℕ)
+              → length values ≡ length scratch
+              → Markable e (length s) (h .formulas) (operator-at o n .effect) values
+          markable values same =
+              let b : operator-at o n .effect < h .effects = ready .tables .operator n there .changes in
               record {
-                answer = record { stop = 0; charge = r .cost };
-                state = apply s (effect-of (rows-of (h .formulas) f) (rows-of (h .effects) e) (r .effect));
+                rows = omega (arith, ready .tables .effects-there);
+                marks = omega (arith, ready .room);
+                rule = λ k l. rw (ready .state .size) (ready .tables .effect k (omega arith));
               }
 
-          small : getD values (operator-at o n .precondition) 0 ≤ 1
-          small =
-              rw (known .at (operator-at o n .precondition) precondition-below)
-              (bit-small (holds s (formula-of (rows-of (h .formulas) f) (operator-at o n .precondition))))
+          pub carried-out :
+              (values marks after : List ℕ)
+              → Values s (rows-of (h .formulas) f) (h .formulas) values
+              → length values ≡ length scratch
+              → Carried e (h .formulas) (operator-at o n .effect) s after values marks
+              → operator-at o n .cost ≤ 65535
+              → Takes (running h f e o) s n (record { stop = 0; charge = operator-at o n .cost }) after
+          unfolding charge effect-of-operator task-of took-by
+          carried-out values marks after known same passes low =
+              rw (passes .state ∙ law)
+              (takes (running h f e o) s n (by-row (operator-at o n))
+              (took-done (running h f e o) s n stop stop-same z .1 ∙ ap by-row (operator-same there))
+              low)
+            where
+              by-row : Operator → Took
+              by-row r =
+                  record {
+                    answer = record { stop = 0; charge = r .cost };
+                    state = apply s (effect-of (rows-of (h .formulas) f) (rows-of (h .effects) e) (r .effect));
+                  }
 
-          holding : applicable (running h f e o) s n ≡ true
-          holding =
-              sym (applicable-same values known) ∙ eq-eqb (getD values (operator-at o n .precondition) 0) 1 (omega (arith, small))
-
-          law :
-              changed e 1 1 marks (h .formulas) (operator-at o n .effect + 1)
-              (changed e 2 0 marks (h .formulas) (operator-at o n .effect + 1) s)
-              ≡ apply s (effect-of (rows-of (h .formulas) f) (rows-of (h .effects) e) (operator-at o n .effect))
-          law =
-              applied e (h .effects) (length s) (h .formulas) (operator-at o n .effect) s (rows-of (h .formulas) f) values marks
-              (ready .tables .operator n there .changes) effects-down (markable values same) known (done .marking)
+              law :
+                  changed e 1 1 marks (h .formulas) (operator-at o n .effect + 1)
+                  (changed e 2 0 marks (h .formulas) (operator-at o n .effect + 1) s)
+                  ≡ apply s (effect-of (rows-of (h .formulas) f) (rows-of (h .effects) e) (operator-at o n .effect))
+              law =
+                  applied e (h .effects) (length s) (h .formulas) (operator-at o n .effect) s (rows-of (h .formulas) f) values marks
+                  (ready .tables .operator n there .changes) effects-down (markable values same) known (passes .marking)
 
 -- the tables stay ready when the state and scratch change
 pub ready-again :

@@ -1,7 +1,7 @@
 -- One step, where nothing before its operator refuses. Only the contracts of private helpers cite this file.
 use Prim.Native.Nat.{ℕ, _+_, _*_, _≤_, _<_}
 use mathlib.Core.Path.{_≡_}
-use mathlib.Core.Bool.{cond}
+use mathlib.Core.Bool.{Bool, true, false}
 use mathlib.Core.List.{List, [], _∷_}
 use lib.ListN.{length, getD}
 use lib.Dec.{ltb}
@@ -52,13 +52,17 @@ pub record Took : Type 0 where
   pub answer : Taken
   pub state : List ℕ
 
+abbrev pub stayed : ℕ → List ℕ → Took
+stayed number s = record { answer = record { stop = number; charge = 0 }; state = s }
+
+unfoldable pub took-by : (there holding : Bool) → Task → List ℕ → ℕ → Took
+took-by false holding t s o = stayed 17 s
+took-by true false t s o = stayed 18 s
+took-by true true t s o =
+    record { answer = record { stop = 0; charge = charge t s o }; state = apply s (effect-of-operator t o) }
+
 unfoldable pub took : Task → List ℕ → ℕ → Took
-took t s o =
-    cond (ltb o (length (t .operators)))
-    (cond (applicable t s o)
-    (record { answer = record { stop = 0; charge = charge t s o }; state = apply s (effect-of-operator t o) })
-    (record { answer = record { stop = 18; charge = 0 }; state = s }))
-    (record { answer = record { stop = 17; charge = 0 }; state = s })
+took t s o = took-by (ltb o (length (t .operators))) (applicable t s o) t s o
 
 -- what `take` leaves
 pub record Takes (t : Task) (s : List ℕ) (o : ℕ) (r : Taken) (after : List ℕ) : Type 0 where

@@ -4,6 +4,7 @@ ghost use mathlib.Core.Path.{_≡_};
 ghost use lib.ListN.{length};
 ghost use Rattle.plan.specs.Marks.{changed, Changeable, Markable, Marked, HandedOn, Begun};
 ghost use Rattle.plan.specs.Steps.{Carried};
+use task::clear::clear_bytes;
 
 // The value goes to each variable that a marked row of this kind names, among the rows below `rows`. Linear in `rows`.
 fn change(
@@ -55,7 +56,7 @@ fn begin_marks(scratch: &mut [u8], at: usize, root: usize)
     ensures { λ _. ⌜ Begun at root (now (scratch .entry)) (now (scratch .exit)) ⌝ }
 {
     let end = at + root;
-    crate::buffers::clear(&mut scratch[at..end]);
+    clear_bytes(&mut scratch[at..end]);
     scratch[end] = 1;
 }
 

@@ -1,5 +1,4 @@
 // Stepping and running plans.
-mod buffers;
 mod effects;
 mod formulas;
 mod outcome;

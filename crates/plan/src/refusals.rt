@@ -1,8 +1,25 @@
 // What refuses a step or a run before an operator is looked at.
 ghost use mathlib.Core.Path.{_≡_};
+ghost use lib.ListN.{length, getD};
+ghost use lib.Dec.{leb};
+ghost use Rattle.task.specs.Bounded.{every};
 ghost use Rattle.task.specs.Table.{lent};
 ghost use Rattle.plan.specs.Outcome.{early-refusal, run-refusal};
 use task::Head;
+
+// Whether every byte is 0 or 1. Linear.
+fn bits(state: &[u8]) -> bool
+    ensures { λ r. ⌜ r ≡ every (length (now (state .entry))) (λ v. leb (getD (now (state .entry)) v 0) 1) ⌝ }
+{
+    let mut v = 0;
+    while v < state.len() {
+        if 1 < state[v] {
+            return false;
+        }
+        v += 1;
+    }
+    true
+}
 
 // 0, or the first in order: the tables' own number, 16, 14. Linear in the tables and the state.
 pub fn refused_early(
@@ -25,7 +42,7 @@ pub fn refused_early(
     if state.len() != variables {
         return 16;
     }
-    if !crate::buffers::bits(state) {
+    if !bits(state) {
         return 16;
     }
     let rows = head.formulas as usize + head.effects as usize;

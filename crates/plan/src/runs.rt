@@ -1,6 +1,5 @@
 // Runs of operator numbers.
 ghost use Prim.Native.Nat.{_≤_};
-ghost use mathlib.Core.Path.{_≡_};
 ghost use lib.ListN.{length};
 ghost use Rattle.task.specs.Table.{lent};
 ghost use Rattle.plan.specs.Outcome.{ran, RunGives};
@@ -10,6 +9,7 @@ use crate::outcome::RunOutcome;
 use crate::steps::holds;
 use crate::steps::take;
 use task::Head;
+use task::clear::clear_bytes;
 
 // The run where nothing refuses it. Its steps times the formulas and the effects.
 fn run_ready(
@@ -84,7 +84,7 @@ pub fn run(
         scratch,
     );
     if number != 0 {
-        crate::buffers::clear(scratch);
+        clear_bytes(scratch);
         return RunOutcome {
             steps: 0,
             cost: 0,
@@ -93,6 +93,6 @@ pub fn run(
         };
     }
     let outcome = run_ready(head, formulas, effects, operators, state, sequence, scratch);
-    crate::buffers::clear(scratch);
+    clear_bytes(scratch);
     outcome
 }

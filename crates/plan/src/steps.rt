@@ -1,15 +1,21 @@
 // Single steps.
-ghost use Prim.Native.Nat.{_<_};
+ghost use Prim.Native.Nat.{_*_, _≤_, _<_};
 ghost use mathlib.Core.Path.{_≡_};
 ghost use mathlib.Core.Bool.{false};
+ghost use lib.ListN.{length, getD};
+ghost use Rattle.task.specs.Bounded.{upto};
+ghost use Rattle.task.specs.Check.{unless};
+ghost use Rattle.task.specs.Rules.{no-operator};
 ghost use Rattle.task.specs.Semantics.{holds};
 ghost use Rattle.task.specs.Tree.{formula-of};
-ghost use Rattle.task.specs.Table.{lent};
+ghost use Rattle.task.specs.Table.{operator-at, lent};
+ghost use Rattle.task.proofs.Values.{Values};
 ghost use Rattle.plan.specs.Values.{rows-of, Valuable};
 ghost use Rattle.plan.specs.Outcome.{stepped, StepGives};
 ghost use Rattle.plan.specs.Steps.{running, Ready, Takes, StepDone};
 use crate::outcome::StepOutcome;
 use task::Head;
+use task::clear::clear_bytes;
 
 // What a step gives: 0 and what it is charged, or 17 or 18.
 pub struct Taken {
@@ -17,7 +23,7 @@ pub struct Taken {
     pub charge: u64,
 }
 
-// Whether a formula holds in the state. Linear in the formulas.
+// Whether a formula holds in the state; the values of all formulas stay at the front of scratch. Linear in the formulas.
 pub fn holds(
     formulas: &[u16],
     count: usize,
@@ -28,12 +34,37 @@ pub fn holds(
     requires { ⌜ Valuable (now formulas) count (now state) (now scratch) ⌝ }
     requires { ⌜ formula < count ⌝ }
     ensures { λ r. ⌜ r ≡ holds (now (state .entry)) (formula-of (rows-of count (now (formulas .entry))) formula) ⌝ }
+    ensures { λ _. ⌜ Values (now (state .entry)) (rows-of count (now (formulas .entry))) count (now (scratch .exit)) ⌝ }
 {
     crate::formulas::evaluate(formulas, count, state, scratch);
     scratch[formula] == 1
 }
 
-// Operator `number` is carried out if it is there and applicable: 17, then 18. Linear in the formulas and the effects.
+// The formula that operator `number` asks for, row 0 if it is not there. Constant time.
+fn precondition_of(count: u16, operators: &[u16], number: u16) -> usize
+    requires { ⌜ 3 * count ≤ length (now operators) ⌝ }
+    ensures { λ r. ⌜ r ≡ getD (upto count (operator-at (now (operators .entry)))) number no-operator .precondition ⌝ }
+{
+    if count <= number {
+        return 0;
+    }
+    operators[3 * (number as usize)] as usize
+}
+
+// What stops a step: 17 comes before 18. Constant time.
+fn stop_of(there: bool, applicable: bool) -> u16
+    ensures { λ r. ⌜ r ≡ unless there 17 (unless applicable 18 0) ⌝ }
+{
+    if !there {
+        return 17;
+    }
+    if !applicable {
+        return 18;
+    }
+    0
+}
+
+// Operator `number` is carried out if it is there and applicable. Linear in the formulas and the effects.
 pub fn take(
     head: Head,
     formulas: &[u16],
@@ -46,23 +77,15 @@ pub fn take(
     requires { ⌜ Ready head (now formulas) (now effects) (now operators) (now state) (now scratch) ⌝ }
     ensures { λ r. ⌜ Takes (running head (now (formulas .entry)) (now (effects .entry)) (now (operators .entry))) (now (state .entry)) number r (now (state .exit)) ⌝ }
 {
-    if head.operators <= number {
-        return Taken {
-            stop: 17,
-            charge: 0,
-        };
+    let count = head.formulas as usize;
+    let precondition = precondition_of(head.operators, operators, number);
+    let applicable = holds(formulas, count, precondition, state, scratch);
+    let stop = stop_of(number < head.operators, applicable);
+    if stop != 0 {
+        return Taken { stop, charge: 0 };
     }
     let row = 3 * (number as usize);
-    let precondition = operators[row] as usize;
     let effect = operators[row + 1] as usize;
-    let count = head.formulas as usize;
-    crate::formulas::evaluate(formulas, count, state, scratch);
-    if scratch[precondition] == 0 {
-        return Taken {
-            stop: 18,
-            charge: 0,
-        };
-    }
     crate::effects::carry_out(effects, effect, state, scratch, count);
     Taken {
         stop: 0,
@@ -135,10 +158,10 @@ pub fn step(
         scratch,
     );
     if early != 0 {
-        crate::buffers::clear(scratch);
+        clear_bytes(scratch);
         return refused(early);
     }
     let outcome = step_ready(head, formulas, effects, operators, state, number, scratch);
-    crate::buffers::clear(scratch);
+    clear_bytes(scratch);
     outcome
 }

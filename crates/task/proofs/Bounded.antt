@@ -61,24 +61,11 @@ every-fails n test k h e = go (every n test) refl
     go false p = p
     go true p = absurd (false≢true (sym e ∙ every-at n test p k h))
 
--- for a loop that counts down: those from j on pass
-abbrev pub From : ℕ → ℕ → (ℕ → Bool) → Type 0
-From j n test = (k : ℕ) → j ≤ k → k < n → test k ≡ true
-
-pub from-none : (n : ℕ) (test : ℕ → Bool) → From n n test
-from-none n test k l h = absurd (omega arith)
-
-pub from-more : (j n : ℕ) (test : ℕ → Bool) → 0 < j → From j n test → test (j - 1) ≡ true → From (j - 1) n test
-from-more j n test p f e k l h = go (decLt k j)
-  where
-    go : Dec (k < j) → test k ≡ true
-    go (yes m) =
-        let same : k ≡ j - 1 = omega arith in
-        rw same e
-    go (no m) = f k (omega arith) h
-
-pub from-ends : (j n : ℕ) (test : ℕ → Bool) → j ≤ 0 → From j n test → true ≡ every n test
-from-ends j n test z f = sym (every-from n test (λ k h. f k (omega arith) h))
+-- tests that agree on each number below n
+pub every-same : (n : ℕ) (f g : ℕ → Bool) → ((j : ℕ) → j < n → f j ≡ g j) → every n f ≡ every n g
+unfolding every
+every-same zero f g h = refl
+every-same (suc n) f g h = rw (every-same n f g (λ j l. h j (omega arith)), h n (omega arith))
 
 -- how a loop leaves: at a number that fails, or at the bound
 pub every-stops : (n : ℕ) (test : ℕ → Bool) (k : ℕ) → k < n → test k ≡ false → false ≡ every n test

@@ -1,5 +1,6 @@
 pub mod Bounded
 pub mod Refusals
+pub mod Named
 pub mod Order
 pub mod RowRules
 pub mod Held

@@ -1,9 +1,8 @@
 // The check of lent tables: 0, or the scope's first number in order.
-ghost use Prim.Native.Nat.{ℕ, _*_, _≤_, _<_};
+ghost use Prim.Native.Nat.{ℕ, _*_, _≤_};
 ghost use mathlib.Core.Path.{_≡_};
-ghost use mathlib.Core.Bool.{not};
 ghost use lib.ListN.{length, getD};
-ghost use lib.Dec.{leb, eqb};
+ghost use lib.Dec.{leb};
 ghost use Rattle.task.specs.Bounded.{every};
 ghost use Rattle.task.specs.Table.{lent};
 ghost use Rattle.task.specs.Check.{twin-kept, refusal};
@@ -26,35 +25,23 @@ fn bits_kept(initial: &[u8], count: usize) -> bool
     true
 }
 
-// Whether no twin row before k names what row k names. Linear in k.
-pub fn named_first(twins: &[u16], k: usize) -> bool
-    requires { ⌜ k < length (now twins) ⌝ }
-    ensures { λ r. ⌜ r ≡ every k (λ j. not (eqb (getD (now (twins .entry)) j 0) (getD (now (twins .entry)) k 0))) ⌝ }
-{
-    let original = twins[k];
-    let mut j = k;
-    while 0 < j {
-        if twins[j - 1] == original {
-            return false;
-        }
-        j -= 1;
-    }
-    true
-}
-
-// Whether each twin row names a variable below `bound` that no row before it names. Quadratic in the count, which is at most 256.
+// Whether each twin row names a variable below `bound` that no row before it names. Linear: a byte for each variable tells whether a
+// row has named it.
 fn twins_kept(twins: &[u16], count: usize, bound: usize) -> bool
-    requires { ⌜ count ≤ length (now twins) ⌝ }
+    requires { ⌜ (count ≤ length (now twins)) × (bound ≤ 512) ⌝ }
     ensures { λ r. ⌜ r ≡ every count (twin-kept bound (now (twins .entry))) ⌝ }
 {
+    let mut named = [0u8; 512];
     let mut k = 0;
     while k < count {
-        if bound <= twins[k] as usize {
+        let original = twins[k] as usize;
+        if bound <= original {
             return false;
         }
-        if !named_first(twins, k) {
+        if named[original] != 0 {
             return false;
         }
+        named[original] = 1;
         k += 1;
     }
     true
@@ -95,7 +82,7 @@ fn rows_kept(table: Table, head: Head, words: &[u16], count: usize) -> bool
     true
 }
 
-// 0, or the first number in order: 6, 7, 5, 8, 9, 10, 11, 12. Nothing is written. Linear in the counts, but for W × W of the twins.
+// 0, or the first number in order: 6, 7, 5, 8, 9, 10, 11, 12. Nothing is written. Linear in the counts.
 pub fn check(
     head: Head,
     initial: &[u8],

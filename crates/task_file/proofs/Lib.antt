@@ -4,6 +4,5 @@ pub mod Loops
 pub mod TwinRows
 pub mod StateLoop
 pub mod HeadWays
-pub mod Zeros
 pub mod FillWays
 pub mod ReadWays

@@ -87,6 +87,7 @@ module _ (l : Lengths) (file : List ℕ) where
                   operators-fit = leb-true (3 * h .operators) (length o) (search (and-left, and-right));
                 };
             few-twins = omega (arith, counts-tested h .0 c .twins);
+            few-variables = counts-tested h .0 c .variables;
           }
 
   reading-lost : {n : ℕ} → task-read l file ≡ refused n → reading l file ≡ rejected n
@@ -198,6 +199,7 @@ room-kept i w f e o i′ w′ f′ e′ o′ a b c d g r =
             operators-fit = omega (arith, r .rows-fit .operators-fit);
           };
       few-twins = r .few-twins;
+      few-variables = r .few-variables;
     }
 
 unfoldable pub zeros-of : ℕ → List ℕ

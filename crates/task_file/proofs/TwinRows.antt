@@ -6,34 +6,19 @@ use mathlib.Core.Path.{_≡_, refl, sym, ap, _∙_}
 use mathlib.Core.Bool.{Bool, true, false, not, _&&_}
 use mathlib.Core.List.{List, [], _∷_, _++_}
 use lib.ListN.{length, getD, take, drop, set, length-set}
-use lib.Seq.{take-suc-set, drop-set-lt, getD-take}
-use lib.Dec.{ltb, eqb}
-use borrow.Author.Tests.{le-ltb, lt-ltb}
+use lib.Seq.{take-suc-set, drop-set-lt, getD-take, getD-set-same}
+use lib.Dec.{eqb}
 use Rattle.task.specs.Bounded.{every}
 use Rattle.task.specs.Check.{twin-kept}
+use Rattle.task.proofs.Bounded.{every-same}
+use Rattle.task.proofs.Refusals.{twin-outside}
+use Rattle.task.proofs.Named.{NamedBy, named-stored, named-more, named-before, named-now}
 use Rattle.task_file.specs.declared.Place.{Place}
 use Rattle.task_file.specs.declared.Place.the-variants.{At, Nowhere}
 use Rattle.file_format.specs.Parse.{Parsed, parsed, refused, next, kept, word-read, table-read}
 use Rattle.file_format.specs.Reading.{twin-read}
 use Rattle.task_file.specs.Answers.{ReadPart, place-told}
 use Rattle.task_file.proofs.Loops.{Done, done-refused, done-end, done-more}
-
--- one row's test
-pub twin-high : (bound : ℕ) (twins : List ℕ) (k : ℕ) → bound ≤ getD twins k 0 → twin-kept bound twins k ≡ false
-unfolding twin-kept
-twin-high bound twins k h = rw (le-ltb (getD twins k 0) bound h)
-
-pub twin-low :
-    (bound : ℕ) (twins : List ℕ) (k : ℕ)
-    → getD twins k 0 < bound
-    → twin-kept bound twins k ≡ every k (λ j. not (eqb (getD twins j 0) (getD twins k 0)))
-unfolding twin-kept
-twin-low bound twins k h = rw (lt-ltb (getD twins k 0) bound h)
-
-every-same : (n : ℕ) (f g : ℕ → Bool) → ((j : ℕ) → j < n → f j ≡ g j) → every n f ≡ every n g
-unfolding every
-every-same zero f g h = refl
-every-same (suc n) f g h = rw (every-same n f g (λ j l. h j (omega arith)), h n (omega arith))
 
 -- it looks at the rows up to its own
 twin-same : (bound : ℕ) (xs ys : List ℕ) (k : ℕ) → ((j : ℕ) → j < suc k → getD xs j 0 ≡ getD ys j 0) → twin-kept bound xs k ≡ twin-kept bound ys k
@@ -50,6 +35,26 @@ twin-stored bound twins k w h =
     twin-same bound (take k twins ++ (w ∷ [])) (set twins k w) k
     (λ j l.
     ap (λ (x : List ℕ). getD x j 0) (sym (take-suc-set twins k w h)) ∙ getD-take (suc k) (set twins k w) j 0 l)
+
+-- row k once its word is stored: its test by the marks of the rows before it
+module _ (bound : ℕ) (few : bound ≤ 512) (twins : List ℕ) (k w : ℕ) (fits : k < length twins) where
+  stored-word : getD (set twins k w) k 0 ≡ w
+  stored-word = getD-set-same twins k w 0 fits
+
+  pub twin-high : bound ≤ w → twin-kept bound (set twins k w) k ≡ false
+  twin-high h = twin-outside bound (set twins k w) k (rw stored-word h)
+
+  module _ (named : List ℕ) (m : NamedBy twins k named) (below : w < bound) where
+    pub twin-before : (getD named w 0 ≡ 0 → ⊥) → twin-kept bound (set twins k w) k ≡ false
+    twin-before n = named-before (set twins k w) k named (named-stored twins k named m w) bound few (rw stored-word below) (rw stored-word n)
+
+    pub twin-now : getD named w 0 ≡ 0 → twin-kept bound (set twins k w) k ≡ true
+    twin-now z = named-now (set twins k w) k named (named-stored twins k named m w) bound few (rw stored-word below) (rw stored-word z)
+
+    pub twin-marked : NamedBy (set twins k w) (k + 1) (set named w 1)
+    twin-marked =
+        let low : getD (set twins k w) k 0 < 512 = rw stored-word (omega arith) in
+        rw stored-word at (named-more (set twins k w) k named (named-stored twins k named m w) low)
 
 abbrev pub same : ℕ → ℕ
 same k = k

@@ -74,12 +74,13 @@ pub record RowsFilled (h : Head) (file : List ℕ) (at : ℕ) (r : Place) (f e o
   pub effects-behind : drop (3 * h .effects) e′ ≡ drop (3 * h .effects) e
   pub operators-behind : drop (3 * h .operators) o′ ≡ drop (3 * h .operators) o
 
--- every lent table is long enough, and there are no more twins than variables
+-- every lent table is long enough, and there are no more twins than variables, nor more variables than a task may have
 pub record AllRoom (h : Head) (initial twins formulas effects operators : List ℕ) : Type 0 where
   pub initial-fit : h .variables ≤ length initial
   pub twins-fit : h .twins ≤ length twins
   pub rows-fit : RowsRoom h formulas effects operators
   pub few-twins : h .twins ≤ h .variables
+  pub few-variables : h .variables ≤ 512
 
 -- what filling every table leaves
 pub record AllFilled (h : Head) (file : List ℕ) (at : ℕ) (r : Place) (i w f e o i′ w′ f′ e′ o′ : List ℕ) : Type 0 where

@@ -3,26 +3,11 @@ ghost use mathlib.Core.Path.{_≡_};
 ghost use lib.ListN.{length, replicate};
 ghost use Rattle.task_file.specs.Answers.{Cleared};
 
-// All 0. Linear.
-pub fn clear_words(words: &mut [u16])
-    ensures { λ r. ⌜ now (words .exit) ≡ replicate (length (now (words .entry))) 0 ⌝ }
-{
-    let mut i = 0;
-    while i < words.len() {
-        words[i] = 0;
-        i += 1;
-    }
-}
-
-// All 0. Linear.
+// All 0, by the loop of the check's crate. Linear.
 pub fn clear_bytes(bytes: &mut [u8])
     ensures { λ r. ⌜ now (bytes .exit) ≡ replicate (length (now (bytes .entry))) 0 ⌝ }
 {
-    let mut i = 0;
-    while i < bytes.len() {
-        bytes[i] = 0;
-        i += 1;
-    }
+    task::clear::clear_bytes(bytes);
 }
 
 // Every table of a task all 0. Linear.
@@ -35,9 +20,9 @@ pub fn clear_tables(
 )
     ensures { λ r. ⌜ Cleared (now (initial .entry)) (now (twins .entry)) (now (formulas .entry)) (now (effects .entry)) (now (operators .entry)) (now (initial .exit)) (now (twins .exit)) (now (formulas .exit)) (now (effects .exit)) (now (operators .exit)) ⌝ }
 {
-    clear_bytes(initial);
-    clear_words(twins);
-    clear_words(formulas);
-    clear_words(effects);
-    clear_words(operators);
+    task::clear::clear_bytes(initial);
+    task::clear::clear_words(twins);
+    task::clear::clear_words(formulas);
+    task::clear::clear_words(effects);
+    task::clear::clear_words(operators);
 }

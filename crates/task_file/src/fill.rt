@@ -51,7 +51,7 @@ fn fill_rows(
     )
 }
 
-// All that stands behind the head. Linear in the counts, and quadratic in the twins.
+// All that stands behind the head. Linear in the counts.
 pub fn fill_tables(
     head: Head,
     file: &[u8],

@@ -68,8 +68,7 @@ fn fill(
     ReadAnswer::Read(head)
 }
 
-// Reads a task file into lent tables. One pass over the file; clearing is linear in what is lent, and the twins cost the square of
-// their count, which is at most 256.
+// Reads a task file into lent tables. One pass over the file; clearing is linear in what is lent.
 pub fn read(
     file: &[u8],
     initial: &mut [u8],

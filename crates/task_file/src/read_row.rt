@@ -2,7 +2,7 @@
 ghost use mathlib.Core.Path.{_≡_};
 ghost use lib.ListN.{drop};
 ghost use Rattle.task_file.specs.Answers.{row-told, arranged-row};
-ghost use Rattle.task_file.specs.Tables.{map-clear, own-number, row-words-read, kept-words-read};
+ghost use Rattle.task_file.specs.Tables.{map-clear, row-words-read, kept-words-read};
 use crate::Row;
 use task::Head;
 use task::Table;
@@ -15,17 +15,6 @@ fn map_clear(table: Table, map: u8) -> bool
         Table::Formulas => map / 4 % 4 == 0,
         Table::Effects => map / 4 % 4 == 0,
         Table::Operators => map < 8,
-    }
-}
-
-// A row's own number. Constant time.
-fn own_number(table: Table) -> u16
-    ensures { λ r. ⌜ r ≡ own-number table ⌝ }
-{
-    match table {
-        Table::Formulas => 10,
-        Table::Effects => 11,
-        Table::Operators => 12,
     }
 }
 
@@ -79,11 +68,11 @@ fn read_row(table: Table, file: &[u8], at: usize) -> Row
     arranged(table, map as u16 / 16, first, second, third, next)
 }
 
-// Row i of a table: its words, if they keep their rule. Constant time.
-pub fn read_kept(table: Table, head: Head, i: usize, file: &[u8], at: usize) -> Row
-    ensures { λ r. ⌜ row-told (now (file .entry)) r ≡ kept-words-read table head i (drop at (now (file .entry))) ⌝ }
+// Formula row i: its words, if they keep their rule. Constant time, as are the two below.
+fn read_formula(head: Head, i: usize, file: &[u8], at: usize) -> Row
+    ensures { λ r. ⌜ row-told (now (file .entry)) r ≡ kept-words-read Table.Formulas head i (drop at (now (file .entry))) ⌝ }
 {
-    let r = read_row(table, file, at);
+    let r = read_row(Table::Formulas, file, at);
     let Row::Words {
         first,
         second,
@@ -93,13 +82,80 @@ pub fn read_kept(table: Table, head: Head, i: usize, file: &[u8], at: usize) -> 
     else {
         return r;
     };
-    if !task::check::row_kept(table, head, i, first, second, third) {
-        return Row::NoRow(own_number(table));
+    let variables = head.variables as usize;
+    if !task::rows::formula_kept(variables, i, first, second, third) {
+        return Row::NoRow(10);
     }
     Row::Words {
         first,
         second,
         third,
         next,
+    }
+}
+
+// Effect row i: its words, if they keep their rule. Constant time.
+fn read_effect(head: Head, i: usize, file: &[u8], at: usize) -> Row
+    ensures { λ r. ⌜ row-told (now (file .entry)) r ≡ kept-words-read Table.Effects head i (drop at (now (file .entry))) ⌝ }
+{
+    let r = read_row(Table::Effects, file, at);
+    let Row::Words {
+        first,
+        second,
+        third,
+        next,
+    } = r
+    else {
+        return r;
+    };
+    let variables = head.variables as usize;
+    let formulas = head.formulas as usize;
+    if !task::rows::effect_kept(variables, formulas, i, first, second, third) {
+        return Row::NoRow(11);
+    }
+    Row::Words {
+        first,
+        second,
+        third,
+        next,
+    }
+}
+
+// Operator row i: its words, if they keep their rule. Constant time.
+fn read_operator(head: Head, i: usize, file: &[u8], at: usize) -> Row
+    ensures { λ r. ⌜ row-told (now (file .entry)) r ≡ kept-words-read Table.Operators head i (drop at (now (file .entry))) ⌝ }
+{
+    let r = read_row(Table::Operators, file, at);
+    let Row::Words {
+        first,
+        second,
+        third,
+        next,
+    } = r
+    else {
+        return r;
+    };
+    let formulas = head.formulas as usize;
+    let effects = head.effects as usize;
+    if !task::rows::operator_kept(formulas, effects, first, second, third) {
+        return Row::NoRow(12);
+    }
+    Row::Words {
+        first,
+        second,
+        third,
+        next,
+    }
+}
+
+// Row i of a table: its words, if they keep their rule. Constant time. The table is asked for here alone, so that a loop over rows
+// compiles to three loops without the question.
+pub fn read_kept(table: Table, head: Head, i: usize, file: &[u8], at: usize) -> Row
+    ensures { λ r. ⌜ row-told (now (file .entry)) r ≡ kept-words-read table head i (drop at (now (file .entry))) ⌝ }
+{
+    match table {
+        Table::Formulas => read_formula(head, i, file, at),
+        Table::Effects => read_effect(head, i, file, at),
+        Table::Operators => read_operator(head, i, file, at),
     }
 }

@@ -1,8 +1,7 @@
 // The originals of the twins.
 ghost use mathlib.Core.Path.{_≡_};
-ghost use Prim.Native.Nat.{_≤_, _<_};
+ghost use Prim.Native.Nat.{_≤_};
 ghost use lib.ListN.{length, drop};
-ghost use Rattle.task.specs.Check.{twin-kept};
 ghost use Rattle.file_format.specs.Parse.{table-read};
 ghost use Rattle.file_format.specs.Reading.{twin-read};
 ghost use Rattle.task_file.specs.Answers.{lost-word, ReadPart};
@@ -19,22 +18,12 @@ fn refused(f: Field) -> Place
     }
 }
 
-// Whether twin row k names a variable below `bound` that no row before it names. Linear in k.
-fn twin_kept(twins: &[u16], k: usize, bound: usize) -> bool
-    requires { ⌜ k < length (now twins) ⌝ }
-    ensures { λ r. ⌜ r ≡ twin-kept bound (now (twins .entry)) k ⌝ }
-{
-    if bound <= twins[k] as usize {
-        return false;
-    }
-    task::check::named_first(twins, k)
-}
-
-// The originals, into the front of `twins`. Quadratic in the count, which is at most 256.
+// The originals, into the front of `twins`. Linear: a byte for each variable tells whether a row has named it.
 pub fn read_twins(file: &[u8], at: usize, count: usize, bound: usize, twins: &mut [u16]) -> Place
-    requires { ⌜ count ≤ length (now twins) ⌝ }
+    requires { ⌜ (count ≤ length (now twins)) × (bound ≤ 512) ⌝ }
     ensures { λ r. ⌜ ReadPart count (now (file .entry)) (table-read (twin-read bound) count (drop at (now (file .entry)))) r (now (twins .entry)) (now (twins .exit)) ⌝ }
 {
+    let mut named = [0u8; 512];
     let mut k = 0;
     let mut place = at;
     while k < count {
@@ -42,10 +31,15 @@ pub fn read_twins(file: &[u8], at: usize, count: usize, bound: usize, twins: &mu
         let Field::Word { word, next } = f else {
             return refused(f);
         };
+        let original = word as usize;
         twins[k] = word;
-        if !twin_kept(twins, k, bound) {
+        if bound <= original {
             return Place::Nowhere(9);
         }
+        if named[original] != 0 {
+            return Place::Nowhere(9);
+        }
+        named[original] = 1;
         place = next;
         k += 1;
     }

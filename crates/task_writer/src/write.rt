@@ -60,14 +60,14 @@ pub fn write(
 ) -> WriteAnswer
     ensures { λ r. ⌜ wrote r (now (out .exit)) ≡ write-outcome (lent head (now (initial .entry)) (now (twins .entry)) (now (formulas .entry)) (now (effects .entry)) (now (operators .entry))) (length (now (out .entry))) ⌝ }
 {
-    task_file::clear::clear_bytes(out);
+    task::clear::clear_bytes(out);
     let number = task::check::check(head, initial, twins, formulas, effects, operators);
     if number != 0 {
         return WriteAnswer::NotWritten(number);
     }
     let end = put_task(head, initial, twins, formulas, effects, operators, out);
     if out.len() < end {
-        task_file::clear::clear_bytes(out);
+        task::clear::clear_bytes(out);
         return WriteAnswer::NotWritten(20);
     }
     WriteAnswer::Written(end)

@@ -1,5 +1,6 @@
 //! Compares the library's times with those of the other implementation in
-//! its quickest form: one table, ratios of medians. No argument.
+//! its quickest form: one table, ratios of medians. An argument picks one
+//! group: files, runs or compiling.
 //!
 //! Both sides work on the same buffers and clear them; the calls of both are
 //! taken in turns, so that the machine's changes meet both.
@@ -18,11 +19,19 @@ mod tasks;
 mod times;
 
 fn main() {
+    let group = std::env::args().nth(1);
+    let asked = |name| group.as_deref().is_none_or(|group| group == name);
     times::print_head();
     #[cfg(feature = "reading")]
-    files::compare();
+    if asked("files") {
+        files::compare();
+    }
     #[cfg(feature = "running")]
-    runs::compare();
+    if asked("runs") {
+        runs::compare();
+    }
     #[cfg(feature = "compiling")]
-    compiling::compare();
+    if asked("compiling") {
+        compiling::compare();
+    }
 }

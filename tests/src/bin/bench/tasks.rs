@@ -79,8 +79,8 @@ pub fn large_finished() -> Task {
     best.1
 }
 
-/// 512 variables, 256 operators, 3,584 effect rows, of which each operator
-/// touches five variables, each under a condition.
+/// 512 variables, 256 operators, 4,096 effect rows; each operator touches
+/// five variables, each under a condition, and has an empty part.
 pub fn few_touched() -> Task {
     let mut draft = Draft::new(&[0; MOST_VARIABLES]);
     let all: Vec<u16> = (0..512).map(|v| draft.variable(v)).collect();
@@ -92,6 +92,7 @@ pub fn few_touched() -> Task {
             let atom = draft.effect(kind, place(k), 0);
             parts.push(draft.under(place(k + 5), atom));
         }
+        parts.push(draft.effect(effect::EMPTY, 0, 0));
         let whole = draft.all(&parts);
         draft.operator(place(10), whole, i as u16);
     }

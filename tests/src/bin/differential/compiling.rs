@@ -26,6 +26,7 @@ pub fn tests() -> Vec<Test> {
         test("random tasks", random_tasks),
         test("conflicts", conflicts),
         test("conditions that fold away", folding),
+        test("goals that bring the last twins", twins_in_goal),
         test("middle tasks", middle_tasks),
         test("large tasks", large_tasks),
         test("exponential trees", exponential_trees),
@@ -168,6 +169,22 @@ fn folding(trial: &mut Trial) -> Verdict {
         shape.constants = random.pick(&[50, 80, 100]);
         shape.leaves = 30;
     })
+}
+
+/// Operators that came before get rules for the twins that the goal brings.
+fn twins_in_goal(trial: &mut Trial) -> Verdict {
+    let mut with_rules = 0;
+    for _ in 0..8000 {
+        let mut shape = Shape::small(&mut trial.random, false);
+        shape.variables += 2;
+        shape.effects += 4;
+        shape.operators += 1;
+        let before = generate::task(&mut trial.random, &shape);
+        let effects = agree_both(trial, &before)?.head.effect_count;
+        let task = generate::with_twins_in_goal(&mut trial.random, before);
+        with_rules += u32::from(agree_both(trial, &task)?.head.effect_count > effects);
+    }
+    same("enough of them have rules", with_rules > 2000, true)
 }
 
 fn middle_tasks(trial: &mut Trial) -> Verdict {

@@ -19,6 +19,7 @@ pub fn tests() -> Vec<Test> {
     };
     vec![
         test("at the limits and past them", at_the_limits),
+        test("far past the limits", far_past_the_limits),
         test("every lent length", every_lent_length),
         test("lent lengths of large tasks", large_lent_lengths),
         test("scratch lengths", scratch_lengths),
@@ -65,7 +66,9 @@ fn at_the_limits(trial: &mut Trial) -> Verdict {
         ("V 513", examples::some_twins(511, 2), false),
         ("V 512, no twin", examples::some_twins(512, 0), true),
         ("V 512, a twin", examples::some_twins(512, 1), false),
-        ("E far above", examples::many_rules(&[512; 256]), false),
+        ("V 512 by the goal", examples::last_twins(500, 11), true),
+        ("V 513 by the goal", examples::last_twins(500, 12), false),
+        ("O 256", examples::many_rules(&[5; MOST_OPERATORS]), true),
     ];
     for rows in 4090..=4096 {
         cases.push(("F", examples::conjunctions(rows), rows <= 4094));
@@ -73,15 +76,33 @@ fn at_the_limits(trial: &mut Trial) -> Verdict {
     for rows in 4090..=4103 {
         cases.push(("E", effect_rows(rows), rows <= 4096));
     }
-    // counts that would pass again if they wrapped at 16 bits
-    for rows in [65_535, 65_536, 65_537, 65_539, 131_072, 131_080, 69_632] {
-        cases.push(("E, wrapped", effect_rows(rows), false));
-    }
+    // 4,096 and 4,097 effect rows, with a rule for the goal's twin in each operator
+    let last = examples::rules_and_last_twin;
+    cases.push(("E 4,096 by the goal", last(&[500, 500, 363]), true));
+    cases.push((
+        "E 4,097 by the goal",
+        last(&[400, 400, 400, 100, 62]),
+        false,
+    ));
     for (what, task, fits) in cases {
+        let number = if fits { 0 } else { 15 };
         for lent in [needs(&task), LARGEST, MORE] {
             let answer = agree(trial, (&task, &lent, scratch_of(&task)))?;
-            same(what, answer.number, if fits { 0 } else { 15 })?;
+            same(what, answer.number, number)?;
         }
+    }
+    Ok(())
+}
+
+/// Effect rows so many that their count passes 16 bits; wrapped, it would
+/// keep the limit again.
+fn far_past_the_limits(trial: &mut Trial) -> Verdict {
+    let counts = [65_536, 65_537, 69_632];
+    let mut tasks = counts.map(effect_rows).to_vec();
+    tasks.push(examples::many_rules(&[512; MOST_OPERATORS]));
+    for task in tasks {
+        let answer = agree(trial, (&task, &MORE, scratch_of(&task)))?;
+        same("E", answer.number, 15)?;
     }
     Ok(())
 }

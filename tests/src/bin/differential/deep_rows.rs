@@ -21,7 +21,7 @@ pub fn tests() -> Vec<Test> {
 const STACK: usize = 8 << 20;
 
 fn deep_rows(trial: &mut Trial) -> Verdict {
-    let mut most = 0;
+    let mut most = (0, String::new());
     for (formula_name, formula_row) in FORMULAS {
         for (effect_name, effect_row) in EFFECTS {
             trial.case();
@@ -32,9 +32,10 @@ fn deep_rows(trial: &mut Trial) -> Verdict {
                 stack::measured(STACK, || calls::compile(random, &task, &lent, scratch));
             let what = format!("{formula_name}; {effect_name}");
             same(&what, found == compile(&task, &lent, scratch), true)?;
-            most = most.max(used);
+            most = most.max((used, what));
         }
     }
-    println!("deepest rows: {most} bytes of stack");
+    let (used, what) = most;
+    println!("deepest rows: {used} bytes of stack ({what})");
     Ok(())
 }

@@ -92,7 +92,10 @@ fn some_runs(trial: &mut Trial, task: &Task, compiled: &Task, rounds: usize) -> 
 fn random_tasks(trial: &mut Trial) -> Verdict {
     for _ in 0..5000 {
         let shape = Shape::small(&mut trial.random, false);
-        let task = generate::task(&mut trial.random, &shape);
+        let mut task = generate::task(&mut trial.random, &shape);
+        if trial.random.chance(40) {
+            task = generate::with_twins_in_goal(&mut trial.random, task);
+        }
         if let Some(compiled) = compiled(trial, &task) {
             some_runs(trial, &task, &compiled, 6)?;
         }

@@ -8,6 +8,7 @@ use std::path::{Path, PathBuf};
 use std::process::{Command, Stdio};
 
 use saqwillo_tests::damage;
+use saqwillo_tests::deep::{deep_task, EFFECTS, FORMULAS};
 use saqwillo_tests::examples;
 use saqwillo_tests::file::file_of;
 use saqwillo_tests::generate::{self, Shape};
@@ -25,6 +26,8 @@ fn main() {
         test("stored files", stored_files),
         test("random files", random_files),
         test("large files", large_files),
+        test("deepest files", deepest_files),
+        test("empty input", empty_input),
         test("long inputs", long_inputs),
         test("input in pieces", input_in_pieces),
     ];
@@ -108,11 +111,27 @@ fn large_files(trial: &mut Trial) -> Verdict {
     Ok(())
 }
 
+/// Formulas and effects as deep as the limits allow, on the stack that a
+/// process gets.
+fn deepest_files(trial: &mut Trial) -> Verdict {
+    for (_, formula_row) in FORMULAS {
+        for (_, effect_row) in EFFECTS {
+            let task = deep_task(formula_row, effect_row);
+            agree(trial, &file_of(&task.head, &task.tables), 70_000)?;
+        }
+    }
+    Ok(())
+}
+
+fn empty_input(trial: &mut Trial) -> Verdict {
+    agree(trial, &[], 70_000)
+}
+
 /// Inputs longer than any valid file get their right number too.
 fn long_inputs(trial: &mut Trial) -> Verdict {
     let whole = examples::whole();
     let whole = file_of(&whole.head, &whole.tables);
-    for length in [43_340, 43_341, 43_342, 65_536, 1_000_000] {
+    for length in [43_340, 43_341, 43_342, 65_535, 65_536, 65_537, 1_000_000] {
         for start in [&whole[..], &whole[..41], &[0xff], &[0x04, 0, 0], &[]] {
             let mut input = start.to_vec();
             input.resize(length, 0);
@@ -123,8 +142,11 @@ fn long_inputs(trial: &mut Trial) -> Verdict {
     let task = generate::task(&mut trial.random, &shape);
     let mut file = file_of(&task.head, &task.tables);
     agree(trial, &file, 70_000)?;
-    file.resize(100_000, 0);
-    agree(trial, &file, 70_000)
+    for length in [43_342, 65_536, 65_537, 100_000] {
+        file.resize(length, 0);
+        agree(trial, &file, 70_000)?;
+    }
+    Ok(())
 }
 
 fn input_in_pieces(trial: &mut Trial) -> Verdict {

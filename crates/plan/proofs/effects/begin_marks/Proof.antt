@@ -7,17 +7,17 @@ use Rattle.plan.proofs.Marking.{begun}
 add-end : tie.Need-add-end
 add-end c = search needs
 
-sub-clear : tie.Need-sub-clear
-sub-clear c = search needs
+sub-clear-bytes : tie.Need-sub-clear-bytes
+sub-clear-bytes c = search needs
 
-part-clear-start : tie.Need-part-clear-start
-part-clear-start c = search needs
+part-clear-bytes-start : tie.Need-part-clear-bytes-start
+part-clear-bytes-start c = search needs
 
-part-clear-end : tie.Need-part-clear-end
-part-clear-end c = search needs
+part-clear-bytes-end : tie.Need-part-clear-bytes-end
+part-clear-bytes-end c = search needs
 
-clear-requires : tie.Need-clear-requires
-clear-requires c κs = search needs
+clear-bytes-requires : tie.Need-clear-bytes-requires
+clear-bytes-requires c κs = search needs
 
 slice-write-scratch : tie.Need-slice-write-scratch
 slice-write-scratch c = search needs
@@ -26,17 +26,17 @@ same-length : tie.Need-same-length
 same-length c = search needs
 
 returns : tie.Need-returns
-returns c = begun _ _ _ _ (c .before .before .before .before .before .pre) (c .before .before .clear .ensures)
+returns c = begun _ _ _ _ (c .before .before .before .before .before .pre) (c .before .before .clear-bytes .ensures)
 
 pub begin-marks-spec : {M : Type 1} → statement M
 begin-marks-spec =
     tie.close
     (tie.spec
     add-end
-    sub-clear
-    part-clear-start
-    part-clear-end
-    clear-requires
+    sub-clear-bytes
+    part-clear-bytes-start
+    part-clear-bytes-end
+    clear-bytes-requires
     slice-write-scratch
     same-length
     returns)

@@ -55,7 +55,7 @@ same-length-2 : tie.Need-same-length-2 Inv-loop μ-loop
 same-length-2 c = c .before .before .holds .kept .1 .1 .1 .1 .0 ∙ c .before .before .before .before .before .before .before .before .before .before .before .take .kept .1 .1 .1 .1 .1 .1 .0 ∙ c .before .before .before .before .before .before .before .before .before .before .before .before .before .before .before .before .loop .inv .2
 
 returns : tie.Need-returns Inv-loop μ-loop
-returns c = stopped-run (c .before .before .before .before .before .before .before .before .before .before .before .before .before .before .before .before .loop .inv .3) (omega (arith, c .before .before .before .before .before .before .before .before .before .before .before .before .before .before .before .loop-test .taken)) (c .before .before .before .before .before .before .before .before .before .before .before .take .ensures) (c .before .before .before .before .before .if1 .taken) (c .before .before .holds .ensures ∙ goal-told _ _ _ _ _)
+returns c = stopped-run (c .before .before .before .before .before .before .before .before .before .before .before .before .before .before .before .before .loop .inv .3) (omega (arith, c .before .before .before .before .before .before .before .before .before .before .before .before .before .before .before .loop-test .taken)) (c .before .before .before .before .before .before .before .before .before .before .before .take .ensures) (c .before .before .before .before .before .if1 .taken) (c .before .before .holds .ensures .0 ∙ goal-told _ _ _ _ _)
 
 add-steps : tie.Need-add-steps Inv-loop μ-loop
 add-steps c = omega arith
@@ -79,7 +79,7 @@ same-length-4 : tie.Need-same-length-4 Inv-loop μ-loop
 same-length-4 c = c .before .before .holds2 .kept .1 .1 .1 .1 .0 ∙ c .before .before .before .before .before .before .loop .inv .2
 
 returns-2 : tie.Need-returns-2 Inv-loop μ-loop
-returns-2 c = ended-run (c .before .before .before .before .before .before .loop .inv .3) (omega arith) (c .before .before .holds2 .ensures ∙ goal-told _ _ _ _ _)
+returns-2 c = ended-run (c .before .before .before .before .before .before .loop .inv .3) (omega arith) (c .before .before .holds2 .ensures .0 ∙ goal-told _ _ _ _ _)
 
 pub run-ready-spec : {M : Type 1} → statement M
 run-ready-spec =

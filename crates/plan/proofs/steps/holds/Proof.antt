@@ -14,7 +14,7 @@ same-length : tie.Need-same-length
 same-length c = search needs
 
 returns : tie.Need-returns
-returns c = value-told (c .before .before .before .evaluate .ensures) (c .before .before .before .before .before .before .before .before .args .formula) (c .before .before .before .before .before .before .before .before .pre .1)
+returns c = (value-told (c .before .before .before .evaluate .ensures) (c .before .before .before .before .before .before .before .before .args .formula) (c .before .before .before .before .before .before .before .before .pre .1), c .before .before .before .evaluate .ensures)
 
 pub holds-spec : {M : Type 1} → statement M
 holds-spec = tie.close (tie.spec evaluate-requires slice-read-result same-length returns)

@@ -38,7 +38,7 @@ same-length-4 : tie.Need-same-length-4
 same-length-4 c = search needs
 
 returns-2 : tie.Need-returns-2
-returns-2 c = step-finished (c .before .before .before .before .before .before .before .before .before .before .before .before .before .take .ensures) (c .before .before .before .before .before .before .before .if1 .left) (c .before .before .holds .ensures ∙ goal-told _ _ _ _ _)
+returns-2 c = step-finished (c .before .before .before .before .before .before .before .before .before .before .before .before .before .take .ensures) (c .before .before .before .before .before .before .before .if1 .left) (c .before .before .holds .ensures .0 ∙ goal-told _ _ _ _ _)
 
 pub step-ready-spec : {M : Type 1} → statement M
 step-ready-spec =

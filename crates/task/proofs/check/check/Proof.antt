@@ -51,7 +51,7 @@ sub-twins-kept : tie.Need-sub-twins-kept
 sub-twins-kept c = omega (arith, (counts-tested _ .0 (tested (c .before .before .before .before .before .before .before .before .before .before .before .counts-kept .ensures) (c .before .before .before .before .before .before .before .before .before .before .if1 .left))) .twins)
 
 twins-kept-requires : tie.Need-twins-kept-requires
-twins-kept-requires c κs = (lengths-tested _ .0 (tested (c .before .before .before .before .before .before .before .long-enough .ensures) (c .before .before .before .before .before .before .if3 .left))) .twins
+twins-kept-requires c κs = ((lengths-tested _ .0 (tested (c .before .before .before .before .before .before .before .long-enough .ensures) (c .before .before .before .before .before .before .if3 .left))) .twins, omega (arith, (counts-tested _ .0 (tested (c .before .before .before .before .before .before .before .before .before .before .before .counts-kept .ensures) (c .before .before .before .before .before .before .before .before .before .before .if1 .left))) .variables))
 
 returns-5 : tie.Need-returns-5
 unfolding initial-kept twins-kept formulas-kept effects-kept operators-kept

@@ -1,41 +1,44 @@
 use Prim.Native.Nat.{_≤_, _-_}
 use native.Mathlib.Omega.{arith}
-use mathlib.Core.Path.{_≡_, sym, _∙_}
+use mathlib.Core.Path.{_≡_}
 use mathlib.Core.Bool.{true}
-use borrow.Author.Tests.{not-true, not-false}
 use Rattle.task.specs.Bounded.{every}
 use Rattle.task.specs.Check.{twin-kept}
 use Rattle.task.proofs.Bounded.{every-none, every-more, every-stops, every-ends}
-use Rattle.task.proofs.Refusals.{twin-outside, twin-again, twin-fine}
+use Rattle.task.proofs.Refusals.{twin-outside}
+use Rattle.task.proofs.Named.{NamedBy, named-none, named-more, named-before, named-now}
 use Rattle.task.proofs.check.twins_kept.Statement.{statement}
 use Rattle.task.proofs.check.twins_kept.Tie as tie
 
 abbrev Inv-loop : tie.InvT-loop
-Inv-loop twins count bound k₀ k = (k ≤ count) × (every k (twin-kept bound twins) ≡ true)
+Inv-loop twins count bound named₀ k₀ named k = (k ≤ count) × (every k (twin-kept bound twins) ≡ true) × NamedBy twins k named
 
 abbrev μ-loop : tie.MeasureT-loop
-μ-loop twins count bound k₀ k = count - k
+μ-loop twins count bound named₀ k₀ named k = count - k
 
 loop-holds : tie.Need-loop-holds Inv-loop μ-loop
-loop-holds c = (omega arith, every-none _)
+loop-holds c = (omega arith, every-none _, named-none (c .args .twins .now))
 
-mul-if1 : tie.Need-mul-if1 Inv-loop μ-loop
-mul-if1 c = omega (arith, (c .before .before .before .good))
+mul-original : tie.Need-mul-original Inv-loop μ-loop
+mul-original c = omega (arith, c .before .before .good)
 
-shared-slice-read-if1 : tie.Need-shared-slice-read-if1 Inv-loop μ-loop
-shared-slice-read-if1 c = omega arith
+shared-slice-read-original : tie.Need-shared-slice-read-original Inv-loop μ-loop
+shared-slice-read-original c = omega (arith, c .before .before .before .pre)
 
-cast-if1 : tie.Need-cast-if1 Inv-loop μ-loop
-cast-if1 c = omega (arith, (c .before .before .before .shared-slice-known .given) (c .before .before .loop .k))
+cast-original : tie.Need-cast-original Inv-loop μ-loop
+cast-original c = omega (arith, c .shared-slice-known .given (c .before .before .loop .k))
 
 returns : tie.Need-returns Inv-loop μ-loop
 returns c = every-stops _ _ _ (c .before .before .loop-test .taken) (twin-outside _ _ _ (c .if1 .taken))
 
-named-first-requires : tie.Need-named-first-requires Inv-loop μ-loop
-named-first-requires c κs = omega arith
+array-read-if2 : tie.Need-array-read-if2 Inv-loop μ-loop
+array-read-if2 c = omega (arith, c .if1 .left, c .before .before .before .before .pre)
 
 returns-2 : tie.Need-returns-2 Inv-loop μ-loop
-returns-2 c = every-stops _ _ _ (c .before .before .before .before .loop-test .taken) (twin-again _ _ _ (sym (c .before .named-first .ensures) ∙ not-true _ (c .if2 .taken)))
+returns-2 c = let s = c .before .before .before .before .before in let l = c .before .before .before .before .loop in every-stops _ _ _ (c .before .before .before .loop-test .taken) (named-before (s .args .twins .now) (l .k) (l .named) (l .inv .2) (s .args .bound) (s .pre .1) (c .before .if1 .left) (c .if2 .taken))
+
+array-write-named : tie.Need-array-write-named Inv-loop μ-loop
+array-write-named c = omega (arith, c .before .if1 .left, c .before .before .before .before .before .pre)
 
 add-k : tie.Need-add-k Inv-loop μ-loop
 add-k c = omega arith
@@ -44,10 +47,10 @@ loop-less : tie.Need-loop-less Inv-loop μ-loop
 loop-less c = omega arith
 
 loop-again : tie.Need-loop-again Inv-loop μ-loop
-loop-again c = (omega arith, every-more _ _ ((c .before .before .before .before .before .loop .inv) .1) (twin-fine _ _ _ (c .before .before .if1 .left) (sym (c .before .named-first .ensures) ∙ not-false _ (c .if2 .left))))
+loop-again c = let s = c .before .before .before .before .before in let l = c .before .before .before .before .loop in (omega arith, every-more _ _ (l .inv .1) (named-now (s .args .twins .now) (l .k) (l .named) (l .inv .2) (s .args .bound) (s .pre .1) (c .before .if1 .left) (c .if2 .left)), named-more (s .args .twins .now) (l .k) (l .named) (l .inv .2) (omega (arith, s .pre, c .before .if1 .left)))
 
 returns-3 : tie.Need-returns-3 Inv-loop μ-loop
-returns-3 c = every-ends _ _ _ ((c .before .loop .inv) .0) (c .loop-test .left) ((c .before .loop .inv) .1)
+returns-3 c = every-ends _ _ _ (c .before .loop .inv .0) (c .loop-test .left) (c .before .loop .inv .1)
 
 pub twins-kept-spec : {M : Type 1} → statement M
 twins-kept-spec =
@@ -56,12 +59,13 @@ twins-kept-spec =
     Inv-loop
     μ-loop
     loop-holds
-    mul-if1
-    shared-slice-read-if1
-    cast-if1
+    mul-original
+    shared-slice-read-original
+    cast-original
     returns
-    named-first-requires
+    array-read-if2
     returns-2
+    array-write-named
     add-k
     loop-less
     loop-again

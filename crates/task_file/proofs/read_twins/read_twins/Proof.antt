@@ -1,92 +1,86 @@
 use mathlib.Core.Path.{_≡_, refl, sym, ap, _∙_}
 use lib.ListN.{length, drop, length-set}
-use Prim.Native.Nat.{_-_}
+use Prim.Native.Nat.{_-_, _<_}
 use native.Mathlib.Omega.{arith}
 use borrow.Author.Needs.{needs}
-use borrow.Author.Tests.{not-true, not-false}
+use Rattle.task.proofs.Named.{NamedBy, named-none}
 use Rattle.task_file.specs.Answers.{field-told, lost-word}
-use Rattle.task_file.proofs.TwinRows.{TwinsDone, twins-begin, twins-ended, twins-broken, twins-more, twins-end}
+use Rattle.task_file.proofs.TwinRows.{twin-high, twin-before, twin-now, twin-marked, TwinsDone, twins-begin, twins-ended, twins-broken, twins-more, twins-end}
 use Rattle.task_file.proofs.read_twins.read_twins.Statement.{statement}
 use Rattle.task_file.proofs.read_twins.read_twins.Tie as tie
 use Rattle.task_file.proofs.read_twins.read_twins.Reads as reads
 use Rattle.task_file.proofs.read_twins.read_twins.Lts as lts
 use Rattle.task_file.proofs.read_twins.refused.Reads as refused-reads
-use Rattle.task_file.proofs.read_twins.twin_kept.Reads as twin-kept-reads
 use Rattle.task_file.proofs.word.read_word.Reads as read-word-reads
 
 abbrev Inv-loop : tie.InvT-loop
-Inv-loop file at count bound twins₀ k₀ place₀ twins k place = TwinsDone bound count file at twins₀ twins k place
+Inv-loop file at count bound twins₀ named₀ k₀ place₀ twins named k place = TwinsDone bound count file at twins₀ twins k place × NamedBy twins k named
 
 abbrev μ-loop : tie.MeasureT-loop
-μ-loop file at count bound twins₀ k₀ place₀ twins k place = count - k
+μ-loop file at count bound twins₀ named₀ k₀ place₀ twins named k place = count - k
 
--- src/read_twins.rt:40:5
 loop-holds : tie.Need-loop-holds Inv-loop μ-loop
-loop-holds c = let a = c .before .before .args in twins-begin (a .bound) (a .count) (a .file .now) (a .at) (a .twins .now)
+loop-holds c = let a = c .before .before .args in (twins-begin (a .bound) (a .count) (a .file .now) (a .at) (a .twins .now), named-none (a .twins .now))
 
--- src/read_twins.rt:41:13
 read-word-requires : tie.Need-read-word-requires Inv-loop μ-loop
 read-word-requires c κs = search needs
 
--- src/read_twins.rt:42:27
 enum-known-f : tie.Need-enum-known-f Inv-loop μ-loop
 enum-known-f c = search needs
 
--- src/read_twins.rt:43:13
 enum-told : tie.Need-enum-told Inv-loop μ-loop
 enum-told c = search needs
 
--- src/read_twins.rt:43:13
 refused-requires : tie.Need-refused-requires Inv-loop μ-loop
 refused-requires c κs = search needs
 
--- src/read_twins.rt:43:13
 same-length : tie.Need-same-length Inv-loop μ-loop
-same-length c = c .before .before .before .before .before .loop .inv .size
+same-length c = c .before .before .before .before .before .loop .inv .0 .size
 
--- src/read_twins.rt:43:13
 returns : tie.Need-returns Inv-loop μ-loop
-returns c = let a = c .before .before .before .before .before .before .before .before .args in twins-ended (a .bound) (a .count) (a .file .now) (a .at) (a .twins .now) (c .before .before .before .before .before .loop .twins) (c .before .before .before .before .before .loop .k) (c .before .before .before .before .before .loop .place) (c .before .before .before .before .before .loop .inv) (c .before .before .before .before .loop-test .taken) (sym (c .before .before .before .read-word .ensures) ∙ ap (field-told (a .file .now)) (c .before .enum-told .given .1)) (c .refused .ensures ∙ ap lost-word (c .before .enum-told .given .1))
+returns c = let a = c .before .before .before .before .before .before .before .before .args in let l = c .before .before .before .before .before .loop in twins-ended (a .bound) (a .count) (a .file .now) (a .at) (a .twins .now) (l .twins) (l .k) (l .place) (l .inv .0) (c .before .before .before .before .loop-test .taken) (sym (c .before .before .before .read-word .ensures) ∙ ap (field-told (a .file .now)) (c .before .enum-told .given .1)) (c .refused .ensures ∙ ap lost-word (c .before .enum-told .given .1))
 
--- src/read_twins.rt:45:9
+cast-original : tie.Need-cast-original Inv-loop μ-loop
+cast-original c = search needs
+
 mul-twins : tie.Need-mul-twins Inv-loop μ-loop
-mul-twins c = omega (arith, c .before .before .before .before .before .before .before .before .pre, c .before .before .before .before .before .before .before .before .good, c .before .before .before .before .before .loop .inv .size)
+mul-twins c = omega (arith, c .before .before .before .before .before .before .before .before .pre, c .before .before .before .before .before .before .before .before .good, c .before .before .before .before .before .loop .inv .0 .size)
 
--- src/read_twins.rt:45:9
 slice-write-twins : tie.Need-slice-write-twins Inv-loop μ-loop
-slice-write-twins c = omega (arith, c .before .before .before .before .before .before .before .before .pre, c .before .before .before .before .before .before .before .before .good, c .before .before .before .before .before .loop .inv .size)
+slice-write-twins c = omega (arith, c .before .before .before .before .before .before .before .before .pre, c .before .before .before .before .before .before .before .before .good, c .before .before .before .before .before .loop .inv .0 .size)
 
--- src/read_twins.rt:46:13
-twin-kept-requires : tie.Need-twin-kept-requires Inv-loop μ-loop
-twin-kept-requires c κs = simp length-set (omega (arith, c .before .before .before .before .before .before .before .before .before .pre, c .before .before .before .before .before .before .before .before .before .good, c .before .before .before .before .before .before .loop .inv .size))
-
--- src/read_twins.rt:47:13
 same-length-2 : tie.Need-same-length-2 Inv-loop μ-loop
-same-length-2 c = simp length-set (c .before .before .before .before .before .before .before .before .loop .inv .size)
+same-length-2 c = simp length-set (c .before .before .before .before .before .before .loop .inv .0 .size)
 
--- src/read_twins.rt:47:13
 returns-2 : tie.Need-returns-2 Inv-loop μ-loop
-returns-2 c = let a = c .before .before .before .before .before .before .before .before .before .before .before .args in twins-broken (a .bound) (a .count) (a .file .now) (a .at) (a .twins .now) (c .before .before .before .before .before .before .before .before .loop .twins) (c .before .before .before .before .before .before .before .before .loop .k) (c .before .before .before .before .before .before .before .before .loop .place) (c .before .before .before .before .before .before .before .before .before .before .before .pre) (c .before .before .before .before .before .before .before .before .loop .inv) (c .before .before .before .before .before .before .before .loop-test .taken) (sym (c .before .before .before .before .before .before .read-word .ensures) ∙ ap (field-told (a .file .now)) (c .before .before .before .before .f .given .1)) (sym (c .before .twin-kept .ensures) ∙ not-true _ (c .if1 .taken))
+returns-2 c = let s = c .before .before .before .before .before .before .before .before .before in let a = s .args in let l = c .before .before .before .before .before .before .loop in twins-broken (a .bound) (a .count) (a .file .now) (a .at) (a .twins .now) (l .twins) (l .k) (l .place) (s .pre .0) (l .inv .0) (c .before .before .before .before .before .loop-test .taken) (sym (c .before .before .before .before .read-word .ensures) ∙ ap (field-told (a .file .now)) (c .before .before .f .given .1)) (twin-high (a .bound) (s .pre .1) (l .twins) (l .k) _ (omega (arith, s .pre .0, l .inv .0 .size, c .before .before .before .before .before .loop-test .taken)) (c .if1 .taken))
 
--- src/read_twins.rt:50:9
+array-read-if2 : tie.Need-array-read-if2 Inv-loop μ-loop
+array-read-if2 c = omega (arith, c .if1 .left, c .before .before .before .before .before .before .before .before .before .pre)
+
+same-length-3 : tie.Need-same-length-3 Inv-loop μ-loop
+same-length-3 c = simp length-set (c .before .before .before .before .before .before .before .loop .inv .0 .size)
+
+returns-3 : tie.Need-returns-3 Inv-loop μ-loop
+returns-3 c = let s = c .before .before .before .before .before .before .before .before .before .before in let a = s .args in let l = c .before .before .before .before .before .before .before .loop in twins-broken (a .bound) (a .count) (a .file .now) (a .at) (a .twins .now) (l .twins) (l .k) (l .place) (s .pre .0) (l .inv .0) (c .before .before .before .before .before .before .loop-test .taken) (sym (c .before .before .before .before .before .read-word .ensures) ∙ ap (field-told (a .file .now)) (c .before .before .before .f .given .1)) (twin-before (a .bound) (s .pre .1) (l .twins) (l .k) _ (omega (arith, s .pre .0, l .inv .0 .size, c .before .before .before .before .before .before .loop-test .taken)) (l .named) (l .inv .1) (c .before .if1 .left) (c .if2 .taken))
+
+array-write-named : tie.Need-array-write-named Inv-loop μ-loop
+array-write-named c = omega (arith, c .before .if1 .left, c .before .before .before .before .before .before .before .before .before .before .pre)
+
 add-k : tie.Need-add-k Inv-loop μ-loop
-add-k c = omega (arith, c .before .before .before .before .before .before .before .before .before .before .before .pre, c .before .before .before .before .before .before .before .before .before .before .before .good, c .before .before .before .before .before .before .before .before .loop .inv .size)
+add-k c = omega (arith, c .before .before .before .before .before .before .before .before .before .before .pre, c .before .before .before .before .before .before .before .before .before .before .good, c .before .before .before .before .before .before .before .loop .inv .0 .size)
 
--- src/read_twins.rt:40:5
 loop-less : tie.Need-loop-less Inv-loop μ-loop
 loop-less c = omega arith
 
--- src/read_twins.rt:40:5
 loop-again : tie.Need-loop-again Inv-loop μ-loop
-loop-again c = let a = c .before .before .before .before .before .before .before .before .before .before .before .args in twins-more (a .bound) (a .count) (a .file .now) (a .at) (a .twins .now) (c .before .before .before .before .before .before .before .before .loop .twins) (c .before .before .before .before .before .before .before .before .loop .k) (c .before .before .before .before .before .before .before .before .loop .place) (c .before .before .before .before .before .before .before .before .before .before .before .pre) (c .before .before .before .before .before .before .before .before .loop .inv) (c .before .before .before .before .before .before .before .loop-test .taken) (sym (c .before .before .before .before .before .before .read-word .ensures) ∙ ap (field-told (a .file .now)) (c .before .before .before .before .f .given .1)) (sym (c .before .twin-kept .ensures) ∙ not-false _ (c .if1 .left))
+loop-again c = let s = c .before .before .before .before .before .before .before .before .before .before in let a = s .args in let l = c .before .before .before .before .before .before .before .loop in let fits : l .k < length (l .twins) = omega (arith, s .pre .0, l .inv .0 .size, c .before .before .before .before .before .before .loop-test .taken) in (twins-more (a .bound) (a .count) (a .file .now) (a .at) (a .twins .now) (l .twins) (l .k) (l .place) (s .pre .0) (l .inv .0) (c .before .before .before .before .before .before .loop-test .taken) (sym (c .before .before .before .before .before .read-word .ensures) ∙ ap (field-told (a .file .now)) (c .before .before .before .f .given .1)) (twin-now (a .bound) (s .pre .1) (l .twins) (l .k) _ fits (l .named) (l .inv .1) (c .before .if1 .left) (c .if2 .left)), twin-marked (a .bound) (s .pre .1) (l .twins) (l .k) _ fits (l .named) (l .inv .1) (c .before .if1 .left))
 
--- src/read_twins.rt:34:1
-same-length-3 : tie.Need-same-length-3 Inv-loop μ-loop
-same-length-3 c = c .before .loop .inv .size
+same-length-4 : tie.Need-same-length-4 Inv-loop μ-loop
+same-length-4 c = c .before .loop .inv .0 .size
 
--- src/read_twins.rt:34:1
-returns-3 : tie.Need-returns-3 Inv-loop μ-loop
-returns-3 c = let a = c .before .before .before .before .args in twins-end (a .bound) (a .count) (a .file .now) (a .at) (a .twins .now) (c .before .loop .twins) (c .before .loop .k) (c .before .loop .place) (c .before .loop .inv) (c .loop-test .left)
+returns-4 : tie.Need-returns-4 Inv-loop μ-loop
+returns-4 c = let a = c .before .before .before .before .args in let l = c .before .loop in twins-end (a .bound) (a .count) (a .file .now) (a .at) (a .twins .now) (l .twins) (l .k) (l .place) (l .inv .0) (c .loop-test .left)
 
 pub read-twins-spec : {M : Type 1} → statement M
 read-twins-spec =
@@ -101,13 +95,17 @@ read-twins-spec =
     refused-requires
     same-length
     returns
+    cast-original
     mul-twins
     slice-write-twins
-    twin-kept-requires
     same-length-2
     returns-2
+    array-read-if2
+    same-length-3
+    returns-3
+    array-write-named
     add-k
     loop-less
     loop-again
-    same-length-3
-    returns-3)
+    same-length-4
+    returns-4)

@@ -8,7 +8,7 @@ use Rattle.task_writer.proofs.write.write.Tie as tie
 use Rattle.task_writer.proofs.write.write.Reads as reads
 use Rattle.task_writer.proofs.write.write.Lts as lts
 use Rattle.task.proofs.check.check.Reads as check-reads
-use Rattle.task_file.proofs.clear.clear_bytes.Reads as clear-bytes-reads
+use Rattle.task.proofs.clear.clear_bytes.Reads as clear-bytes-reads
 use Rattle.task_writer.proofs.write.put_task.Reads as put-task-reads
 
 -- src/write.rt:45:5

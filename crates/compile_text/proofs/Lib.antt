@@ -1,0 +1,5 @@
+pub mod Looks
+pub mod Cut
+pub mod PrintWays
+pub mod CompileWays
+pub mod TextWays

@@ -1,0 +1,23 @@
+use native.Mathlib.Omega.{arith}
+use mathlib.Core.Path.{_≡_}
+use lib.ListN.{length}
+use borrow.Author.Needs.{needs}
+use Rattle.task.specs.Table.{lent}
+use Rattle.compile_text.proofs.PrintWays.{task-given}
+use Rattle.compile_text.proofs.answers.task_lines.Statement.{statement}
+use Rattle.compile_text.proofs.answers.task_lines.Tie as tie
+
+print-requires : tie.Need-print-requires
+print-requires c κs = search needs
+
+printed-requires : tie.Need-printed-requires
+printed-requires c κs = search needs
+
+returns : tie.Need-returns
+returns c =
+    let a = c .before .before .before .before .before .before .before .before .args in
+    let n : length (a .out .now) ≡ 164384 = search (needs, c .before .before .before .before .before .before .before .before .good) in
+    task-given (lent (a .head) (a .initial .now) (a .twins .now) (a .formulas .now) (a .effects .now) (a .operators .now)) (length (a .out .now)) (c .before .before .before .before .before .before .before .before .pre) (λ i. c .before .before .before .shared-slice-known5 .given i .fits) n (c .before .print .ensures) (c .printed .ensures) (c .before .print .kept .1 .1 .1 .1 .1 .1 .0)
+
+pub task-lines-spec : {M : Type 1} → statement M
+task-lines-spec = tie.close (tie.spec print-requires printed-requires returns)

@@ -1,0 +1,25 @@
+-- What the code asks and gives.
+use Prim.Native.Nat.{ℕ, _≤_}
+use mathlib.Core.Path.{_≡_}
+use mathlib.Core.List.{List}
+use lib.ListN.{length, take}
+use Rattle.normal_form.specs.Compiled.{padded}
+use Rattle.printing.specs.declared.PrintAnswer.{PrintAnswer}
+use Rattle.printing.specs.declared.PrintAnswer.the-variants.{Printed, Refused}
+
+-- room for every text: printing's Suffices
+abbrev pub most : ℕ
+most = 164384
+
+-- A text was given: its length, and the buffer at exit, 0 past the text. That it is the front of the buffer follows, and is told for a
+-- caller who passes that part on.
+pub record Gives (text : List ℕ) (r : ℕ) (out : List ℕ) : Type 0 where
+  pub counted : r ≡ length text
+  pub held : out ≡ padded most text
+  pub fits : r ≤ length out
+  pub front : r ≡ length (take r out)
+
+-- the length of what was printed, 0 if nothing was
+abbrev pub printed-length : PrintAnswer → ℕ
+printed-length (Printed n) = n
+printed-length (Refused n) = 0

@@ -1,0 +1,50 @@
+// The text of an input.
+ghost use mathlib.Core.Path.{_≡_};
+ghost use Rattle.entries.specs.Giving.{Own};
+ghost use Rattle.compile_text.specs.Text.{text-of};
+ghost use Rattle.compile_text.specs.Giving.{Gives};
+use crate::answers::not_read;
+use crate::answers::number_line;
+use crate::compiling::compile_text;
+use task_file::ReadAnswer;
+
+// Through tables that are lent.
+fn text_through(
+    file: &[u8],
+    initial: &mut [u8],
+    twins: &mut [u16],
+    formulas: &mut [u16],
+    effects: &mut [u16],
+    operators: &mut [u16],
+    out: &mut [u8; 164384],
+) -> usize
+    requires { ⌜ Own (now initial) (now twins) (now formulas) (now effects) (now operators) ⌝ }
+    ensures { λ r. ⌜ Gives (text-of (now (file .entry))) r (now (out .exit)) ⌝ }
+{
+    let r = task_file::read::read(file, initial, twins, formulas, effects, operators);
+    let ReadAnswer::Read(head) = r else {
+        return number_line(not_read(r), out);
+    };
+    compile_text(head, initial, twins, formulas, effects, operators, out)
+}
+
+// The text that the program prints, given this input: its length, and the text in the front of `out`, 0 behind it. An input that is cut
+// behind 43,342 bytes has the text of the whole (proofs/Cut). Reading, compiling, one pass over the compiled task, and clearing `out`.
+pub fn text_of(file: &[u8], out: &mut [u8; 164384]) -> usize
+    ensures { λ r. ⌜ Gives (text-of (now (file .entry))) r (now (out .exit)) ⌝ }
+{
+    let mut initial = [0u8; 512];
+    let mut twins = [0u16; 256];
+    let mut formulas = [0u16; 12288];
+    let mut effects = [0u16; 12288];
+    let mut operators = [0u16; 768];
+    text_through(
+        file,
+        &mut initial,
+        &mut twins,
+        &mut formulas,
+        &mut effects,
+        &mut operators,
+        out,
+    )
+}
