@@ -4,16 +4,16 @@ use native.Mathlib.Omega.{arith}
 use native.Mathlib.Numerals.{add-one}
 use mathlib.Core.Path.{_≡_, refl, sym, ap, _∙_}
 use mathlib.Core.Bool.{true, false, true≢false}
-use mathlib.Core.List.{List, [], _∷_}
-use lib.ListN.{length, getD, set, length-set}
-use lib.Seq.{getD-set-same, getD-set-other}
-use Rattle.task.specs.Bounded.{upto}
+use mathlib.Core.List.{List, []}
+use lib.ListN.{length}
 use Rattle.task.specs.Table.{Row, row-at}
 use Rattle.normal_form.specs.Builder.{St, Got, give, bind, each, start, plain}
 use Rattle.formula_builder.specs.declared.Words.{Words}
 use Rattle.formula_builder.specs.declared.Frame.{Frame}
 use Rattle.formula_builder.specs.declared.Step.{Step}
+use Rattle.formula_builder.specs.Index.{begun as first-two}
 use Rattle.formula_builder.specs.Held.{Store, store, row-of, held, size-of}
+use Rattle.formula_builder.proofs.Indexing.{length-begun, begun-rows, begun-indexed}
 use Rattle.formula_builder.proofs.Steps.{within-before}
 use Rattle.images.specs.Images.{image-at, memo-place, Images, Asks}
 use Rattle.images.proofs.Memos.{steady-image-at}
@@ -37,38 +37,28 @@ no-beginning frame table p h e q =
       over = λ _ w. omega (arith, w .rows);
     }
 
-pub beginning : (frame : Frame) (table : List ℕ) → Fresh frame table → 2 ≤ frame .rows → Begun frame (set table 3 1) begun
+pub beginning : (frame : Frame) (table : List ℕ) → Fresh frame table → 2 ≤ frame .rows → Begun frame (first-two table) begun
 beginning frame table b room =
     record { none = refl; done = λ _. started; over = λ q _. true≢false (sym q) }
   where
-    other : (j : ℕ) → (j ≡ 3 → ⊥) → getD (set table 3 1) j 0 ≡ 0
-    other j h = getD-set-other table 3 j 1 0 h ∙ b .blank j
-
-    one : getD (set table 3 1) 3 0 ≡ 1
-    one = getD-set-same table 3 1 0 (omega (arith, b .room))
-
-    stand : (originals : List ℕ) → start ≡ held (size-at begun) (store (set table 3 1) originals)
+    stand : (originals : List ℕ) → start ≡ held (size-at begun) (store (first-two table) originals)
     stand originals =
-        unfold held start upto row-at in
-        sym
-        (λ i.
-        record {
-          rows =
-              record { kind = other 0 (λ e. omega arith) i; a = other 1 (λ e. omega arith) i; b = other 2 (λ e. omega arith) i }
-              ∷ record { kind = one i; a = other 4 (λ e. omega arith) i; b = other 5 (λ e. omega arith) i }
-              ∷ [];
-          twins = [];
-        })
+        unfold held start in
+        (λ i. record { rows = sym (begun-rows table (b .room)) i; twins = [] })
 
-    started : Started frame (set table 3 1) begun
+    started : Started frame (first-two table) begun
     started =
         record {
           state = stand;
           rows =
-              record { within = room; room = omega (arith, b .room, length-set table 3 1); limit = b .limit };
+              record {
+                within = room;
+                room = omega (arith, b .room, length-begun table (b .room));
+                limit = b .limit;
+                index = begun-indexed table (b .room) (b .blank);
+              };
           two = omega arith;
           twins = refl;
-          past-rows = λ j h. other j (λ e. omega arith);
         }
 
 -- Between the parts.
@@ -99,7 +89,6 @@ module _ (frame : Frame) (formulas effects operators : List ℕ) where
                           twins = omega (arith, s .twins);
                           originals = b .twins;
                           variables = b .variables;
-                          past-rows = s .past-rows;
                           past-twins = λ j h. b .blank-originals j;
                         };
                     memo = record { known = λ p i r h e. absurd (omega (arith, e, b .blank-scratch (memo-place frame p i))) };

@@ -23,9 +23,9 @@ size-at p = record { rows = p .rows; twins = p .twins }
 abbrev pub Zeros : List ℕ → Type 0
 Zeros l = (j : ℕ) → getD l j 0 ≡ 0
 
--- A formula table that nothing stands in.
+-- A formula table that nothing stands in, with room for 4,096 rows and their index.
 pub record Fresh (frame : Frame) (table : List ℕ) : Type 0 where
-  pub room : 3 * frame .rows ≤ length table
+  pub room : 20480 ≤ length table
   pub limit : frame .rows ≤ 4096
   pub blank : Zeros table
 
@@ -35,7 +35,6 @@ pub record Started (frame : Frame) (table : List ℕ) (p : Progress) : Type 0 wh
   pub rows : RowsReady frame (p .rows) table
   pub two : 2 ≤ p .rows
   pub twins : p .twins ≡ 0
-  pub past-rows : (j : ℕ) → 3 * p .rows ≤ j → getD table j 0 ≡ 0
 
 -- It stands there, or there is no room for it; no operator is taken.
 pub record Begun (frame : Frame) (table : List ℕ) (p : Progress) : Type 0 where

@@ -2,6 +2,7 @@
 use crate::Progress;
 use formula_builder::Frame;
 use formula_builder::Size;
+use formula_builder::first_rows;
 use formula_builder::read_row;
 use operators::build_operator;
 ghost use Rattle.formula_builder.specs.Held.{store};
@@ -20,7 +21,7 @@ pub fn begin(frame: Frame, table: &mut [u16]) -> Progress
             full: true,
         };
     }
-    table[3] = 1;
+    first_rows(table);
     Progress {
         rows: 2,
         twins: 0,
@@ -30,7 +31,7 @@ pub fn begin(frame: Frame, table: &mut [u16]) -> Progress
 }
 
 // The next operator: its precondition, then what it does to each variable that it touches; without room all stays as it is. Costs what
-// build_operator does: a walk over the effect for each variable touched, and a scan of the table for each row.
+// build_operator does: a walk over the effect for each variable touched, and the index finds each row.
 pub fn take_operator(
     formulas: &[u16],
     effects: &[u16],

@@ -149,11 +149,11 @@ module _ (l : Lent) (x : Tables) where
                 one-effect = f .most 1 (omega arith) (omega arith);
                 operators-space = o;
                 blank-initial = p .blank .initial;
+                blank-formulas = p .blank .formulas;
                 blank-effects = p .blank .effects;
                 blank-operators = p .blank .operators;
               };
           blank-twins = p .blank .twins;
-          blank-formulas = p .blank .formulas;
           blank-scratch = p .blank .scratch;
         }
 

@@ -1,5 +1,5 @@
 -- The last part: each way out. Assumes nothing.
-use Prim.Native.Nat.{ℕ, _+_, _≤_}
+use Prim.Native.Nat.{ℕ, _+_, _*_, _≤_}
 use native.Mathlib.Omega.{arith}
 use mathlib.Core.Path.{_≡_, refl, sym, ap, ap₂, _∙_}
 use mathlib.Core.Bool.{true, false, true≢false}
@@ -7,7 +7,7 @@ use mathlib.Core.List.{List, _++_}
 use lib.ListN.{length, getD, take, drop}
 use lib.Seq.{length-take-le, getD-take}
 use Rattle.task.specs.Bounded.{upto}
-use Rattle.task.specs.Table.{Lent, Task, task-of, row-at}
+use Rattle.task.specs.Table.{Row, Lent, Task, task-of, row-at}
 use Rattle.task.specs.Words.{words-of, operator-words, head-of}
 use Rattle.task.proofs.Bounded.{length-upto}
 use Rattle.task.proofs.Held.{length-operators, initial-held}
@@ -17,7 +17,7 @@ use Rattle.normal_form.specs.Compiled.{Fits, padded}
 use Rattle.normal_form.proofs.Growth.{grows-refl}
 use Rattle.normal_form.proofs.Over.{Allows, building-within}
 use Rattle.normal_form.proofs.Compiled.{fits-if}
-use Rattle.normal_form.proofs.Padded.{padded-over, padded-front, padded-rows}
+use Rattle.normal_form.proofs.Padded.{padded-over, padded-front}
 use Rattle.normal_form.proofs.ShapePassed.{finished-variables, finished-rules}
 use Rattle.normal_form.proofs.ShapeFinished.{finished-operators}
 use Rattle.formula_builder.specs.declared.Frame.{Frame}
@@ -32,6 +32,7 @@ use Rattle.rule_writer.specs.Writes.{InitialReady}
 use Rattle.assembling.specs.Assembles.{Holding, Assembles, Assembling, AssembledAll}
 use Rattle.filling.specs.declared.Passes.{Passes}
 use Rattle.filling.specs.Fills.{Tables, room-of, frame-of, Lends, Ends, Fills}
+use Rattle.filling.proofs.Copied.{copied-rows}
 use Rattle.filling.proofs.Linked.{long, source, its-variables, state-built, goal-built, goal-below, operator-known, assembled-is}
 
 module _ (l : Lent) (rows twins effects : ℕ) (x : Tables) (b : Lends l rows twins effects x) where
@@ -166,16 +167,23 @@ module _ (l : Lent) (rows twins effects : ℕ) (x : Tables) (b : Lends l rows tw
                 bits = λ i k. omega (arith, initial-held l i k, source l rows twins (b .passes) .initial-bits i (omega (arith, v)));
               }
 
+          -- what copying the rows asks
+          pub rows-there : 3 * r .rows ≤ length (after .table)
+          rows-there = omega (arith, rows-small, ready .rows .room)
+
+          pub rows-fit : 3 * r .rows ≤ length (x .formulas)
+          rows-fit = omega (arith, ready .rows .within, b .rows-space)
+
           pub filled :
-              {values s4 : List ℕ} {z : Passes}
-              → length (after .table) ≡ length (x .formulas)
+              {values table s4 : List ℕ} {z : Passes}
+              → table ≡ take (3 * r .rows) (after .table) ++ drop (3 * r .rows) (x .formulas)
               → length (after .originals) ≡ length (x .twins)
               → length out ≡ length (x .effects)
               → length outs ≡ length (x .operators)
               → values ≡ (take (l .head .variables) (l .initial) ++ twin-values (take (l .head .variables) (l .initial)) (take (r .twins) (after .originals))) ++ drop (l .head .variables + r .twins) (x .initial)
               → z ≡ record { rows = r .rows; twins = r .twins; effects = c .rows; goal = r .row; full = false }
-              → Fills l x (record { initial = values; twins = after .originals; formulas = after .table; effects = out; operators = outs; scratch = s4 }) z
-          filled {values} {s4} long-table long-originals long-out long-outs initial e = rw e it-is
+              → Fills l x (record { initial = values; twins = after .originals; formulas = table; effects = out; operators = outs; scratch = s4 }) z
+          filled {values} {table} {s4} copied long-originals long-out long-outs initial e = rw e it-is
             where
               p : Passes
               p = record { rows = r .rows; twins = r .twins; effects = c .rows; goal = r .row; full = false }
@@ -224,7 +232,7 @@ module _ (l : Lent) (rows twins effects : ℕ) (x : Tables) (b : Lends l rows tw
                   words-long : length words ≡ l .head .variables + r .twins
                   words-long = ap length words-are ∙ finished-variables t ∙ ap₂ (λ (m n : ℕ). m + n) v twins-many
 
-              it-is : Fills l x (record { initial = values; twins = after .originals; formulas = after .table; effects = out; operators = outs; scratch = s4 }) (record { rows = r .rows; twins = r .twins; effects = c .rows; goal = r .row; full = false })
+              it-is : Fills l x (record { initial = values; twins = after .originals; formulas = table; effects = out; operators = outs; scratch = s4 }) (record { rows = r .rows; twins = r .twins; effects = c .rows; goal = r .row; full = false })
               it-is =
                   record {
                     done = λ _.
@@ -236,8 +244,9 @@ module _ (l : Lent) (rows twins effects : ℕ) (x : Tables) (b : Lends l rows tw
                               padded-front (after .originals) (r .twins) (omega (arith, ready .twins, ready .originals)) (ready .past-twins)
                               ∙ ap₂ padded long-originals twins-are;
                           formulas =
-                              padded-rows (after .table) (r .rows) (omega (arith, ready .rows .within, ready .rows .room)) (ready .past-rows)
-                              ∙ ap₂ (λ (m : ℕ) (k : List _). padded m (words-of k)) long-table rows-are;
+                              copied
+                              ∙ copied-rows (after .table) (x .formulas) (r .rows) rows-there rows-fit (b .blank-formulas)
+                              ∙ ap (λ (k : List Row). padded (length (x .formulas)) (words-of k)) rows-are;
                           effects = unfold finished in (h .effect-words ∙ ap (λ (m : ℕ). padded m (words-of (assembled (task-of l) .effects))) long-out);
                           operators = unfold finished in (h .held-operators ∙ ap (λ (m : ℕ). padded m (operator-words (assembled (task-of l) .operators))) long-outs);
                         };
@@ -245,26 +254,26 @@ module _ (l : Lent) (rows twins effects : ℕ) (x : Tables) (b : Lends l rows tw
                   }
 
 -- Up to the goal.
-module _ (l : Lent) (rows twins effects : ℕ) (x : Tables) (p : Progress) (e : Ends l rows twins effects x p) where
+module _ (l : Lent) (rows twins effects : ℕ) (x : Tables) (built : List ℕ) (p : Progress) (e : Ends l rows twins effects x built p) where
   abbrev no-step : Step
   no-step = record { rows = 0; twins = 0; row = 0; full = true }
 
   pub taken-full : {y : Tables} {z : Passes} → p .full ≡ true → z .full ≡ true → Fills l x y z
   taken-full q f =
-      building-full l rows twins effects x (e .lends) {after = store (x .formulas) (x .twins)} {s2 = x .scratch} {r = no-step}
+      building-full l rows twins effects x (e .lends) {after = store built (x .twins)} {s2 = x .scratch} {r = no-step}
       (operators-full (frame-of (l .head) rows twins) (l .formulas) (l .effects) (l .operators) (l .head .operators) (l .head .goal) (e .all)
       (e .taken) q refl)
       refl f
 
   module _ (q : p .full ≡ false) where
-    pub goal-ready : Asks (frame-of (l .head) rows twins) (l .formulas) (size-at p) (store (x .formulas) (x .twins)) (x .scratch) (l .head .goal)
+    pub goal-ready : Asks (frame-of (l .head) rows twins) (l .formulas) (size-at p) (store built (x .twins)) (x .scratch) (l .head .goal)
     goal-ready =
         goal-asks (frame-of (l .head) rows twins) (l .formulas) (l .effects) (l .operators) (l .head .operators) (l .head .goal) (e .all) (e .taken) q
         (goal-below l rows twins (e .lends .passes))
 
     pub goal-stands :
         {after : Store} {s2 : List ℕ} {z : Step}
-        → Images (image-at (frame-of (l .head) rows twins) (l .formulas) plain (l .head .goal)) (frame-of (l .head) rows twins) (l .formulas) (size-at p) (store (x .formulas) (x .twins)) after (x .scratch) s2 z
+        → Images (image-at (frame-of (l .head) rows twins) (l .formulas) plain (l .head .goal)) (frame-of (l .head) rows twins) (l .formulas) (size-at p) (store built (x .twins)) after (x .scratch) s2 z
         → length s2 ≡ length (x .scratch)
         → FromStart (whole-built (frame-of (l .head) rows twins) (l .formulas) (l .effects) (l .operators) (l .head .operators) (l .head .goal)) (frame-of (l .head) rows twins) (l .formulas) (l .effects) after s2 z
     goal-stands y long =

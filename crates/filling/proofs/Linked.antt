@@ -3,7 +3,7 @@ use Prim.Native.Nat.{ℕ, zero, suc, _+_, _<_}
 use native.Mathlib.Omega.{arith}
 use mathlib.Core.Path.{_≡_, refl, sym, ap, ap₂, _∙_}
 use mathlib.Core.List.{List, [], _∷_, _++_}
-use lib.ListN.{length, getD, replicate}
+use lib.ListN.{length, getD, replicate, length-replicate}
 use Rattle.task.specs.Bounded.{upto}
 use Rattle.task.specs.Table.{Operator, Lent, Task, task-of, row-at, operator-at}
 use Rattle.task.specs.Check.{refusal}
@@ -31,7 +31,7 @@ use Rattle.building.proofs.Begun.{taken-none}
 use Rattle.building.proofs.Parts.{same-state, same-value}
 use Rattle.assembling.specs.Assembles.{changes-at, changes-below, built-again, all-again, assembled-again, Knows}
 use Rattle.filling.specs.declared.Passes.{Passes}
-use Rattle.filling.specs.Fills.{Tables, room-of, frame-of, Begins, Ends, Fills}
+use Rattle.filling.specs.Fills.{Tables, room-of, frame-of, Begins, Starts, Ends, Fills}
 
 zero-at : (n j : ℕ) → _≡_ {A = ℕ} (getD (replicate n 0) j 0) 0
 zero-at zero j = refl
@@ -161,12 +161,17 @@ module _ (l : Lent) (rows twins : ℕ) (passes : refusal l ≡ 0) where
 
   -- What the parts ask.
   module _ (effects : ℕ) (x : Tables) (b : Begins l rows twins effects x) where
-    pub fresh-is : Fresh (frame-of (l .head) rows twins) (x .formulas)
-    fresh-is =
+    -- with a table of 0 in which rows are built
+    pub starts : Starts l rows twins effects x (replicate 20480 0)
+    starts =
         record {
-          room = b .lends .rows-space;
-          limit = b .lends .rows-limit;
-          blank = zeros (x .formulas) (b .blank-formulas);
+          begins = b;
+          fresh =
+              record {
+                room = omega (arith, length-replicate {A = ℕ} 20480 0);
+                limit = b .lends .rows-limit;
+                blank = zero-at 20480;
+              };
         }
 
     blank-is : Blank (frame-of (l .head) rows twins) (l .formulas) (l .effects) (x .twins) (x .scratch)
@@ -214,15 +219,14 @@ module _ (l : Lent) (rows twins : ℕ) (passes : refusal l ≡ 0) where
 
   -- what the last part asks, behind so many operators
   pub last-asks :
-      {effects : ℕ} {x : Tables} {table originals scratch : List ℕ} {p : Progress}
+      {effects : ℕ} {x : Tables} {built originals scratch : List ℕ} {p : Progress}
       → Begins l rows twins effects x
-      → length table ≡ length (x .formulas)
       → length originals ≡ length (x .twins)
       → length scratch ≡ length (x .scratch)
       → p .operators ≡ l .head .operators
-      → Taken (frame-of (l .head) rows twins) (l .formulas) (l .effects) (l .operators) (store table originals) scratch p
-      → Ends l rows twins effects (record { initial = x .initial; twins = originals; formulas = table; effects = x .effects; operators = x .operators; scratch = scratch }) p
-  last-asks {effects} {x} {table} {originals} {scratch} b f w s all k =
+      → Taken (frame-of (l .head) rows twins) (l .formulas) (l .effects) (l .operators) (store built originals) scratch p
+      → Ends l rows twins effects (record { initial = x .initial; twins = originals; formulas = x .formulas; effects = x .effects; operators = x .operators; scratch = scratch }) built p
+  last-asks {effects} {x} {built} {originals} {scratch} b w s all k =
       record {
         lends =
             record {
@@ -231,11 +235,11 @@ module _ (l : Lent) (rows twins : ℕ) (passes : refusal l ≡ 0) where
               memo = omega (arith, b .lends .memo, s);
               allows =
                   record {
-                    rows-allowed = λ n p q. b .lends .allows .rows-allowed n p (omega (arith, f));
+                    rows-allowed = b .lends .allows .rows-allowed;
                     twins-allowed = λ n p q r. b .lends .allows .twins-allowed n p q (omega (arith, w));
                     effects-allowed = b .lends .allows .effects-allowed;
                   };
-              rows-space = omega (arith, b .lends .rows-space, f);
+              rows-space = b .lends .rows-space;
               rows-limit = b .lends .rows-limit;
               twins-space = omega (arith, b .lends .twins-space, w);
               variables-limit = b .lends .variables-limit;
@@ -245,6 +249,7 @@ module _ (l : Lent) (rows twins : ℕ) (passes : refusal l ≡ 0) where
               one-effect = b .lends .one-effect;
               operators-space = b .lends .operators-space;
               blank-initial = b .lends .blank-initial;
+              blank-formulas = b .lends .blank-formulas;
               blank-effects = b .lends .blank-effects;
               blank-operators = b .lends .blank-operators;
             };
@@ -254,13 +259,12 @@ module _ (l : Lent) (rows twins : ℕ) (passes : refusal l ≡ 0) where
 
 -- tables as long are filled alike
 pub fills-as :
-    {l : Lent} {x y : Tables} {r : Passes} {table originals scratch : List ℕ}
-    → length table ≡ length (x .formulas)
+    {l : Lent} {x y : Tables} {r : Passes} {originals scratch : List ℕ}
     → length originals ≡ length (x .twins)
     → length scratch ≡ length (x .scratch)
-    → Fills l (record { initial = x .initial; twins = originals; formulas = table; effects = x .effects; operators = x .operators; scratch = scratch }) y r
+    → Fills l (record { initial = x .initial; twins = originals; formulas = x .formulas; effects = x .effects; operators = x .operators; scratch = scratch }) y r
     → Fills l x y r
-fills-as {l} {x} {y} {r} {table} {originals} {scratch} f w s k =
+fills-as {l} {x} {y} {r} {originals} {scratch} w s k =
     record {
       done = λ q.
           let h = k .done q in
@@ -269,7 +273,7 @@ fills-as {l} {x} {y} {r} {table} {originals} {scratch} f w s k =
             head = h .head;
             initial = h .initial;
             twins = h .twins ∙ ap (λ (n : ℕ). padded n (finished (task-of l) .originals)) w;
-            formulas = h .formulas ∙ ap (λ (n : ℕ). padded n (words-of (finished (task-of l) .formulas))) f;
+            formulas = h .formulas;
             effects = h .effects;
             operators = h .operators;
           };
@@ -277,13 +281,13 @@ fills-as {l} {x} {y} {r} {table} {originals} {scratch} f w s k =
     }
   where
     same :
-        room-of (record { initial = x .initial; twins = originals; formulas = table; effects = x .effects; operators = x .operators; scratch = scratch })
+        room-of (record { initial = x .initial; twins = originals; formulas = x .formulas; effects = x .effects; operators = x .operators; scratch = scratch })
         ≡ room-of x
     same = λ i.
         record {
           initial = length (x .initial);
           twins = w i;
-          formulas = f i;
+          formulas = length (x .formulas);
           effects = length (x .effects);
           operators = length (x .operators);
           scratch = s i;

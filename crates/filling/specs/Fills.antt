@@ -14,7 +14,7 @@ use Rattle.normal_form.proofs.Over.{Allows}
 use Rattle.formula_builder.specs.declared.Frame.{Frame}
 use Rattle.formula_builder.specs.Held.{store}
 use Rattle.building.specs.declared.Progress.{Progress}
-use Rattle.building.specs.Taken.{Taken}
+use Rattle.building.specs.Taken.{Fresh, Taken}
 use Rattle.filling.specs.declared.Passes.{Passes}
 
 -- the six lent tables
@@ -46,7 +46,7 @@ frame-of h rows twins =
     record { variables = h .variables; formulas = h .formulas; effects = h .effects; rows = rows; twins = twins }
 
 -- A source that passes; rows, twins and effect rows are as many as the limits and the tables allow. The tables that only the last part
--- writes are all 0.
+-- writes are all 0, the formulas too: rows are built elsewhere, with their index, and copied at the end.
 pub record Lends (l : Lent) (rows twins effects : ℕ) (x : Tables) : Type 0 where
   pub passes : refusal l ≡ 0
   pub untwinned : l .head .twins ≡ 0
@@ -62,6 +62,7 @@ pub record Lends (l : Lent) (rows twins effects : ℕ) (x : Tables) : Type 0 whe
   pub one-effect : 1 ≤ effects
   pub operators-space : 3 * l .head .operators ≤ length (x .operators)
   pub blank-initial : x .initial ≡ replicate (length (x .initial)) 0
+  pub blank-formulas : x .formulas ≡ replicate (length (x .formulas)) 0
   pub blank-effects : x .effects ≡ replicate (length (x .effects)) 0
   pub blank-operators : x .operators ≡ replicate (length (x .operators)) 0
 
@@ -69,14 +70,18 @@ pub record Lends (l : Lent) (rows twins effects : ℕ) (x : Tables) : Type 0 whe
 pub record Begins (l : Lent) (rows twins effects : ℕ) (x : Tables) : Type 0 where
   pub lends : Lends l rows twins effects x
   pub blank-twins : x .twins ≡ replicate (length (x .twins)) 0
-  pub blank-formulas : x .formulas ≡ replicate (length (x .formulas)) 0
   pub blank-scratch : x .scratch ≡ replicate (length (x .scratch)) 0
 
+-- All tables are 0, and the one in which rows are built.
+pub record Starts (l : Lent) (rows twins effects : ℕ) (x : Tables) (built : List ℕ) : Type 0 where
+  pub begins : Begins l rows twins effects x
+  pub fresh : Fresh (frame-of (l .head) rows twins) built
+
 -- All operators are taken.
-pub record Ends (l : Lent) (rows twins effects : ℕ) (x : Tables) (p : Progress) : Type 0 where
+pub record Ends (l : Lent) (rows twins effects : ℕ) (x : Tables) (built : List ℕ) (p : Progress) : Type 0 where
   pub lends : Lends l rows twins effects x
   pub all : p .operators ≡ l .head .operators
-  pub taken : Taken (frame-of (l .head) rows twins) (l .formulas) (l .effects) (l .operators) (store (x .formulas) (x .twins)) (x .scratch) p
+  pub taken : Taken (frame-of (l .head) rows twins) (l .formulas) (l .effects) (l .operators) (store built (x .twins)) (x .scratch) p
 
 -- the head of the compiled task: operators keep their number
 abbrev pub head-after : Head → Passes → Head

@@ -1,5 +1,6 @@
 // The last part: the goal, the rules, the initial values.
 use crate::Passes;
+use crate::copy::copy_words;
 use assembling::assemble_operators;
 use building::Progress;
 use formula_builder::Frame;
@@ -25,8 +26,8 @@ fn full() -> Passes
     }
 }
 
-// All operators are taken: builds the goal, then writes the rules, the operators and the initial values. Stops at the first row without
-// room. A second walk over every operator, as costly as the first at most, since every row is found.
+// All operators are taken: builds the goal, then writes the rules, the operators and the initial values, and copies the rows that were
+// built. Stops at the first row without room. A second walk over every operator, as costly as the first at most, since every row is found.
 pub fn finish(
     head: Head,
     initial: &[u8],
@@ -44,8 +45,9 @@ pub fn finish(
     out: &mut [u16],
     written: &mut [u16],
     scratch: &mut [u16],
+    built: &mut [u16],
 ) -> Passes
-    requires { ⌜ Ends (lent head (now initial) (now twins) (now formulas) (now effects) (now operators)) rows most room (tables (now values) (now originals) (now table) (now out) (now written) (now scratch)) at ⌝ }
+    requires { ⌜ Ends (lent head (now initial) (now twins) (now formulas) (now effects) (now operators)) rows most room (tables (now values) (now originals) (now table) (now out) (now written) (now scratch)) (now built) at ⌝ }
     ensures { λ r. ⌜ Fills (lent head (now (initial .entry)) (now (twins .entry)) (now (formulas .entry)) (now (effects .entry)) (now (operators .entry))) (tables (now (values .entry)) (now (originals .entry)) (now (table .entry)) (now (out .entry)) (now (written .entry)) (now (scratch .entry))) (tables (now (values .exit)) (now (originals .exit)) (now (table .exit)) (now (out .exit)) (now (written .exit)) (now (scratch .exit))) r ⌝ }
 {
     if at.full {
@@ -66,7 +68,7 @@ pub fn finish(
             rows: at.rows,
             twins: at.twins,
         },
-        table,
+        built,
         originals,
         scratch,
     );
@@ -84,7 +86,7 @@ pub fn finish(
             twins: g.twins,
         },
         room,
-        table,
+        built,
         originals,
         scratch,
         out,
@@ -94,6 +96,7 @@ pub fn finish(
         return full();
     }
     write_initial(initial, originals, values, head.variables as usize, g.twins);
+    copy_words(built, table, 3 * g.rows);
     Passes {
         rows: g.rows as u16,
         twins: g.twins as u16,

@@ -1,11 +1,13 @@
 // Filling the lent tables with the finished task: begin, one operator after another, finish.
+mod copy;
 mod heads;
 mod last;
+mod own;
 mod whole;
 
 pub use heads::compiled_head;
 pub use last::finish;
-pub use whole::fill;
+pub use own::fill;
 
 // The numbers of rows, twins and effect rows of the finished task and its goal; or that it does not fit.
 pub struct Passes {

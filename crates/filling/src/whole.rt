@@ -6,11 +6,11 @@ use building::take_operator;
 use formula_builder::Frame;
 use task::Head;
 ghost use Rattle.task.specs.Table.{lent};
-ghost use Rattle.filling.specs.Fills.{tables, Begins, Fills};
+ghost use Rattle.filling.specs.Fills.{tables, Starts, Fills};
 
-// Begins, takes the operators in order, finishes. The tables have room for so many rows, twins and effect rows. Costs what its parts do,
-// twice a walk over every operator.
-pub fn fill(
+// Begins, takes the operators in order, finishes. The tables have room for so many rows, twins and effect rows; rows are built in a table
+// of their own, which has their index. Costs what its parts do, twice a walk over every operator.
+pub fn fill_built(
     head: Head,
     initial: &[u8],
     twins: &[u16],
@@ -26,8 +26,9 @@ pub fn fill(
     out: &mut [u16],
     written: &mut [u16],
     scratch: &mut [u16],
+    built: &mut [u16],
 ) -> Passes
-    requires { ⌜ Begins (lent head (now initial) (now twins) (now formulas) (now effects) (now operators)) rows most room (tables (now values) (now originals) (now table) (now out) (now written) (now scratch)) ⌝ }
+    requires { ⌜ Starts (lent head (now initial) (now twins) (now formulas) (now effects) (now operators)) rows most room (tables (now values) (now originals) (now table) (now out) (now written) (now scratch)) (now built) ⌝ }
     ensures { λ r. ⌜ Fills (lent head (now (initial .entry)) (now (twins .entry)) (now (formulas .entry)) (now (effects .entry)) (now (operators .entry))) (tables (now (values .entry)) (now (originals .entry)) (now (table .entry)) (now (out .entry)) (now (written .entry)) (now (scratch .entry))) (tables (now (values .exit)) (now (originals .exit)) (now (table .exit)) (now (out .exit)) (now (written .exit)) (now (scratch .exit))) r ⌝ }
 {
     let frame = Frame {
@@ -38,7 +39,7 @@ pub fn fill(
         twins: most,
     };
     let count = head.operators as usize;
-    let mut at = begin(frame, table);
+    let mut at = begin(frame, built);
     while at.operators < count {
         at = take_operator(
             formulas,
@@ -46,7 +47,7 @@ pub fn fill(
             operators,
             frame,
             at,
-            table,
+            built,
             originals,
             scratch,
         );
@@ -68,5 +69,6 @@ pub fn fill(
         out,
         written,
         scratch,
+        built,
     )
 }

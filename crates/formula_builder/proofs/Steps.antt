@@ -18,9 +18,11 @@ use borrow.Author.Tests.{eq-eqb, ne-eqb}
 use Rattle.formula_builder.specs.declared.Frame.{Frame}
 use Rattle.formula_builder.specs.declared.Size.{Size}
 use Rattle.formula_builder.specs.declared.Step.{Step}
-use Rattle.formula_builder.specs.Held.{three, Store, store, held, size-of, done-step, RowsReady, Ready, Within, Done, Builds}
-use Rattle.formula_builder.proofs.Found.{place-bound, kept-found, kept-none}
-use Rattle.formula_builder.proofs.Stored.{length-three, three-rows, three-past, one-more, one-past}
+use Rattle.formula_builder.specs.Index.{appended}
+use Rattle.formula_builder.specs.Held.{Store, store, held, size-of, done-step, RowsReady, Ready, Within, Done, Builds}
+use Rattle.formula_builder.proofs.Found.{place-bound, row-missing, kept-found, kept-none}
+use Rattle.formula_builder.proofs.Stored.{one-more, one-past}
+use Rattle.formula_builder.proofs.Indexing.{length-appended, appended-rows, appended-indexed}
 
 abbrev pub full-step : Size → Step
 full-step at = record { rows = at .rows; twins = at .twins; row = 0; full = true }
@@ -148,15 +150,15 @@ module _ (frame : Frame) (at : Size) (table o : List ℕ) (ready : Ready frame a
   pub row-appended :
       at .rows ≤ i
       → (at .rows ≡ frame .rows → ⊥)
-      → Builds (row r) frame at (store table o) (store (three table (at .rows) r) o)
+      → Builds (row r) frame at (store table o) (store (appended table (at .rows) r) o)
       (record { rows = at .rows + 1; twins = at .twins; row = at .rows; full = false })
   unfolding row held
   row-appended h room =
       let l = upto (at .rows) (row-at table) in
       let rows-ready = ready .rows in
-      let fits : 3 * at .rows + 3 ≤ length table = omega arith in
-      let whole : kept same-row r l ≡ upto (at .rows + 1) (row-at (three table (at .rows) r)) =
-      added h ∙ sym (three-rows table (at .rows) r fits) in
+      let few : at .rows < 4096 = omega arith in
+      let whole : kept same-row r l ≡ upto (at .rows + 1) (row-at (appended table (at .rows) r)) =
+      added h ∙ sym (appended-rows table (at .rows) r few (rows-ready .room)) in
       let bound = place-bound same-row r l in
       builds-done refl
       (record {
@@ -167,14 +169,16 @@ module _ (frame : Frame) (at : Size) (table o : List ℕ) (ready : Ready frame a
               rows =
                   record {
                     within = omega arith;
-                    room = omega (arith, length-three table (at .rows) r);
+                    room = omega (arith, length-appended table (at .rows) r few (rows-ready .room));
                     limit = omega arith;
+                    index =
+                        appended-indexed table (at .rows) r few (rows-ready .room) (rows-ready .index)
+                        (row-missing r (at .rows) (row-at table) (omega arith));
                   };
               two = omega (arith, ready .two);
               twins = ready .twins;
               originals = ready .originals;
               variables = ready .variables;
-              past-rows = three-past table (at .rows) r (ready .past-rows);
               past-twins = ready .past-twins;
             };
         below = omega arith;
@@ -231,7 +235,6 @@ module _ (frame : Frame) (at : Size) (table o : List ℕ) (ready : Ready frame a
         twins = omega arith;
         originals = omega (arith, length-set o (at .twins) v, ready .originals);
         variables = ready .variables;
-        past-rows = ready .past-rows;
         past-twins = one-past o (at .twins) v (ready .past-twins);
       }
 

@@ -8,7 +8,7 @@ use lib.ListN.{length, getD, take, set, length-set}
 use lib.Seq.{getD-set-same, getD-set-other, take-suc-set}
 use Rattle.task.specs.Bounded.{upto}
 use Rattle.task.specs.Table.{Row, row-at}
-use Rattle.formula_builder.specs.Held.{three}
+use Rattle.formula_builder.specs.Index.{three}
 
 pub upto-same : {A : Type 0} (n : ℕ) (f g : ℕ → A) → ((k : ℕ) → k < n → f k ≡ g k) → upto n f ≡ upto n g
 unfolding upto
@@ -60,15 +60,6 @@ module _ (t : List ℕ) (n : ℕ) (r : Row) where
         getD-set-same two (3 * n + 2) (r .b) 0
         (omega (arith, length-set one (3 * n + 1) (r .a), length-set t (3 * n) (r .kind))) in
         λ i. record { kind = kind i; a = a i; b = b i }
-
-    pub three-rows : upto (n + 1) (row-at (three t n r)) ≡ upto n (row-at t) ++ (r ∷ [])
-    three-rows =
-        upto-more n (row-at (three t n r))
-        ∙ ap₂ (λ (l : List Row) (x : Row). l ++ (x ∷ [])) (upto-same n (row-at (three t n r)) (row-at t) three-before) three-at
-
-  pub three-past :
-      ((j : ℕ) → 3 * n ≤ j → getD t j 0 ≡ 0) → (j : ℕ) → 3 * (n + 1) ≤ j → getD (three t n r) j 0 ≡ 0
-  three-past zeros j h = three-other j (omega arith) (omega arith) (omega arith) ∙ zeros j (omega arith)
 
 -- a word stored behind w words
 module _ (o : List ℕ) (w v : ℕ) where

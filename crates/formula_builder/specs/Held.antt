@@ -3,10 +3,11 @@ use Prim.Native.Nat.{ℕ, _+_, _*_, _≤_, _<_}
 use mathlib.Core.Path.{_≡_}
 use mathlib.Core.Bool.{Bool, true, false}
 use mathlib.Core.List.{List}
-use lib.ListN.{length, getD, take, set}
+use lib.ListN.{length, getD, take}
 use Rattle.task.specs.Bounded.{upto}
 use Rattle.task.specs.Table.{Row, row-at}
 use Rattle.normal_form.specs.Builder.{St, Build, Polarity, plain, negated}
+use Rattle.formula_builder.specs.Index.{Indexed}
 use Rattle.formula_builder.specs.declared.Words.{Words}
 use Rattle.formula_builder.specs.declared.Frame.{Frame}
 use Rattle.formula_builder.specs.declared.Size.{Size}
@@ -19,10 +20,6 @@ row-of w = record { kind = w .kind; a = w .a; b = w .b }
 abbrev pub side : Bool → Polarity
 side false = plain
 side true = negated
-
--- row r stored behind n rows
-abbrev pub three : List ℕ → ℕ → Row → List ℕ
-three t n r = set (set (set t (3 * n) (r .kind)) (3 * n + 1) (r .a)) (3 * n + 2) (r .b)
 
 -- The two tables that building writes: formula words, and originals of twins.
 pub record Store : Type 0 where
@@ -43,11 +40,12 @@ size-of r = record { rows = r .rows; twins = r .twins }
 abbrev pub done-step : Size → ℕ → Step
 done-step at x = record { rows = at .rows; twins = at .twins; row = x; full = false }
 
--- The table has room for the rows of the frame, and what stands is within it.
+-- The table has room for 4,096 rows and their index, what stands is within the frame, and the index finds it.
 pub record RowsReady (frame : Frame) (stand : ℕ) (table : List ℕ) : Type 0 where
   pub within : stand ≤ frame .rows
-  pub room : 3 * frame .rows ≤ length table
+  pub room : 20480 ≤ length table
   pub limit : frame .rows ≤ 4096
+  pub index : Indexed stand table
 
 pub record JoinReady (frame : Frame) (at : Size) (table : List ℕ) (a b : ℕ) : Type 0 where
   pub rows : RowsReady frame (at .rows) table
@@ -55,14 +53,13 @@ pub record JoinReady (frame : Frame) (at : Size) (table : List ℕ) (a b : ℕ) 
   pub left : a < at .rows
   pub right : b < at .rows
 
--- Both tables are ready: false and true stand, and behind what stands all words are 0.
+-- Both tables are ready: false and true stand, and behind the twins all words are 0.
 pub record Ready (frame : Frame) (at : Size) (s : Store) : Type 0 where
   pub rows : RowsReady frame (at .rows) (s .table)
   pub two : 2 ≤ at .rows
   pub twins : at .twins ≤ frame .twins
   pub originals : frame .twins ≤ length (s .originals)
   pub variables : frame .variables + frame .twins ≤ 512
-  pub past-rows : (j : ℕ) → 3 * at .rows ≤ j → getD (s .table) j 0 ≡ 0
   pub past-twins : (j : ℕ) → at .twins ≤ j → getD (s .originals) j 0 ≡ 0
 
 -- A state within the frame.

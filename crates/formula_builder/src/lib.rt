@@ -1,4 +1,5 @@
 // Building the formula table of a compiled task: a row or a twin is found in the tables that are lent, or appended.
+mod index;
 mod joins;
 mod rows;
 mod twins;
@@ -7,6 +8,7 @@ pub use joins::falsity;
 pub use joins::join;
 pub use joins::standing;
 pub use joins::truth;
+pub use rows::first_rows;
 pub use rows::read_row;
 pub use rows::row;
 pub use twins::find_twin;

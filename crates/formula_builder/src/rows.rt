@@ -3,6 +3,8 @@ use crate::Frame;
 use crate::Size;
 use crate::Step;
 use crate::Words;
+use crate::index::chain;
+use crate::index::put_first;
 ghost use mathlib.Core.Path.{_≡_};
 ghost use mathlib.Core.List.{List};
 ghost use Prim.Native.Nat.{ℕ, _+_, _*_, _≤_, _<_};
@@ -10,7 +12,8 @@ ghost use lib.ListN.{length, set};
 ghost use Rattle.task.specs.Bounded.{upto};
 ghost use Rattle.task.specs.Table.{row-at};
 ghost use Rattle.normal_form.specs.Builder.{place, same-row, row as row-built, variable-row};
-ghost use Rattle.formula_builder.specs.Held.{row-of, three, store, RowsReady, Ready, Builds};
+ghost use Rattle.formula_builder.specs.Index.{Searchable, three, appended, begun};
+ghost use Rattle.formula_builder.specs.Held.{row-of, store, RowsReady, Ready, Builds};
 
 // Row i of a table.
 pub fn read_row(table: &[u16], i: usize) -> Words
@@ -40,23 +43,26 @@ fn same(table: &[u16], i: usize, r: Words) -> bool
     t.b == r.b
 }
 
-// Where the first of n rows with these words stands; n if there is none. n steps.
+// Where the row with these words stands among n rows, no two of which are the same; n if it is not there. Compares the rows of one chain,
+// 1 or 2 as a rule and n at the worst.
 fn find_row(table: &[u16], n: usize, r: Words) -> usize
-    requires { ⌜ 3 * n ≤ length (now table) ⌝ }
+    requires { ⌜ Searchable n (now table) ⌝ }
     ensures { λ i. ⌜ i ≡ place same-row (row-of r) (upto n (row-at (now (table .entry)))) ⌝ }
 {
-    let mut i = 0;
-    while i < n {
+    let h = chain(r);
+    let mut s = table[16384 + h] as usize;
+    while s > 0 {
+        let i = s - 1;
         if same(table, i, r) {
             return i;
         }
-        i += 1;
+        s = table[12288 + i] as usize;
     }
     n
 }
 
 // Stores a row behind n rows.
-fn append_row(table: &mut [u16], n: usize, r: Words)
+fn store_row(table: &mut [u16], n: usize, r: Words)
     requires { ⌜ 3 * n + 3 ≤ length (now table) ⌝ }
     ensures { λ _. ⌜ now (table .exit) ≡ three (now (table .entry)) n (row-of r) ⌝ }
 {
@@ -66,7 +72,42 @@ fn append_row(table: &mut [u16], n: usize, r: Words)
     table[k + 2] = r.b;
 }
 
-// The row with these words: the one that stands, or appended.
+// Stores a row behind n rows, and in the index. Constant time.
+fn append_row(table: &mut [u16], n: usize, r: Words)
+    requires { ⌜ (n < 4096) × (20480 ≤ length (now table)) ⌝ }
+    ensures { λ _. ⌜ now (table .exit) ≡ appended (now (table .entry)) n (row-of r) ⌝ }
+{
+    store_row(table, n, r);
+    let h = chain(r);
+    put_first(table, n, h);
+}
+
+// False and true, the first two rows.
+pub fn first_rows(table: &mut [u16])
+    requires { ⌜ 20480 ≤ length (now table) ⌝ }
+    ensures { λ _. ⌜ now (table .exit) ≡ begun (now (table .entry)) ⌝ }
+{
+    append_row(
+        table,
+        0,
+        Words {
+            kind: 0,
+            a: 0,
+            b: 0,
+        },
+    );
+    append_row(
+        table,
+        1,
+        Words {
+            kind: 1,
+            a: 0,
+            b: 0,
+        },
+    );
+}
+
+// The row with these words: the one that stands, or appended. Costs what finding it does.
 pub fn row(table: &mut [u16], frame: Frame, at: Size, r: Words) -> Step
     requires { ⌜ RowsReady frame (at .rows) (now table) ⌝ }
     ensures { λ s. ⌜ ((o : List ℕ) → Ready frame at (store (now (table .entry)) o) → Builds (row-built (row-of r)) frame at (store (now (table .entry)) o) (store (now (table .exit)) o) s) ⌝ }

@@ -8,11 +8,11 @@ use Rattle.building.proofs.Begun.{no-beginning, beginning}
 
 -- src/taking.rt:16:9
 returns : tie.Need-returns
-returns c = no-beginning (c .before .before .args .frame) (c .before .before .args .table .now) _ (c .if1 .taken) refl refl
+returns c = no-beginning (c .before .before .before .args .frame) (c .before .before .before .args .table .now) _ (c .if1 .taken) refl refl
 
 -- src/taking.rt:23:5
-slice-write-table : tie.Need-slice-write-table
-slice-write-table c = search needs
+first-rows-requires : tie.Need-first-rows-requires
+first-rows-requires c κs = search needs
 
 -- src/taking.rt:11:1
 same-length : tie.Need-same-length
@@ -20,7 +20,7 @@ same-length c = search needs
 
 -- src/taking.rt:11:1
 returns-2 : tie.Need-returns-2
-returns-2 c = beginning (c .before .before .args .frame) (c .before .before .args .table .now) (c .before .before .pre) (c .if1 .left)
+returns-2 c = rw (c .before .before .first-rows .ensures) (beginning (c .before .before .before .before .before .before .before .args .frame) (c .before .before .before .before .before .before .before .args .table .now) (c .before .before .before .before .before .before .before .pre) (c .before .before .before .before .if1 .left))
 
 pub begin-spec : {M : Type 1} → statement M
-begin-spec = tie.close (tie.spec returns slice-write-table same-length returns-2)
+begin-spec = tie.close (tie.spec returns first-rows-requires same-length returns-2)

@@ -3,65 +3,30 @@ use Rattle.formula_builder.proofs.rows.append_row.Statement.{statement}
 use Rattle.formula_builder.proofs.rows.append_row.Tie as tie
 use Rattle.formula_builder.proofs.rows.append_row.Reads as reads
 use Rattle.formula_builder.proofs.rows.append_row.Lts as lts
-use lib.ListN.{length, getD, length-set}
-use native.Mathlib.Omega.{arith}
+use Rattle.formula_builder.proofs.index.chain.Reads as chain-reads
+use Rattle.formula_builder.proofs.index.put_first.Reads as put-first-reads
+use Rattle.formula_builder.proofs.rows.store_row.Reads as store-row-reads
 
--- src/rows.rt:60:13
-mul-k : tie.Need-mul-k
-mul-k c = search needs
+-- src/rows.rt:79:5
+store-row-requires : tie.Need-store-row-requires
+store-row-requires c κs = search needs
 
--- src/rows.rt:61:5
-mul-table : tie.Need-mul-table
-mul-table c = search needs
+-- src/rows.rt:80:9
+chain-requires : tie.Need-chain-requires
+chain-requires c κs = search needs
 
--- src/rows.rt:61:5
-slice-write-table : tie.Need-slice-write-table
-slice-write-table c = search needs
+-- src/rows.rt:81:5
+put-first-requires : tie.Need-put-first-requires
+put-first-requires c κs = search needs
 
--- src/rows.rt:62:11
-add-table : tie.Need-add-table
-add-table c = search needs
-
--- src/rows.rt:62:5
-mul-table-2 : tie.Need-mul-table-2
-mul-table-2 c = search needs
-
--- src/rows.rt:62:5
-slice-write-table-2 : tie.Need-slice-write-table-2
-slice-write-table-2 c = simp length-set (omega arith)
-
--- src/rows.rt:63:11
-add-table-2 : tie.Need-add-table-2
-add-table-2 c = search needs
-
--- src/rows.rt:63:5
-mul-table-3 : tie.Need-mul-table-3
-mul-table-3 c = search needs
-
--- src/rows.rt:63:5
-slice-write-table-3 : tie.Need-slice-write-table-3
-slice-write-table-3 c = simp length-set (omega arith)
-
--- src/rows.rt:56:1
+-- src/rows.rt:75:1
 same-length : tie.Need-same-length
 same-length c = search needs
 
--- src/rows.rt:56:1
+-- src/rows.rt:75:1
 returns : tie.Need-returns
-returns c = search needs
+returns c = rw (c .before .before .put-first .ensures, c .before .before .before .before .before .before .before .store-row .ensures, c .before .before .before .before .chain .ensures .0)
 
 pub append-row-spec : {M : Type 1} → statement M
 append-row-spec =
-    tie.close
-    (tie.spec
-    mul-k
-    mul-table
-    slice-write-table
-    add-table
-    mul-table-2
-    slice-write-table-2
-    add-table-2
-    mul-table-3
-    slice-write-table-3
-    same-length
-    returns)
+    tie.close (tie.spec store-row-requires chain-requires put-first-requires same-length returns)
