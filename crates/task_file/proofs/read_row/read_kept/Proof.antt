@@ -1,6 +1,3 @@
-use mathlib.Core.Path.{_≡_, sym, ap, _∙_}
-use lib.ListN.{drop}
-use Rattle.task_file.specs.Tables.{kept-words-read}
 use borrow.Author.Needs.{needs}
 use Rattle.task_file.proofs.read_row.read_kept.Statement.{statement}
 use Rattle.task_file.proofs.read_row.read_kept.Tie as tie
