@@ -72,16 +72,18 @@ pub record Begins (l : Lent) (rows twins effects : ℕ) (x : Tables) : Type 0 wh
   pub blank-twins : x .twins ≡ replicate (length (x .twins)) 0
   pub blank-scratch : x .scratch ≡ replicate (length (x .scratch)) 0
 
--- All tables are 0, and the one in which rows are built.
-pub record Starts (l : Lent) (rows twins effects : ℕ) (x : Tables) (built : List ℕ) : Type 0 where
+-- All tables are 0, and the one in which rows are built; there is room for records.
+pub record Starts (l : Lent) (rows twins effects : ℕ) (x : Tables) (built records : List ℕ) : Type 0 where
   pub begins : Begins l rows twins effects x
   pub fresh : Fresh (frame-of (l .head) rows twins) built
+  pub space : 6912 ≤ length records
 
 -- All operators are taken.
-pub record Ends (l : Lent) (rows twins effects : ℕ) (x : Tables) (built : List ℕ) (p : Progress) : Type 0 where
+pub record Ends (l : Lent) (rows twins effects : ℕ) (x : Tables) (built records : List ℕ) (p : Progress) : Type 0 where
   pub lends : Lends l rows twins effects x
   pub all : p .operators ≡ l .head .operators
-  pub taken : Taken (frame-of (l .head) rows twins) (l .formulas) (l .effects) (l .operators) (store built (x .twins)) (x .scratch) p
+  pub taken : Taken (frame-of (l .head) rows twins) (l .formulas) (l .effects) (l .operators) (store built (x .twins)) (x .scratch) records p
+  pub space : 6912 ≤ length records
 
 -- the head of the compiled task: operators keep their number
 abbrev pub head-after : Head → Passes → Head

@@ -3,44 +3,48 @@ use Rattle.filling.proofs.own.fill.Statement.{statement}
 use Rattle.filling.proofs.own.fill.Tie as tie
 use Rattle.filling.proofs.own.fill.Reads as reads
 use Rattle.filling.proofs.own.fill.Lts as lts
+use Rattle.filling.proofs.whole.fill_built.Reads as fill-built-reads
 use Rattle.task.specs.Table.{lent}
 use Rattle.filling.specs.Fills.{tables}
 use Rattle.filling.proofs.Linked.{starts}
-use Rattle.filling.proofs.whole.fill_built.Reads as fill-built-reads
 
--- src/own.rt:46:9
+-- src/own.rt:48:9
 slice-aggregate-fill-built : tie.Need-slice-aggregate-fill-built
 slice-aggregate-fill-built c = search needs
 
--- src/own.rt:30:5
-fill-built-requires : tie.Need-fill-built-requires
-fill-built-requires c κs = starts (lent (c .before .before .before .before .before .before .before .before .before .before .before .before .before .before .before .before .before .before .args .head) (c .before .before .before .before .before .before .before .before .before .before .before .before .before .before .before .before .before .before .args .initial .now) (c .before .before .before .before .before .before .before .before .before .before .before .before .before .before .before .before .before .before .args .twins .now) (c .before .before .before .before .before .before .before .before .before .before .before .before .before .before .before .before .before .before .args .formulas .now) (c .before .before .before .before .before .before .before .before .before .before .before .before .before .before .before .before .before .before .args .effects .now) (c .before .before .before .before .before .before .before .before .before .before .before .before .before .before .before .before .before .before .args .operators .now)) (c .before .before .before .before .before .before .before .before .before .before .before .before .before .before .before .before .before .before .args .rows) (c .before .before .before .before .before .before .before .before .before .before .before .before .before .before .before .before .before .before .args .most) (c .before .before .before .before .before .before .before .before .before .before .before .before .before .before .before .before .before .before .pre .lends .passes) (c .before .before .before .before .before .before .before .before .before .before .before .before .before .before .before .before .before .before .args .room) (tables (c .before .before .before .before .before .before .before .before .before .before .before .before .before .before .before .before .before .before .args .values .now) (c .before .before .before .before .before .before .before .before .before .before .before .before .before .before .before .before .before .before .args .originals .now) (c .before .before .before .before .before .before .before .before .before .before .before .before .before .before .before .before .before .before .args .table .now) (c .before .before .before .before .before .before .before .before .before .before .before .before .before .before .before .before .before .before .args .out .now) (c .before .before .before .before .before .before .before .before .before .before .before .before .before .before .before .before .before .before .args .written .now) (c .before .before .before .before .before .before .before .before .before .before .before .before .before .before .before .before .before .before .args .scratch .now)) (c .before .before .before .before .before .before .before .before .before .before .before .before .before .before .before .before .before .before .pre)
+-- src/own.rt:49:9
+slice-aggregate-fill-built-2 : tie.Need-slice-aggregate-fill-built-2
+slice-aggregate-fill-built-2 c = search needs
 
--- src/own.rt:9:1
+-- src/own.rt:32:5
+fill-built-requires : tie.Need-fill-built-requires
+fill-built-requires c κs = starts (lent (c .before .before .before .before .before .before .before .before .before .before .before .before .before .before .before .before .before .before .before .args .head) (c .before .before .before .before .before .before .before .before .before .before .before .before .before .before .before .before .before .before .before .args .initial .now) (c .before .before .before .before .before .before .before .before .before .before .before .before .before .before .before .before .before .before .before .args .twins .now) (c .before .before .before .before .before .before .before .before .before .before .before .before .before .before .before .before .before .before .before .args .formulas .now) (c .before .before .before .before .before .before .before .before .before .before .before .before .before .before .before .before .before .before .before .args .effects .now) (c .before .before .before .before .before .before .before .before .before .before .before .before .before .before .before .before .before .before .before .args .operators .now)) (c .before .before .before .before .before .before .before .before .before .before .before .before .before .before .before .before .before .before .before .args .rows) (c .before .before .before .before .before .before .before .before .before .before .before .before .before .before .before .before .before .before .before .args .most) (c .before .before .before .before .before .before .before .before .before .before .before .before .before .before .before .before .before .before .before .pre .lends .passes) (c .before .before .before .before .before .before .before .before .before .before .before .before .before .before .before .before .before .before .before .args .room) (tables (c .before .before .before .before .before .before .before .before .before .before .before .before .before .before .before .before .before .before .before .args .values .now) (c .before .before .before .before .before .before .before .before .before .before .before .before .before .before .before .before .before .before .before .args .originals .now) (c .before .before .before .before .before .before .before .before .before .before .before .before .before .before .before .before .before .before .before .args .table .now) (c .before .before .before .before .before .before .before .before .before .before .before .before .before .before .before .before .before .before .before .args .out .now) (c .before .before .before .before .before .before .before .before .before .before .before .before .before .before .before .before .before .before .before .args .written .now) (c .before .before .before .before .before .before .before .before .before .before .before .before .before .before .before .before .before .before .before .args .scratch .now)) (c .before .before .before .before .before .before .before .before .before .before .before .before .before .before .before .before .before .before .before .pre)
+
+-- src/own.rt:10:1
 same-length : tie.Need-same-length
 same-length c = search needs
 
--- src/own.rt:9:1
+-- src/own.rt:10:1
 same-length-2 : tie.Need-same-length-2
 same-length-2 c = search needs
 
--- src/own.rt:9:1
+-- src/own.rt:10:1
 same-length-3 : tie.Need-same-length-3
 same-length-3 c = search needs
 
--- src/own.rt:9:1
+-- src/own.rt:10:1
 same-length-4 : tie.Need-same-length-4
 same-length-4 c = search needs
 
--- src/own.rt:9:1
+-- src/own.rt:10:1
 same-length-5 : tie.Need-same-length-5
 same-length-5 c = search needs
 
--- src/own.rt:9:1
+-- src/own.rt:10:1
 same-length-6 : tie.Need-same-length-6
 same-length-6 c = search needs
 
--- src/own.rt:9:1
+-- src/own.rt:10:1
 returns : tie.Need-returns
 returns c = search needs
 
@@ -49,6 +53,7 @@ fill-spec =
     tie.close
     (tie.spec
     slice-aggregate-fill-built
+    slice-aggregate-fill-built-2
     fill-built-requires
     same-length
     same-length-2
