@@ -4,7 +4,8 @@ use Rattle.touched.proofs.marks.look.Tie as tie
 use Rattle.touched.proofs.marks.look.Reads as reads
 use Rattle.touched.proofs.marks.look.Lts as lts
 use Rattle.formula_builder.proofs.read_row.Reads as read-row-reads
-use Rattle.touched.proofs.Looking.{both-within, under-within, atom-within, look-unmarked, look-empty, look-atom, look-under, look-both}
+use Rattle.conditions.proofs.Alone.{both-within, under-within, atom-within}
+use Rattle.touched.proofs.Looking.{look-unmarked, look-empty, look-atom, look-under, look-both}
 use native.Mathlib.Omega.{arith}
 use mathlib.Core.List.{[]}
 use lib.ListN.{length-set}
