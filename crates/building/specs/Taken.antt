@@ -11,7 +11,7 @@ use Rattle.formula_builder.specs.declared.Size.{Size}
 use Rattle.formula_builder.specs.declared.Step.{Step}
 use Rattle.formula_builder.specs.Held.{Store, store, held, size-of, RowsReady, Within}
 use Rattle.images.specs.Images.{image-at, Source}
-use Rattle.conditions.specs.Conditions.{EffectSource}
+use Rattle.conditions.specs.Conditions.{EffectSource, Spans}
 use Rattle.changes.specs.Stands.{Stands}
 use Rattle.operators.specs.Operator.{operators-built}
 use Rattle.building.specs.declared.Progress.{Progress}
@@ -64,8 +64,9 @@ pub record Taken (frame : Frame) (formulas effects operators : List ℕ) (s : St
   pub over : p .full ≡ true → Within frame (operators-built frame formulas effects operators (p .operators) start .st) → ⊥
 
 -- There is a next operator.
-pub record Takes (frame : Frame) (formulas effects operators : List ℕ) (s : Store) (scratch : List ℕ) (p : Progress) : Type 0 where
+pub record Takes (frame : Frame) (formulas effects spans operators : List ℕ) (s : Store) (scratch : List ℕ) (p : Progress) : Type 0 where
   pub taken : Taken frame formulas effects operators s scratch p
+  pub spanned : Spans frame effects spans
   pub words : 3 * p .operators + 3 ≤ length operators
   pub limit : p .operators < 256
   pub precondition : row-at operators (p .operators) .kind < frame .formulas

@@ -35,6 +35,7 @@ pub fn begin(frame: Frame, table: &mut [u16]) -> Progress
 pub fn take_operator(
     formulas: &[u16],
     effects: &[u16],
+    spans: &[u16],
     operators: &[u16],
     frame: Frame,
     at: Progress,
@@ -42,7 +43,7 @@ pub fn take_operator(
     originals: &mut [u16],
     scratch: &mut [u16],
 ) -> Progress
-    requires { ⌜ Takes frame (now formulas) (now effects) (now operators) (store (now table) (now originals)) (now scratch) at ⌝ }
+    requires { ⌜ Takes frame (now formulas) (now effects) (now spans) (now operators) (store (now table) (now originals)) (now scratch) at ⌝ }
     ensures { λ r. ⌜ Took frame (now (formulas .entry)) (now (effects .entry)) (now (operators .entry)) (store (now (table .exit)) (now (originals .exit))) (now (scratch .exit)) at r ⌝ }
 {
     let next = at.operators + 1;
@@ -58,6 +59,7 @@ pub fn take_operator(
     let r = build_operator(
         formulas,
         effects,
+        spans,
         w.kind as usize,
         w.a as usize,
         frame,

@@ -13,6 +13,7 @@ ghost use Rattle.operators.specs.Operator.{BuildsOperator, operator-buil
 pub fn build_operator(
     formulas: &[u16],
     effects: &[u16],
+    spans: &[u16],
     p: usize,
     e: usize,
     frame: Frame,
@@ -21,7 +22,7 @@ pub fn build_operator(
     originals: &mut [u16],
     scratch: &mut [u16],
 ) -> Step
-    requires { ⌜ BuildsOperator frame (now formulas) (now effects) at (store (now table) (now originals)) (now scratch) p e ⌝ }
+    requires { ⌜ BuildsOperator frame (now formulas) (now effects) (now spans) at (store (now table) (now originals)) (now scratch) p e ⌝ }
     ensures { λ r. ⌜ Reaches (operator-built frame (now (formulas .entry)) (now (effects .entry)) p e) frame (now (formulas .entry)) at (store (now (table .entry)) (now (originals .entry))) (store (now (table .exit)) (now (originals .exit))) (now (scratch .entry)) (now (scratch .exit)) (r .full) (size-of r) ⌝ }
 {
     let f = image(formulas, p, frame, at, table, originals, scratch);
@@ -33,6 +34,7 @@ pub fn build_operator(
     build_changes(
         formulas,
         effects,
+        spans,
         e,
         &touched,
         frame,

@@ -18,6 +18,7 @@ pub fn change_if(
     walked: bool,
     formulas: &[u16],
     effects: &[u16],
+    spans: &[u16],
     e: usize,
     v: u16,
     frame: Frame,
@@ -26,13 +27,14 @@ pub fn change_if(
     originals: &mut [u16],
     scratch: &mut [u16],
 ) -> Change
-    requires { ⌜ WalksVariable walked frame (now formulas) (now effects) at (store (now table) (now originals)) (now scratch) e v ⌝ }
+    requires { ⌜ WalksVariable walked frame (now formulas) (now effects) (now spans) at (store (now table) (now originals)) (now scratch) e v ⌝ }
     ensures { λ r. ⌜ Makes (changes-of (frame .variables) (effect-tree frame (now (formulas .entry)) (now (effects .entry)) e) v) frame (now (formulas .entry)) at (store (now (table .entry)) (now (originals .entry))) (store (now (table .exit)) (now (originals .exit))) (now (scratch .entry)) (now (scratch .exit)) (r .full) (size-after r) (made v r) ⌝ }
 {
     if walked {
         return change_of(
             formulas,
             effects,
+            spans,
             e,
             v,
             frame,
@@ -55,6 +57,7 @@ pub fn change_if(
 pub fn build_changes(
     formulas: &[u16],
     effects: &[u16],
+    spans: &[u16],
     e: usize,
     touched: &[u8],
     frame: Frame,
@@ -63,7 +66,7 @@ pub fn build_changes(
     originals: &mut [u16],
     scratch: &mut [u16],
 ) -> Step
-    requires { ⌜ WalksAll frame (now formulas) (now effects) (now touched) at (store (now table) (now originals)) (now scratch) e ⌝ }
+    requires { ⌜ WalksAll frame (now formulas) (now effects) (now spans) (now touched) at (store (now table) (now originals)) (now scratch) e ⌝ }
     ensures { λ r. ⌜ Reaches (all-changes frame (now (formulas .entry)) (now (effects .entry)) e (frame .variables)) frame (now (formulas .entry)) at (store (now (table .entry)) (now (originals .entry))) (store (now (table .exit)) (now (originals .exit))) (now (scratch .entry)) (now (scratch .exit)) (r .full) (size-of r) ⌝ }
 {
     let n = frame.variables;
@@ -79,6 +82,7 @@ pub fn build_changes(
             touched[v] != 0,
             formulas,
             effects,
+            spans,
             e,
             v as u16,
             frame,
