@@ -11,15 +11,15 @@ use Rattle.building.proofs.Begun.{took-full, asks-operator, took}
 
 -- src/taking.rt:47:16
 add-next : tie.Need-add-next
-add-next c = omega (arith, c .before .before .before .before .before .before .before .pre .limit)
+add-next c = omega (arith, c .before .before .before .before .before .before .before .before .pre .limit)
 
 -- src/taking.rt:49:9
 returns : tie.Need-returns
-returns c = took-full (c .before .before .before .before .before .before .before .before .args .frame) (c .before .before .before .before .before .before .before .before .args .formulas .now) (c .before .before .before .before .before .before .before .before .args .effects .now) (c .before .before .before .before .before .before .before .before .args .operators .now) (c .before .before .before .before .before .before .before .before .pre) (c .if1 .taken) refl refl
+returns c = took-full (c .before .before .before .before .before .before .before .before .before .args .frame) (c .before .before .before .before .before .before .before .before .before .args .formulas .now) (c .before .before .before .before .before .before .before .before .before .args .effects .now) (c .before .before .before .before .before .before .before .before .before .args .operators .now) (c .before .before .before .before .before .before .before .before .before .pre) (c .if1 .taken) refl refl
 
 -- src/taking.rt:56:9
 read-row-requires : tie.Need-read-row-requires
-read-row-requires c κs = c .before .before .before .before .before .before .before .before .pre .words
+read-row-requires c κs = c .before .before .before .before .before .before .before .before .before .pre .words
 
 -- src/taking.rt:60:9
 cast-build-operator : tie.Need-cast-build-operator
@@ -31,7 +31,7 @@ cast-build-operator-2 c = search needs
 
 -- src/taking.rt:57:9
 build-operator-requires : tie.Need-build-operator-requires
-build-operator-requires c κs = asks-operator (c .before .before .before .before .before .before .before .before .before .before .before .before .before .before .args .frame) (c .before .before .before .before .before .before .before .before .before .before .before .before .before .before .args .formulas .now) (c .before .before .before .before .before .before .before .before .before .before .before .before .before .before .args .effects .now) (c .before .before .before .before .before .before .before .before .before .before .before .before .before .before .args .operators .now) (c .before .before .before .before .before .before .before .before .before .before .before .before .before .before .pre) (c .before .before .before .before .before .before .if1 .left) (c .before .before .before .before .before .read-row .result) (c .before .before .before .before .before .read-row .ensures)
+build-operator-requires c κs = asks-operator (c .before .before .before .before .before .before .before .before .before .before .before .before .before .before .before .args .frame) (c .before .before .before .before .before .before .before .before .before .before .before .before .before .before .before .args .formulas .now) (c .before .before .before .before .before .before .before .before .before .before .before .before .before .before .before .args .effects .now) (c .before .before .before .before .before .before .before .before .before .before .before .before .before .before .before .args .operators .now) (c .before .before .before .before .before .before .before .before .before .before .before .before .before .before .before .pre) (c .before .before .before .before .before .before .if1 .left) (c .before .before .before .before .before .read-row .result) (c .before .before .before .before .before .read-row .ensures)
 
 -- src/taking.rt:34:1
 same-length : tie.Need-same-length
@@ -47,7 +47,7 @@ same-length-3 c = search needs
 
 -- src/taking.rt:34:1
 returns-2 : tie.Need-returns-2
-returns-2 c = took (c .before .before .before .before .before .before .before .before .before .before .before .before .before .before .before .before .before .before .before .before .before .args .frame) (c .before .before .before .before .before .before .before .before .before .before .before .before .before .before .before .before .before .before .before .before .before .args .formulas .now) (c .before .before .before .before .before .before .before .before .before .before .before .before .before .before .before .before .before .before .before .before .before .args .effects .now) (c .before .before .before .before .before .before .before .before .before .before .before .before .before .before .before .before .before .before .before .before .before .args .operators .now) (c .before .before .before .before .before .before .before .before .before .before .before .before .before .before .before .before .before .before .before .before .before .pre) (c .before .before .before .before .before .before .before .before .before .before .before .before .before .if1 .left) (c .before .before .before .before .before .before .before .before .before .before .before .before .read-row .result) (c .before .before .before .before .before .before .before .before .before .before .before .before .read-row .ensures) (c .before .before .before .before .before .before .build-operator .result) (c .before .before .before .before .before .before .build-operator .ensures) (c .before .before .before .before .before .before .build-operator .kept .1 .1 .1 .1 .1 .1 .1 .1 .1 .0) refl
+returns-2 c = took (c .before .before .before .before .before .before .before .before .before .before .before .before .before .before .before .before .before .before .before .before .before .before .args .frame) (c .before .before .before .before .before .before .before .before .before .before .before .before .before .before .before .before .before .before .before .before .before .before .args .formulas .now) (c .before .before .before .before .before .before .before .before .before .before .before .before .before .before .before .before .before .before .before .before .before .before .args .effects .now) (c .before .before .before .before .before .before .before .before .before .before .before .before .before .before .before .before .before .before .before .before .before .before .args .operators .now) (c .before .before .before .before .before .before .before .before .before .before .before .before .before .before .before .before .before .before .before .before .before .before .pre) (c .before .before .before .before .before .before .before .before .before .before .before .before .before .if1 .left) (c .before .before .before .before .before .before .before .before .before .before .before .before .read-row .result) (c .before .before .before .before .before .before .before .before .before .before .before .before .read-row .ensures) (c .before .before .before .before .before .before .build-operator .result) (c .before .before .before .before .before .before .build-operator .ensures) (c .before .before .before .before .before .before .build-operator .kept .1 .1 .1 .1 .1 .1 .1 .1 .1 .0) refl
 
 pub take-operator-spec : {M : Type 1} → statement M
 take-operator-spec =
