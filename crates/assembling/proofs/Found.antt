@@ -94,9 +94,9 @@ pub same-next :
 same-next x y = record { same = y .same ∙ x .same; stands = y .stands }
 
 -- One variable.
-module _ (frame : Frame) (formulas effects : List ℕ) (at : Size) (before : Store) (scratch : List ℕ) (e v room : ℕ) (chain : Chain) (out : List ℕ) where
+module _ {spans : List ℕ} (frame : Frame) (formulas effects : List ℕ) (at : Size) (before : Store) (scratch : List ℕ) (e v room : ℕ) (chain : Chain) (out : List ℕ) where
   pub variable-passed :
-      WritesVariable false frame formulas effects at before scratch e v room chain out
+      WritesVariable false frame formulas effects spans at before scratch e v room chain out
       → Wrote (rules-of (frame .variables) (held at before .twins) (changes-at frame formulas effects e v (held at before) .value))
       frame formulas effects at before before scratch room chain out out chain
   unfolding changes-at
@@ -110,7 +110,7 @@ module _ (frame : Frame) (formulas effects : List ℕ) (at : Size) (before : Sto
             (ap (λ (c : Changes). c .deletes) none));
       }
 
-  module _ {walked : Bool} (a : WritesVariable walked frame formulas effects at before scratch e v room chain out) {after : Store} {s2 : List ℕ} {c : Change} (x : Makes (changes-of (frame .variables) (effect-tree frame formulas effects e) v) frame formulas at before after scratch s2 (c .full) (size-after c) (made v c)) (long : length s2 ≡ length scratch) where
+  module _ {walked : Bool} (a : WritesVariable walked frame formulas effects spans at before scratch e v room chain out) {after : Store} {s2 : List ℕ} {c : Change} (x : Makes (changes-of (frame .variables) (effect-tree frame formulas effects e) v) frame formulas at before after scratch s2 (c .full) (size-after c) (made v c)) (long : length s2 ≡ length scratch) where
     pub variable-found : Same frame formulas effects at before after s2
     unfolding changes-at
     variable-found = found-again (a .stands .stands) (a .settled) (x .reaches) long

@@ -26,6 +26,7 @@ use Rattle.formula_builder.specs.declared.Size.{Size}
 use Rattle.formula_builder.specs.declared.Step.{Step}
 use Rattle.formula_builder.specs.Held.{Store, row-of, held, size-of}
 use Rattle.images.specs.Images.{image-at, Images, Asks}
+use Rattle.conditions.specs.Conditions.{Spans}
 use Rattle.changes.specs.Stands.{Stands, StandsAt}
 use Rattle.changes.proofs.Standing.{makes-row}
 use Rattle.touched.specs.Touched.{Untouched}
@@ -52,26 +53,27 @@ asks-image a h = record { source = a .source; ready = a .ready; memo = a .memo; 
 
 -- what its rules ask after that
 pub asks-effect :
-    {frame : Frame} {formulas effects : List ℕ} {w : Row} {at : Size} {before after : Store} {scratch : List ℕ} {room : ℕ} {chain : Chain} {out : List ℕ}
+    {frame : Frame} {formulas effects spans : List ℕ} {w : Row} {at : Size} {before after : Store} {scratch : List ℕ} {room : ℕ} {chain : Chain} {out : List ℕ}
+    → Spans frame effects spans
     → Knows frame formulas effects (held at before) w
     → Same frame formulas effects at before after scratch
     → RuleReady room chain out
-    → WritesEffect frame formulas effects at after scratch (w .a) room chain out
-asks-effect k x r =
+    → WritesEffect frame formulas effects spans at after scratch (w .a) room chain out
+asks-effect p k x r =
     record {
-      stands = record { stands = x .stands; effect = k .effect };
+      stands = record { stands = x .stands; spanned = p; effect = k .effect };
       settled = λ v h. settled-after (x .same) (k .changes v h);
       ready = r;
     }
 
 -- what the walk asks after marking, which leaves the scratch as it was
 pub asks-all :
-    {frame : Frame} {formulas effects : List ℕ} {at : Size} {s : Store} {scratch scratch' : List ℕ} {e room : ℕ} {chain : Chain} {out : List ℕ} (touched : List ℕ)
-    → WritesEffect frame formulas effects at s scratch e room chain out
+    {frame : Frame} {formulas effects spans : List ℕ} {at : Size} {s : Store} {scratch scratch' : List ℕ} {e room : ℕ} {chain : Chain} {out : List ℕ} (touched : List ℕ)
+    → WritesEffect frame formulas effects spans at s scratch e room chain out
     → scratch' ≡ scratch
     → 512 ≤ length touched
     → ((v : ℕ) → getD touched v 0 ≡ 0 → Untouched frame formulas effects v e)
-    → WritesAll frame formulas effects touched at s scratch' e room chain out
+    → WritesAll frame formulas effects spans touched at s scratch' e room chain out
 asks-all {frame} touched a same long passed =
     rw same
     (record {

@@ -16,7 +16,7 @@ use Rattle.formula_builder.specs.declared.Frame.{Frame}
 use Rattle.formula_builder.specs.declared.Size.{Size}
 use Rattle.formula_builder.specs.Held.{Store, held}
 use Rattle.images.specs.Images.{image-at}
-use Rattle.conditions.specs.Conditions.{effect-tree}
+use Rattle.conditions.specs.Conditions.{effect-tree, Spans}
 use Rattle.changes.specs.Stands.{Stands, StandsAt}
 use Rattle.touched.specs.Touched.{Untouched}
 use Rattle.rule_writer.specs.declared.Chain.{Chain}
@@ -30,14 +30,14 @@ changes-at frame formulas effects e v = changes-of (frame .variables) (effect-tr
 unfoldable pub changes-below : Frame → List ℕ → List ℕ → ℕ → St → ℕ → List Changes
 changes-below frame formulas effects e t v = upto v (λ k. changes-at frame formulas effects e k t .value)
 
-pub record WritesVariable (walked : Bool) (frame : Frame) (formulas effects : List ℕ) (at : Size) (s : Store) (scratch : List ℕ) (e v room : ℕ) (chain : Chain) (out : List ℕ) : Type 0 where
-  pub stands : StandsAt frame formulas effects at s scratch e
+pub record WritesVariable (walked : Bool) (frame : Frame) (formulas effects spans : List ℕ) (at : Size) (s : Store) (scratch : List ℕ) (e v room : ℕ) (chain : Chain) (out : List ℕ) : Type 0 where
+  pub stands : StandsAt frame formulas effects spans at s scratch e
   pub passed : walked ≡ false → Untouched frame formulas effects v e
   pub settled : Settled (changes-at frame formulas effects e v) (held at s)
   pub ready : Ready room chain out
 
-pub record WritesAll (frame : Frame) (formulas effects touched : List ℕ) (at : Size) (s : Store) (scratch : List ℕ) (e room : ℕ) (chain : Chain) (out : List ℕ) : Type 0 where
-  pub stands : StandsAt frame formulas effects at s scratch e
+pub record WritesAll (frame : Frame) (formulas effects spans touched : List ℕ) (at : Size) (s : Store) (scratch : List ℕ) (e room : ℕ) (chain : Chain) (out : List ℕ) : Type 0 where
+  pub stands : StandsAt frame formulas effects spans at s scratch e
   pub marks : frame .variables ≤ length touched
   pub passed : (v : ℕ) → getD touched v 0 ≡ 0 → Untouched frame formulas effects v e
   pub settled : (v : ℕ) → v < frame .variables → Settled (changes-at frame formulas effects e v) (held at s)
@@ -78,13 +78,14 @@ pub record Knows (frame : Frame) (formulas effects : List ℕ) (t : St) (w : Row
   pub precondition : Settled (image-at frame formulas plain (w .kind)) t
   pub changes : (v : ℕ) → v < frame .variables → Settled (changes-at frame formulas effects (w .a) v) t
 
-pub record WritesEffect (frame : Frame) (formulas effects : List ℕ) (at : Size) (s : Store) (scratch : List ℕ) (e room : ℕ) (chain : Chain) (out : List ℕ) : Type 0 where
-  pub stands : StandsAt frame formulas effects at s scratch e
+pub record WritesEffect (frame : Frame) (formulas effects spans : List ℕ) (at : Size) (s : Store) (scratch : List ℕ) (e room : ℕ) (chain : Chain) (out : List ℕ) : Type 0 where
+  pub stands : StandsAt frame formulas effects spans at s scratch e
   pub settled : (v : ℕ) → v < frame .variables → Settled (changes-at frame formulas effects e v) (held at s)
   pub ready : Ready room chain out
 
-pub record WritesOperator (frame : Frame) (formulas effects : List ℕ) (w : Row) (o : ℕ) (at : Size) (s : Store) (scratch : List ℕ) (room : ℕ) (chain : Chain) (out operators : List ℕ) : Type 0 where
+pub record WritesOperator (frame : Frame) (formulas effects spans : List ℕ) (w : Row) (o : ℕ) (at : Size) (s : Store) (scratch : List ℕ) (room : ℕ) (chain : Chain) (out operators : List ℕ) : Type 0 where
   pub stands : Stands frame formulas effects at s scratch
+  pub spanned : Spans frame effects spans
   pub knows : Knows frame formulas effects (held at s) w
   pub ready : Ready room chain out
   pub space : 3 * o + 3 ≤ length operators
@@ -111,8 +112,9 @@ pub record WroteOperator (b : Built) (n : ℕ) (twins : List ℕ) (room rows o :
       → length (assemble-operator n twins w b .effects) ≤ room
       → ⊥
 
-pub record Assembles (frame : Frame) (formulas effects operators : List ℕ) (count : ℕ) (at : Size) (s : Store) (scratch : List ℕ) (room : ℕ) (out out-operators : List ℕ) : Type 0 where
+pub record Assembles (frame : Frame) (formulas effects spans operators : List ℕ) (count : ℕ) (at : Size) (s : Store) (scratch : List ℕ) (room : ℕ) (out out-operators : List ℕ) : Type 0 where
   pub stands : Stands frame formulas effects at s scratch
+  pub spanned : Spans frame effects spans
   pub words : 3 * count ≤ length operators
   pub limit : count ≤ 256
   pub knows : (o : ℕ) → o < count → Knows frame formulas effects (held at s) (row-at operators o)

@@ -16,6 +16,7 @@ ghost use Rattle.assembling.specs.Assembles.{changes-below, built-again,
 fn write_effect(
     formulas: &[u16],
     effects: &[u16],
+    spans: &[u16],
     e: usize,
     frame: Frame,
     at: Size,
@@ -26,7 +27,7 @@ fn write_effect(
     scratch: &mut [u16],
     out: &mut [u16],
 ) -> Chain
-    requires { ⌜ WritesEffect frame (now formulas) (now effects) at (store (now table) (now originals)) (now scratch) e room (begun rows) (now out) ⌝ }
+    requires { ⌜ WritesEffect frame (now formulas) (now effects) (now spans) at (store (now table) (now originals)) (now scratch) e room (begun rows) (now out) ⌝ }
     ensures { λ r. ⌜ Wrote (rules (frame .variables) (held at (store (now (table .entry)) (now (originals .entry))) .twins) (changes-below frame (now (formulas .entry)) (now (effects .entry)) e (held at (store (now (table .entry)) (now (originals .entry)))) (frame .variables))) frame (now (formulas .entry)) (now (effects .entry)) at (store (now (table .entry)) (now (originals .entry))) (store (now (table .exit)) (now (originals .exit))) (now (scratch .exit)) room (begun rows) (now (out .entry)) (now (out .exit)) r ⌝ }
 {
     let mut touched = [0u8; 512];
@@ -34,6 +35,7 @@ fn write_effect(
     write_variables(
         formulas,
         effects,
+        spans,
         e,
         &touched,
         frame,
@@ -55,6 +57,7 @@ fn write_effect(
 pub fn assemble_operator(
     formulas: &[u16],
     effects: &[u16],
+    spans: &[u16],
     w: Words,
     o: usize,
     frame: Frame,
@@ -67,7 +70,7 @@ pub fn assemble_operator(
     out: &mut [u16],
     operators: &mut [u16],
 ) -> Chain
-    requires { ⌜ WritesOperator frame (now formulas) (now effects) (row-of w) o at (store (now table) (now originals)) (now scratch) room (begun rows) (now out) (now operators) ⌝ }
+    requires { ⌜ WritesOperator frame (now formulas) (now effects) (now spans) (row-of w) o at (store (now table) (now originals)) (now scratch) room (begun rows) (now out) (now operators) ⌝ }
     ensures { λ r. ⌜ Operator frame (now (formulas .entry)) (now (effects .entry)) (row-of w) o at (store (now (table .entry)) (now (originals .entry))) (store (now (table .exit)) (now (originals .exit))) (now (scratch .exit)) room rows (now (out .entry)) (now (out .exit)) (now (operators .entry)) (now (operators .exit)) r ⌝ }
 {
     let f = image(
@@ -82,6 +85,7 @@ pub fn assemble_operator(
     let r = write_effect(
         formulas,
         effects,
+        spans,
         w.a as usize,
         frame,
         at,

@@ -11,6 +11,7 @@ ghost use Rattle.assembling.specs.Assembles.{assembled-again, Assembles,
 pub fn assemble_operators(
     formulas: &[u16],
     effects: &[u16],
+    spans: &[u16],
     operators: &[u16],
     count: usize,
     frame: Frame,
@@ -22,7 +23,7 @@ pub fn assemble_operators(
     out: &mut [u16],
     written: &mut [u16],
 ) -> Chain
-    requires { ⌜ Assembles frame (now formulas) (now effects) (now operators) count at (store (now table) (now originals)) (now scratch) room (now out) (now written) ⌝ }
+    requires { ⌜ Assembles frame (now formulas) (now effects) (now spans) (now operators) count at (store (now table) (now originals)) (now scratch) room (now out) (now written) ⌝ }
     ensures { λ r. ⌜ AssembledAll frame (now (formulas .entry)) (now (effects .entry)) (now (operators .entry)) count at (store (now (table .entry)) (now (originals .entry))) (store (now (table .exit)) (now (originals .exit))) (now (scratch .exit)) room (now (out .exit)) (now (written .exit)) r ⌝ }
 {
     let mut rows = 1;
@@ -32,6 +33,7 @@ pub fn assemble_operators(
         let r = assemble_operator(
             formulas,
             effects,
+            spans,
             w,
             o,
             frame,

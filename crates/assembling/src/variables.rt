@@ -14,6 +14,7 @@ pub fn write_variable(
     walked: bool,
     formulas: &[u16],
     effects: &[u16],
+    spans: &[u16],
     e: usize,
     v: u16,
     frame: Frame,
@@ -25,13 +26,14 @@ pub fn write_variable(
     scratch: &mut [u16],
     out: &mut [u16],
 ) -> Chain
-    requires { ⌜ WritesVariable walked frame (now formulas) (now effects) at (store (now table) (now originals)) (now scratch) e v room chain (now out) ⌝ }
+    requires { ⌜ WritesVariable walked frame (now formulas) (now effects) (now spans) at (store (now table) (now originals)) (now scratch) e v room chain (now out) ⌝ }
     ensures { λ r. ⌜ Wrote (rules-of (frame .variables) (held at (store (now (table .entry)) (now (originals .entry))) .twins) (changes-at frame (now (formulas .entry)) (now (effects .entry)) e v (held at (store (now (table .entry)) (now (originals .entry)))) .value)) frame (now (formulas .entry)) (now (effects .entry)) at (store (now (table .entry)) (now (originals .entry))) (store (now (table .exit)) (now (originals .exit))) (now (scratch .exit)) room chain (now (out .entry)) (now (out .exit)) r ⌝ }
 {
     if walked {
         let c = change_of(
             formulas,
             effects,
+            spans,
             e,
             v,
             frame,
@@ -63,6 +65,7 @@ pub fn write_variable(
 pub fn write_variables(
     formulas: &[u16],
     effects: &[u16],
+    spans: &[u16],
     e: usize,
     touched: &[u8],
     frame: Frame,
@@ -74,7 +77,7 @@ pub fn write_variables(
     scratch: &mut [u16],
     out: &mut [u16],
 ) -> Chain
-    requires { ⌜ WritesAll frame (now formulas) (now effects) (now touched) at (store (now table) (now originals)) (now scratch) e room chain (now out) ⌝ }
+    requires { ⌜ WritesAll frame (now formulas) (now effects) (now spans) (now touched) at (store (now table) (now originals)) (now scratch) e room chain (now out) ⌝ }
     ensures { λ r. ⌜ Wrote (rules (frame .variables) (held at (store (now (table .entry)) (now (originals .entry))) .twins) (changes-below frame (now (formulas .entry)) (now (effects .entry)) e (held at (store (now (table .entry)) (now (originals .entry)))) (frame .variables))) frame (now (formulas .entry)) (now (effects .entry)) at (store (now (table .entry)) (now (originals .entry))) (store (now (table .exit)) (now (originals .exit))) (now (scratch .exit)) room chain (now (out .entry)) (now (out .exit)) r ⌝ }
 {
     let n = frame.variables;
@@ -85,6 +88,7 @@ pub fn write_variables(
             touched[v] != 0,
             formulas,
             effects,
+            spans,
             e,
             v as u16,
             frame,

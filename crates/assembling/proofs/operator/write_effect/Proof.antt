@@ -15,7 +15,7 @@ slice-aggregate-touched-by c = search needs
 
 -- src/operator.rt:33:5
 touched-by-requires : tie.Need-touched-by-requires
-touched-by-requires c κs = asks-marks _ (c .before .before .before .before .before .before .before .before .pre .stands) (omega arith)
+touched-by-requires c κs = asks-marks _ (c .before .before .before .before .before .before .before .before .before .pre .stands) (omega arith)
 
 -- src/operator.rt:38:9
 slice-aggregate-write-variables : tie.Need-slice-aggregate-write-variables
@@ -23,7 +23,7 @@ slice-aggregate-write-variables c = search needs
 
 -- src/operator.rt:34:5
 write-variables-requires : tie.Need-write-variables-requires
-write-variables-requires c κs = asks-all (c .before .before .before .before .before .before .before .before .touched-by .last .1 .1 .1 .1 .0) (c .before .before .before .before .before .before .before .before .before .before .before .before .before .before .before .before .before .pre) (c .before .before .before .before .before .before .before .before .touched-by .ensures .0) (omega (arith, c .before .before .before .before .before .before .before .before .touched-by .kept .1 .1 .1 .1 .0)) (c .before .before .before .before .before .before .before .before .touched-by .ensures .1 (c .before .before .before .before .before .before .before .before .before .before .before .before .before .before .before .before .before .args .formulas .now))
+write-variables-requires c κs = asks-all (c .before .before .before .before .before .before .before .before .touched-by .last .1 .1 .1 .1 .0) (c .before .before .before .before .before .before .before .before .before .before .before .before .before .before .before .before .before .before .pre) (c .before .before .before .before .before .before .before .before .touched-by .ensures .0) (omega (arith, c .before .before .before .before .before .before .before .before .touched-by .kept .1 .1 .1 .1 .0)) (c .before .before .before .before .before .before .before .before .touched-by .ensures .1 (c .before .before .before .before .before .before .before .before .before .before .before .before .before .before .before .before .before .before .args .formulas .now))
 
 -- src/operator.rt:16:1
 same-length : tie.Need-same-length
