@@ -29,6 +29,7 @@ use Rattle.building.specs.Taken.{size-at, whole-built, Whole, FromStart}
 use Rattle.building.proofs.Begun.{operators-full, goal-asks, goal-built as goal-reached}
 use Rattle.rule_writer.specs.declared.Chain.{Chain}
 use Rattle.rule_writer.specs.Writes.{InitialReady}
+use Rattle.conditions.specs.Conditions.{Spans}
 use Rattle.assembling.specs.Assembles.{Holding, Assembles, Assembling, AssembledAll}
 use Rattle.filling.specs.declared.Passes.{Passes}
 use Rattle.filling.specs.Fills.{Tables, room-of, frame-of, Lends, Ends, Fills}
@@ -69,10 +70,14 @@ module _ (l : Lent) (rows twins effects : ℕ) (x : Tables) (b : Lends l rows tw
     held-is : held (size-of r) mid ≡ built (task-of l) .st
     held-is = sym (state-built l rows twins (b .passes) ∙ w .stood .state)
 
-    pub assembling-asks : Assembles (frame-of (l .head) rows twins) (l .formulas) (l .effects) (l .operators) (l .head .operators) (size-of r) mid s2 effects (x .effects) (x .operators)
-    assembling-asks =
+    pub assembling-asks :
+        {spans : List ℕ}
+        → Spans (frame-of (l .head) rows twins) (l .effects) spans
+        → Assembles (frame-of (l .head) rows twins) (l .formulas) (l .effects) spans (l .operators) (l .head .operators) (size-of r) mid s2 effects (x .effects) (x .operators)
+    assembling-asks s =
         record {
           stands = w .stood .stands;
+          spanned = s;
           words = long l rows twins (b .passes) .operators;
           limit = omega (arith, source l rows twins (b .passes) .limits .operators, length-operators l);
           knows = λ o h. rw held-is (operator-known l rows twins (b .passes) o h);
@@ -254,7 +259,7 @@ module _ (l : Lent) (rows twins effects : ℕ) (x : Tables) (b : Lends l rows tw
                   }
 
 -- Up to the goal.
-module _ (l : Lent) (rows twins effects : ℕ) (x : Tables) (built : List ℕ) (p : Progress) (e : Ends l rows twins effects x built p) where
+module _ {spans : List ℕ} (l : Lent) (rows twins effects : ℕ) (x : Tables) (built : List ℕ) (p : Progress) (e : Ends l rows twins effects x spans built p) where
   abbrev no-step : Step
   no-step = record { rows = 0; twins = 0; row = 0; full = true }
 

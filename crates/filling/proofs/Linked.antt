@@ -1,5 +1,5 @@
 -- A source that passes, as the code's passes see it. Assumes nothing.
-use Prim.Native.Nat.{ℕ, zero, suc, _+_, _<_}
+use Prim.Native.Nat.{ℕ, zero, suc, _+_, _≤_, _<_}
 use native.Mathlib.Omega.{arith}
 use mathlib.Core.Path.{_≡_, refl, sym, ap, ap₂, _∙_}
 use mathlib.Core.List.{List, [], _∷_, _++_}
@@ -13,7 +13,7 @@ use Rattle.task.specs.Run.{operator-of, effect-of-operator}
 use Rattle.task.specs.Tree.{formula-of}
 use Rattle.task.proofs.Held.{length-initial, length-formulas, length-effects, length-operators, operator-held}
 use Rattle.task.proofs.Kept.{kept-rules}
-use Rattle.task.proofs.Trees.{rules-formulas, rules-effects}
+use Rattle.task.proofs.Trees.{EffectsDown, rules-formulas, rules-effects}
 use Rattle.normal_form.specs.Builder.{start, plain}
 use Rattle.normal_form.specs.Image.{image}
 use Rattle.normal_form.specs.Operators.{Built, changes-of, built-operator}
@@ -23,8 +23,9 @@ use Rattle.normal_form.specs.Compiled.{padded}
 use Rattle.normal_form.proofs.Again.{precondition-settled, changes-settled, operator-again, operators-again}
 use Rattle.formula_builder.specs.declared.Frame.{Frame}
 use Rattle.images.specs.Images.{source-rows, tree, image-at}
-use Rattle.conditions.specs.Conditions.{effect-rows, effect-tree}
+use Rattle.conditions.specs.Conditions.{effect-rows, effect-tree, Spans}
 use Rattle.formula_builder.specs.Held.{store}
+use Rattle.spans.specs.Found.{FindsSpans}
 use Rattle.building.specs.declared.Progress.{Progress}
 use Rattle.building.specs.Taken.{whole-built, Zeros, Fresh, Begun, Blank, Taken, Takes}
 use Rattle.building.proofs.Begun.{taken-none}
@@ -159,13 +160,30 @@ module _ (l : Lent) (rows twins : ℕ) (passes : refusal l ≡ 0) where
   pub goal-below : l .head .goal < l .head .formulas
   goal-below = omega (arith, source .goal-is-formula, length-formulas l, goal-is)
 
+  effects-limit : l .head .effects ≤ 4096
+  effects-limit = omega (arith, source .limits .effects, length-effects l)
+
+  effects-down : EffectsDown (l .head .variables) (l .head .formulas) (effect-rows (frame-of (l .head) rows twins) (l .effects))
+  effects-down = rw its-effects at (rw (length-formulas l) at (rw its-variables at (rules-effects t source)))
+
+  -- the spans are found in a table of their own
+  pub finds : FindsSpans (frame-of (l .head) rows twins) (l .effects) (replicate 8192 0)
+  finds =
+      record {
+        words = long .effects;
+        limit = effects-limit;
+        down = effects-down;
+        room = omega (arith, effects-limit, length-replicate {A = ℕ} 8192 0);
+      }
+
   -- What the parts ask.
   module _ (effects : ℕ) (x : Tables) (b : Begins l rows twins effects x) where
     -- with a table of 0 in which rows are built
-    pub starts : Starts l rows twins effects x (replicate 20480 0)
-    starts =
+    pub starts : {spans : List ℕ} → Spans (frame-of (l .head) rows twins) (l .effects) spans → Starts l rows twins effects x spans (replicate 20480 0)
+    starts s =
         record {
           begins = b;
+          spanned = s;
           fresh =
               record {
                 room = omega (arith, length-replicate {A = ℕ} 20480 0);
@@ -188,8 +206,8 @@ module _ (l : Lent) (rows twins : ℕ) (passes : refusal l ≡ 0) where
               record {
                 words = long .effects;
                 memo = b .lends .memo;
-                limit = omega (arith, source .limits .effects, length-effects l);
-                down = rw its-effects at (rw (length-formulas l) at (rw its-variables at (rules-effects t source)));
+                limit = effects-limit;
+                down = effects-down;
               };
           twins = b .lends .twins-space;
           variables = b .lends .variables-limit;
@@ -204,13 +222,15 @@ module _ (l : Lent) (rows twins : ℕ) (passes : refusal l ≡ 0) where
     first-taken g = taken-none frame (l .formulas) (l .effects) (l .operators) blank-is g
 
   pub next-asks :
-      {table originals scratch : List ℕ} {p : Progress}
+      {spans table originals scratch : List ℕ} {p : Progress}
+      → Spans (frame-of (l .head) rows twins) (l .effects) spans
       → p .operators < l .head .operators
       → Taken (frame-of (l .head) rows twins) (l .formulas) (l .effects) (l .operators) (store table originals) scratch p
-      → Takes (frame-of (l .head) rows twins) (l .formulas) (l .effects) (l .operators) (store table originals) scratch p
-  next-asks {p = p} h k =
+      → Takes (frame-of (l .head) rows twins) (l .formulas) (l .effects) spans (l .operators) (store table originals) scratch p
+  next-asks {p = p} s h k =
       record {
         taken = k;
+        spanned = s;
         words = omega (arith, long .operators);
         limit = omega (arith, source .limits .operators, length-operators l);
         precondition = operator-known (p .operators) h .formula;
@@ -219,14 +239,15 @@ module _ (l : Lent) (rows twins : ℕ) (passes : refusal l ≡ 0) where
 
   -- what the last part asks, behind so many operators
   pub last-asks :
-      {effects : ℕ} {x : Tables} {built originals scratch : List ℕ} {p : Progress}
+      {effects : ℕ} {x : Tables} {spans built originals scratch : List ℕ} {p : Progress}
       → Begins l rows twins effects x
+      → Spans (frame-of (l .head) rows twins) (l .effects) spans
       → length originals ≡ length (x .twins)
       → length scratch ≡ length (x .scratch)
       → p .operators ≡ l .head .operators
       → Taken (frame-of (l .head) rows twins) (l .formulas) (l .effects) (l .operators) (store built originals) scratch p
-      → Ends l rows twins effects (record { initial = x .initial; twins = originals; formulas = x .formulas; effects = x .effects; operators = x .operators; scratch = scratch }) built p
-  last-asks {effects} {x} {built} {originals} {scratch} b w s all k =
+      → Ends l rows twins effects (record { initial = x .initial; twins = originals; formulas = x .formulas; effects = x .effects; operators = x .operators; scratch = scratch }) spans built p
+  last-asks {effects} {x} {spans} {built} {originals} {scratch} b spanned w s all k =
       record {
         lends =
             record {
@@ -253,6 +274,7 @@ module _ (l : Lent) (rows twins : ℕ) (passes : refusal l ≡ 0) where
               blank-effects = b .lends .blank-effects;
               blank-operators = b .lends .blank-operators;
             };
+        spanned = spanned;
         all = all;
         taken = k;
       }

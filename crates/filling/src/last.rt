@@ -34,6 +34,7 @@ pub fn finish(
     twins: &[u16],
     formulas: &[u16],
     effects: &[u16],
+    spans: &[u16],
     operators: &[u16],
     rows: usize,
     most: usize,
@@ -47,7 +48,7 @@ pub fn finish(
     scratch: &mut [u16],
     built: &mut [u16],
 ) -> Passes
-    requires { ⌜ Ends (lent head (now initial) (now twins) (now formulas) (now effects) (now operators)) rows most room (tables (now values) (now originals) (now table) (now out) (now written) (now scratch)) (now built) at ⌝ }
+    requires { ⌜ Ends (lent head (now initial) (now twins) (now formulas) (now effects) (now operators)) rows most room (tables (now values) (now originals) (now table) (now out) (now written) (now scratch)) (now spans) (now built) at ⌝ }
     ensures { λ r. ⌜ Fills (lent head (now (initial .entry)) (now (twins .entry)) (now (formulas .entry)) (now (effects .entry)) (now (operators .entry))) (tables (now (values .entry)) (now (originals .entry)) (now (table .entry)) (now (out .entry)) (now (written .entry)) (now (scratch .entry))) (tables (now (values .exit)) (now (originals .exit)) (now (table .exit)) (now (out .exit)) (now (written .exit)) (now (scratch .exit))) r ⌝ }
 {
     if at.full {
@@ -78,6 +79,7 @@ pub fn finish(
     let r = assemble_operators(
         formulas,
         effects,
+        spans,
         operators,
         head.operators as usize,
         frame,

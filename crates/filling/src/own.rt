@@ -1,11 +1,14 @@
-// Filling, with a table of its own in which rows are built.
+// Filling, with tables of its own: one in which rows are built, one for the spans of the effect rows.
 use crate::Passes;
 use crate::whole::fill_built;
+use formula_builder::Frame;
+use spans::find_spans;
 use task::Head;
 ghost use Rattle.task.specs.Table.{lent};
 ghost use Rattle.filling.specs.Fills.{tables, Begins, Fills};
 
-// That table has the words of 4,096 rows, a link for each, and the heads of 4,096 chains: 40 KiB, cleared.
+// The first has the words of 4,096 rows, a link for each, and the heads of 4,096 chains; the other two words for each of 4,096 effects: 56 KiB,
+// cleared.
 pub fn fill(
     head: Head,
     initial: &[u8],
@@ -27,12 +30,22 @@ pub fn fill(
     ensures { λ r. ⌜ Fills (lent head (now (initial .entry)) (now (twins .entry)) (now (formulas .entry)) (now (effects .entry)) (now (operators .entry))) (tables (now (values .entry)) (now (originals .entry)) (now (table .entry)) (now (out .entry)) (now (written .entry)) (now (scratch .entry))) (tables (now (values .exit)) (now (originals .exit)) (now (table .exit)) (now (out .exit)) (now (written .exit)) (now (scratch .exit))) r ⌝ }
 {
     let mut built = [0u16; 20480];
+    let mut spans = [0u16; 8192];
+    let frame = Frame {
+        variables: head.variables as usize,
+        formulas: head.formulas as usize,
+        effects: head.effects as usize,
+        rows: rows,
+        twins: most,
+    };
+    find_spans(effects, frame, &mut spans);
     fill_built(
         head,
         initial,
         twins,
         formulas,
         effects,
+        &spans,
         operators,
         rows,
         most,
