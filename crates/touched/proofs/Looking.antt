@@ -1,5 +1,5 @@
 -- Marking finds every variable that an effect touches. Assumes nothing.
-use Prim.Native.Nat.{ℕ, zero, suc, _+_, _*_, _≤_, _<_}
+use Prim.Native.Nat.{ℕ, zero, suc, _+_, _-_, _*_, _≤_, _<_}
 use native.Mathlib.Omega.{arith}
 use native.Mathlib.Decide.{decLt, ℕ-discrete}
 use mathlib.Core.Path.{_≡_, refl, sym, ap, _∙_}
@@ -11,7 +11,7 @@ use Rattle.formula_builder.specs.declared.Words.{Words}
 use Rattle.formula_builder.specs.declared.Frame.{Frame}
 use Rattle.formula_builder.specs.Held.{row-of}
 use Rattle.conditions.proofs.Alone.{idle-both, idle-under, idle-empty, idle-atom, both-within, under-within, atom-within}
-use Rattle.touched.specs.Touched.{Untouched, mark-place, LeftAlone, LooksAt, Looked, Marks}
+use Rattle.touched.specs.Touched.{Untouched, mark-place, Unmarked, LeftAlone, LooksAt, Looked, Marks}
 
 -- a mark that stands stays when another is made
 mark-keeps : (l : List ℕ) (k j : ℕ) → (getD l j 0 ≡ 0 → ⊥) → getD (set l k 1) j 0 ≡ 0 → ⊥
@@ -174,8 +174,29 @@ module _ (frame : Frame) (effects : List ℕ) (i : ℕ) (l touched : List ℕ) (
         ∙ getD-set-other one left j 1 0 (λ e. omega arith)
         ∙ gone-other frame l i room j (λ z. omega arith))
 
--- The loop's invariant: the rows from i on have been looked at.
-pub record Marking (frame : Frame) (effects : List ℕ) (e i : ℕ) (before scratch touched : List ℕ) : Type 0 where
+-- a mark taken away, and one made above
+zero-keeps : (l : List ℕ) (k j : ℕ) → getD l j 0 ≡ 0 → getD (set l k 0) j 0 ≡ 0
+zero-keeps [] k j h = h
+zero-keeps (x ∷ xs) zero zero h = refl
+zero-keeps (x ∷ xs) zero (suc j) h = h
+zero-keeps (x ∷ xs) (suc k) zero h = h
+zero-keeps (x ∷ xs) (suc k) (suc j) h = zero-keeps xs k j h
+
+pub unmarked-gone : (frame : Frame) (l : List ℕ) (i low : ℕ) → Unmarked frame l low → Unmarked frame (set l (mark-place frame i) 0) low
+unmarked-gone frame l i low u j h = zero-keeps l (mark-place frame i) (mark-place frame j) (u j h)
+
+pub unmarked-above :
+    (frame : Frame) (l : List ℕ) (d low r : ℕ)
+    → r ≤ d
+    → r ≤ low
+    → Unmarked frame l low
+    → Unmarked frame (set l (mark-place frame d) 1) r
+unmarked-above frame l d low r x y u j h =
+    getD-set-other l (mark-place frame d) (mark-place frame j) 1 0 (λ z. omega arith) ∙ u j (omega arith)
+
+-- The loop's invariant: the rows from i on have been looked at, and none below low is marked.
+pub record Marking (frame : Frame) (effects : List ℕ) (e i low : ℕ) (before scratch touched : List ℕ) : Type 0 where
+  pub lows : Unmarked frame scratch low
   pub bound : i ≤ e + 1
   pub long : length scratch ≡ length before
   pub goes :
@@ -189,9 +210,10 @@ pub record Marking (frame : Frame) (effects : List ℕ) (e i : ℕ) (before scra
 pub marking-begins :
     (frame : Frame) (effects : List ℕ) (e : ℕ) (before touched : List ℕ)
     → Marks frame effects before touched e
-    → Marking frame effects e (e + 1) before (set before (mark-place frame e) 1) touched
+    → Marking frame effects e (e + 1) e before (set before (mark-place frame e) 1) touched
 marking-begins frame effects e before touched m =
     record {
+      lows = unmarked-above frame before e e e (omega arith) (omega arith) (λ j h. m .clean (mark-place frame j) (omega arith));
       bound = omega arith;
       long = length-set before (mark-place frame e) 1;
       goes = λ formulas v t alone.
@@ -209,10 +231,10 @@ marking-begins frame effects e before touched m =
 
 -- what looking at row k asks
 pub marking-looks :
-    (frame : Frame) (effects : List ℕ) (e i k : ℕ) (before scratch touched first : List ℕ)
+    {low : ℕ} (frame : Frame) (effects : List ℕ) (e i k : ℕ) (before scratch touched first : List ℕ)
     → Marks frame effects before first e
     → length touched ≡ length first
-    → Marking frame effects e i before scratch touched
+    → Marking frame effects e i low before scratch touched
     → k < i
     → LooksAt frame effects scratch touched k
 marking-looks frame effects e i k before scratch touched first m same x h =
@@ -230,14 +252,16 @@ marking-looks frame effects e i k before scratch touched first m same x h =
     }
 
 pub marking-more :
-    (frame : Frame) (effects : List ℕ) (e i k : ℕ) (before scratch scratch' touched touched' : List ℕ)
+    {low next : ℕ} (frame : Frame) (effects : List ℕ) (e i k : ℕ) (before scratch scratch' touched touched' : List ℕ)
     → k + 1 ≡ i
     → length scratch' ≡ length scratch
-    → Marking frame effects e i before scratch touched
+    → Marking frame effects e i low before scratch touched
     → Looked frame effects k scratch scratch' touched touched'
-    → Marking frame effects e k before scratch' touched'
-marking-more frame effects e i k before scratch scratch' touched touched' n same x l =
+    → (Unmarked frame scratch low → Unmarked frame scratch' next)
+    → Marking frame effects e k next before scratch' touched'
+marking-more frame effects e i k before scratch scratch' touched touched' n same x l u =
     record {
+      lows = u (x .lows);
       bound = omega (arith, x .bound);
       long = same ∙ x .long;
       goes = λ formulas v t alone.
@@ -253,19 +277,26 @@ marking-more frame effects e i k before scratch scratch' touched touched' n same
         l .above j up ∙ x .above j (omega arith)
 
 pub marking-ends :
-    (frame : Frame) (effects : List ℕ) (e i : ℕ) (before scratch touched first : List ℕ)
+    {low : ℕ} (frame : Frame) (effects : List ℕ) (e i : ℕ) (before scratch touched first : List ℕ)
     → Marks frame effects before first e
-    → Marking frame effects e i before scratch touched
-    → i ≤ 0
+    → Marking frame effects e i low before scratch touched
+    → i ≤ low
     → (scratch ≡ before) × ((formulas : List ℕ) (v : ℕ) → getD touched v 0 ≡ 0 → Untouched frame formulas effects v e)
-marking-ends frame effects e i before scratch touched first m x z = (
+marking-ends {low} frame effects e i before scratch touched first m x z = (
   ext-getD 0 scratch before (x .long) (λ j h. go j (decLt j (2 * frame .formulas + frame .effects))),
-  λ formulas v t. x .goes formulas v t (λ j h k. absurd (omega arith)),
+  λ formulas v t. x .goes formulas v t (λ j h k. absurd (k (x .lows j (omega arith)))),
 )
   where
+    blank : (k : ℕ) → Dec (k < i) → getD scratch (mark-place frame k) 0 ≡ 0
+    blank k (yes b) = x .lows k (omega arith)
+    blank k (no b) = x .above (mark-place frame k) (omega arith)
+
     go : (j : ℕ) → Dec (j < 2 * frame .formulas + frame .effects) → getD scratch j 0 ≡ getD before j 0
     go j (yes b) = x .below j b
-    go j (no b) = x .above j (omega arith) ∙ sym (m .clean j (omega arith))
+    go j (no b) =
+        let k = j - (2 * frame .formulas + frame .effects) in
+        let e : mark-place frame k ≡ j = omega arith in
+        (rw e at (blank k (decLt k i))) ∙ sym (m .clean j (omega arith))
 
 -- the root's mark taken away again
 pub unmarked :

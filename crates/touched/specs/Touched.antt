@@ -11,6 +11,10 @@ pub use Rattle.conditions.specs.Conditions.{Untouched}
 abbrev pub mark-place : Frame → ℕ → ℕ
 mark-place frame j = 2 * frame .formulas + frame .effects + j
 
+-- no row below low is marked
+abbrev pub Unmarked : Frame → List ℕ → ℕ → Type 0
+Unmarked frame scratch low = (j : ℕ) → j < low → getD scratch (mark-place frame j) 0 ≡ 0
+
 -- each marked row below i leaves v alone
 abbrev pub LeftAlone : Frame → List ℕ → List ℕ → List ℕ → ℕ → ℕ → Type 0
 LeftAlone frame formulas effects scratch v i =
