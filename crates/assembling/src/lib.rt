@@ -1,6 +1,5 @@
-// The rules of the operators, written where all formulas are built: each row is found again, nothing is added.
+// The rules of the operators, written from what the walks recorded, once all formulas and twins are built.
 mod operator;
 mod sequence;
-mod variables;
 
 pub use sequence::assemble_operators;

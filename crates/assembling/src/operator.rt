@@ -1,101 +1,79 @@
 // One operator: its rules, and its row.
-use crate::variables::write_variables;
-use formula_builder::Frame;
-use formula_builder::Size;
 use formula_builder::Words;
-use images::image;
+use formula_builder::read_row;
 use rule_writer::Chain;
+use rule_writer::Changes;
+use rule_writer::Frame;
+use rule_writer::write_changes;
 use rule_writer::write_operator;
-use touched::touched_by;
+ghost use lib.ListN.{take};
 ghost use Rattle.normal_form.specs.Assembly.{rules};
-ghost use Rattle.formula_builder.specs.Held.{store, held, row-of};
-ghost use Rattle.rule_writer.proofs.Writing.{begun};
-ghost use Rattle.assembling.specs.Assembles.{changes-below, built-again, WritesEffect, WritesOperator, Same, Wrote, WroteOperator, Operator};
+ghost use Rattle.formula_builder.specs.Held.{row-of};
+ghost use Rattle.rule_writer.specs.Writes.{Writes};
+ghost use Rattle.assembling.specs.Assembles.{changes-between, built-of, WritesRecords, WritesOperator, WroteOperator};
 
-// The rules of effect e behind so many rows: the variables that it touches are marked, then walked.
-fn write_effect(
-    formulas: &[u16],
-    effects: &[u16],
-    spans: &[u16],
-    e: usize,
+// The rules of the changes recorded from k up to an end, behind what stands. For each change one search for its twin.
+fn write_records(
+    records: &[u16],
+    originals: &[u16],
+    k: usize,
+    end: usize,
     frame: Frame,
-    at: Size,
-    room: usize,
-    rows: usize,
-    table: &mut [u16],
-    originals: &mut [u16],
-    scratch: &mut [u16],
+    chain: Chain,
     out: &mut [u16],
 ) -> Chain
-    requires { ⌜ WritesEffect frame (now formulas) (now effects) (now spans) at (store (now table) (now originals)) (now scratch) e room (begun rows) (now out) ⌝ }
-    ensures { λ r. ⌜ Wrote (rules (frame .variables) (held at (store (now (table .entry)) (now (originals .entry))) .twins) (changes-below frame (now (formulas .entry)) (now (effects .entry)) e (held at (store (now (table .entry)) (now (originals .entry)))) (frame .variables))) frame (now (formulas .entry)) (now (effects .entry)) at (store (now (table .entry)) (now (originals .entry))) (store (now (table .exit)) (now (originals .exit))) (now (scratch .exit)) room (begun rows) (now (out .entry)) (now (out .exit)) r ⌝ }
+    requires { ⌜ WritesRecords frame (now records) (now originals) k end chain (now out) ⌝ }
+    ensures { λ r. ⌜ Writes (rules (frame .variables) (take (frame .twins) (now (originals .entry))) (changes-between (now (records .entry)) k end)) (frame .room) chain (now (out .entry)) (now (out .exit)) r ⌝ }
 {
-    let mut touched = [0u8; 512];
-    touched_by(effects, e, frame, scratch, &mut touched);
-    write_variables(
-        formulas,
-        effects,
-        spans,
-        e,
-        &touched,
+    let mut r = chain;
+    let mut i = k;
+    while i < end {
+        let w = read_row(records, 256 + i);
+        r = write_changes(
+            out,
+            originals,
+            frame,
+            r,
+            Changes {
+                variable: w.kind,
+                adds: w.a,
+                deletes: w.b,
+            },
+        );
+        i += 1;
+    }
+    r
+}
+
+// Operator o, its record being w and its changes recorded from k on, behind so many effect rows.
+pub fn assemble_operator(
+    records: &[u16],
+    originals: &[u16],
+    w: Words,
+    cost: u16,
+    o: usize,
+    k: usize,
+    frame: Frame,
+    rows: usize,
+    out: &mut [u16],
+    operators: &mut [u16],
+) -> Chain
+    requires { ⌜ WritesOperator frame (now records) (now originals) (row-of w) o k rows (now out) (now operators) ⌝ }
+    ensures { λ r. ⌜ WroteOperator (built-of (now (records .entry)) (row-of w) k cost) (frame .variables) (take (frame .twins) (now (originals .entry))) (frame .room) rows o r (now (out .entry)) (now (out .exit)) (now (operators .entry)) (now (operators .exit)) ⌝ }
+{
+    let r = write_records(
+        records,
+        originals,
+        k,
+        w.a as usize,
         frame,
-        at,
-        room,
         Chain {
             rows: rows,
             stands: 0,
             full: false,
         },
-        table,
-        originals,
-        scratch,
-        out,
-    )
-}
-
-// Operator o, its row being w, behind so many effect rows.
-pub fn assemble_operator(
-    formulas: &[u16],
-    effects: &[u16],
-    spans: &[u16],
-    w: Words,
-    o: usize,
-    frame: Frame,
-    at: Size,
-    room: usize,
-    rows: usize,
-    table: &mut [u16],
-    originals: &mut [u16],
-    scratch: &mut [u16],
-    out: &mut [u16],
-    operators: &mut [u16],
-) -> Chain
-    requires { ⌜ WritesOperator frame (now formulas) (now effects) (now spans) (row-of w) o at (store (now table) (now originals)) (now scratch) room (begun rows) (now out) (now operators) ⌝ }
-    ensures { λ r. ⌜ Operator frame (now (formulas .entry)) (now (effects .entry)) (row-of w) o at (store (now (table .entry)) (now (originals .entry))) (store (now (table .exit)) (now (originals .exit))) (now (scratch .exit)) room rows (now (out .entry)) (now (out .exit)) (now (operators .entry)) (now (operators .exit)) r ⌝ }
-{
-    let f = image(
-        formulas,
-        w.kind as usize,
-        frame,
-        at,
-        table,
-        originals,
-        scratch,
-    );
-    let r = write_effect(
-        formulas,
-        effects,
-        spans,
-        w.a as usize,
-        frame,
-        at,
-        room,
-        rows,
-        table,
-        originals,
-        scratch,
         out,
     );
-    write_operator(operators, o, f.row, r.stands, w.b);
+    write_operator(operators, o, w.kind, r.stands, cost);
     r
 }

@@ -1,48 +1,40 @@
 // All operators, in order.
 use crate::operator::assemble_operator;
-use formula_builder::Frame;
-use formula_builder::Size;
 use formula_builder::read_row;
 use rule_writer::Chain;
-ghost use Rattle.formula_builder.specs.Held.{store, held};
-ghost use Rattle.assembling.specs.Assembles.{assembled-again, Assembles, AssembledAll};
+use rule_writer::Frame;
+ghost use lib.ListN.{take};
+ghost use Rattle.assembling.specs.Assembles.{assembled-in, Assembles, AssembledAll};
 
-// Writes the rules and the rows of the first count operators into tables that are all 0; stops at the first rule without room.
+// Writes the rules and the rows of the first count operators into tables that are all 0; stops at the first operator whose rules have no
+// room. Nothing is built: one step for each change that was recorded, and its twin's search.
 pub fn assemble_operators(
-    formulas: &[u16],
-    effects: &[u16],
-    spans: &[u16],
     operators: &[u16],
+    records: &[u16],
+    originals: &[u16],
     count: usize,
     frame: Frame,
-    at: Size,
-    room: usize,
-    table: &mut [u16],
-    originals: &mut [u16],
-    scratch: &mut [u16],
     out: &mut [u16],
     written: &mut [u16],
 ) -> Chain
-    requires { ⌜ Assembles frame (now formulas) (now effects) (now spans) (now operators) count at (store (now table) (now originals)) (now scratch) room (now out) (now written) ⌝ }
-    ensures { λ r. ⌜ AssembledAll frame (now (formulas .entry)) (now (effects .entry)) (now (operators .entry)) count at (store (now (table .entry)) (now (originals .entry))) (store (now (table .exit)) (now (originals .exit))) (now (scratch .exit)) room (now (out .exit)) (now (written .exit)) r ⌝ }
+    requires { ⌜ Assembles frame (now operators) (now records) (now originals) count (now out) (now written) ⌝ }
+    ensures { λ r. ⌜ AssembledAll (assembled-in (frame .variables) (take (frame .twins) (now (originals .entry))) (now (operators .entry)) (now (records .entry)) count) (frame .room) count r (now (out .exit)) (now (written .exit)) ⌝ }
 {
     let mut rows = 1;
+    let mut k = 0;
     let mut o = 0;
     while o < count {
-        let w = read_row(operators, o);
+        let w = read_row(records, o);
+        let source = read_row(operators, o);
         let r = assemble_operator(
-            formulas,
-            effects,
-            spans,
-            w,
-            o,
-            frame,
-            at,
-            room,
-            rows,
-            table,
+            records,
             originals,
-            scratch,
+            w,
+            source.b,
+            o,
+            k,
+            frame,
+            rows,
             out,
             written,
         );
@@ -50,6 +42,7 @@ pub fn assemble_operators(
             return r;
         }
         rows = r.rows;
+        k = w.a as usize;
         o += 1;
     }
     Chain {

@@ -8,38 +8,48 @@ use mathlib.Core.List.{List, []}
 use lib.ListN.{length}
 use Rattle.task.specs.Table.{Row, row-at}
 use Rattle.normal_form.specs.Builder.{St, Got, give, bind, each, start, plain}
+use Rattle.normal_form.specs.Operators.{Changes}
+use Rattle.normal_form.proofs.Padded.{three}
 use Rattle.formula_builder.specs.declared.Words.{Words}
 use Rattle.formula_builder.specs.declared.Frame.{Frame}
 use Rattle.formula_builder.specs.declared.Step.{Step}
 use Rattle.formula_builder.specs.Index.{begun as first-two}
-use Rattle.formula_builder.specs.Held.{Store, store, row-of, held, size-of}
+use Rattle.formula_builder.specs.Held.{Store, store, row-of, held, Within}
 use Rattle.formula_builder.proofs.Indexing.{length-begun, begun-rows, begun-indexed}
 use Rattle.formula_builder.proofs.Steps.{within-before}
 use Rattle.images.specs.Images.{image-at, memo-place, Images, Asks}
 use Rattle.images.proofs.Memos.{steady-image-at}
-use Rattle.changes.specs.Stands.{Reaches}
 use Rattle.changes.proofs.Standing.{stands-next, makes-row}
-use Rattle.operators.specs.Operator.{operator-built, operators-built, operator-here, BuildsOperator}
+use Rattle.records.specs.Recorded.{Opens, Recorded}
+use Rattle.operators.specs.declared.Tally.{Tally}
+use Rattle.operators.specs.Operator.{operator-built, operators-built, operator-here, BuildsOperator, OperatorWalked}
 use Rattle.operators.proofs.InOrder.{more-grows}
 use Rattle.building.specs.declared.Progress.{Progress}
-use Rattle.building.specs.Taken.{size-at, Fresh, Started, Begun, Blank, Stood, Taken, Takes, Took, whole-built, FromStart}
+use Rattle.building.specs.Taken.{size-at, Fresh, Started, Begun, Blank, Stood, precondition-here, changes-here, many, Taken, Takes, Took, whole-built, FromStart}
+use Rattle.building.proofs.Kept.{many-more, none-kept, one-kept}
 
 abbrev pub begun : Progress
-begun = record { rows = 2; twins = 0; operators = 0; full = false }
+begun = record { rows = 2; twins = 0; operators = 0; records = 0; full = false }
+
+-- no room, so many operators taken
+abbrev pub stopped : ℕ → Progress
+stopped n = record { rows = 0; twins = 0; operators = n; records = 0; full = true }
 
 -- there is no room for false and true
-pub no-beginning : (frame : Frame) (table : List ℕ) (p : Progress) → frame .rows < 2 → p .operators ≡ 0 → p .full ≡ true → Begun frame table p
+pub no-beginning : (frame : Frame) (table : List ℕ) {p : Progress} → frame .rows < 2 → p ≡ stopped 0 → Begun frame table p
 unfolding start
-no-beginning frame table p h e q =
-    record {
-      none = e;
-      done = λ g. absurd (true≢false (sym q ∙ g));
+no-beginning frame table h e =
+    rw e
+    (record {
+      none = refl;
+      no-records = refl;
+      done = λ g. absurd (true≢false g);
       over = λ _ w. omega (arith, w .rows);
-    }
+    })
 
 pub beginning : (frame : Frame) (table : List ℕ) → Fresh frame table → 2 ≤ frame .rows → Begun frame (first-two table) begun
 beginning frame table b room =
-    record { none = refl; done = λ _. started; over = λ q _. true≢false (sym q) }
+    record { none = refl; no-records = refl; done = λ _. started; over = λ q _. true≢false (sym q) }
   where
     stand : (originals : List ℕ) → start ≡ held (size-at begun) (store (first-two table) originals)
     stand originals =
@@ -68,11 +78,11 @@ module _ (frame : Frame) (formulas effects operators : List ℕ) where
   none-taken n e = rw e refl
 
   pub taken-none :
-      {table originals scratch : List ℕ} {p : Progress}
+      {table originals scratch records : List ℕ} {p : Progress}
       → Blank frame formulas effects originals scratch
       → Begun frame table p
-      → Taken frame formulas effects operators (store table originals) scratch p
-  taken-none {table} {originals} {scratch} {p} b g =
+      → Taken frame formulas effects operators (store table originals) scratch records p
+  taken-none {table} {originals} {scratch} {records} {p} b g =
       record {
         done = λ q.
             let s = g .done q in
@@ -95,21 +105,26 @@ module _ (frame : Frame) (formulas effects operators : List ℕ) where
                     clean = λ j h. b .blank-scratch j;
                   };
             };
-        over = λ q w. g .over q (rw (none-taken (p .operators) (g .none)) at w);
+        kept = λ _. none-kept frame formulas effects operators records (p .operators) (p .records) (g .none) (g .no-records);
+        over = λ q w _. g .over q (rw (none-taken (p .operators) (g .none)) at w);
       }
 
-  module _ {spans : List ℕ} {s : Store} {scratch : List ℕ} {p : Progress} (t : Takes frame formulas effects spans operators s scratch p) where
+  module _ {spans : List ℕ} {s : Store} {scratch records : List ℕ} {p : Progress} (t : Takes frame formulas effects spans operators s scratch records p) where
     -- without room it stays so
-    pub took-full : {r : Progress} → p .full ≡ true → r .operators ≡ p .operators + 1 → r .full ≡ true → Took frame formulas effects operators s scratch p r
-    took-full {r} q e f =
-        record {
-          next = e;
+    pub took-full : {r : Progress} → p .full ≡ true → r ≡ stopped (p .operators + 1) → Took frame formulas effects operators s scratch records p r
+    took-full q e =
+        rw e
+        (record {
+          next = refl;
           taken =
               record {
-                done = λ g. absurd (true≢false (sym f ∙ g));
-                over = λ _ w. t .taken .over q (within-before (more-grows frame formulas effects operators start (p .operators)) (rw e at w));
+                done = λ g. absurd (true≢false g);
+                kept = λ g. absurd (true≢false g);
+                over = λ _ w few.
+                    t .taken .over q (within-before (more-grows frame formulas effects operators start (p .operators)) w)
+                    (omega (arith, many-more frame formulas effects operators (p .operators), few));
               };
-        }
+        })
 
     module _ (q : p .full ≡ false) (w : Words) (words : row-of w ≡ row-at operators (p .operators)) where
       stood : Stood (operators-built frame formulas effects operators (p .operators) start .st) frame formulas effects (size-at p) s scratch
@@ -132,42 +147,105 @@ module _ (frame : Frame) (formulas effects operators : List ℕ) where
           rw (add-one (p .operators))
           (ap (step (row-at operators (p .operators))) (stood .state) ∙ ap (λ (r : Row). step r (held (size-at p) s)) (sym words))
 
-      pub took :
-          {after : Store} {s2 : List ℕ} {r : Progress} (z : Step)
-          → Reaches (operator-built frame formulas effects (w .kind) (w .a)) frame formulas (size-at p) s after scratch s2 (z .full) (size-of z)
-          → length s2 ≡ length scratch
-          → r ≡ record { rows = z .rows; twins = z .twins; operators = p .operators + 1; full = z .full }
-          → Took frame formulas effects operators after s2 p r
-      took {after} {s2} {r} z y long e = rw e it-is
-        where
-          it-is : Took frame formulas effects operators after s2 p (record { rows = z .rows; twins = z .twins; operators = p .operators + 1; full = z .full })
-          it-is =
-              record {
+      pub opens : Opens (p .records) records
+      opens = record { room = t .room; limit = t .taken .kept q .limit }
+
+      here-changes :
+          changes-here frame formulas effects operators (p .operators)
+          ≡ operator-built frame formulas effects (w .kind) (w .a) (held (size-at p) s) .value
+      unfolding changes-here operator-here
+      here-changes =
+          let step : Row → St → List Changes = λ r m. operator-built frame formulas effects (r .kind) (r .a) m .value in
+          ap (step (row-at operators (p .operators))) (stood .state) ∙ ap (λ (r : Row). step r (held (size-at p) s)) (sym words)
+
+      here-precondition :
+          precondition-here frame formulas effects operators (p .operators)
+          ≡ image-at frame formulas plain (w .kind) (held (size-at p) s) .value
+      unfolding precondition-here
+      here-precondition =
+          let step : Row → St → ℕ = λ r m. image-at frame formulas plain (r .kind) m .value in
+          ap (step (row-at operators (p .operators))) (stood .state) ∙ ap (λ (r : Row). step r (held (size-at p) s)) (sym words)
+
+      module _ {after : Store} {s2 l : List ℕ} (z : Tally) (y : OperatorWalked frame formulas effects (w .kind) (w .a) (size-at p) s after scratch s2 (p .records) records l z) where
+        -- no room for its rows or twins
+        pub took-over : {r : Progress} → z .full ≡ true → r ≡ stopped (p .operators + 1) → Took frame formulas effects operators after s2 l p r
+        took-over g e =
+            rw e
+            (record {
+              next = refl;
+              taken =
+                  record {
+                    done = λ f. absurd (true≢false f);
+                    kept = λ f. absurd (true≢false f);
+                    over = λ _ v _. y .walked .reaches .over g (rw one-more at v);
+                  };
+            })
+
+        module _ (g : z .full ≡ false) where
+          recorded : Recorded (changes-here frame formulas effects operators (p .operators)) (p .records) records l (z .records)
+          recorded = rw here-changes (y .walked .recorded g)
+
+          -- none for its changes
+          pub took-many : {r : Progress} → 2048 < z .records → r ≡ stopped (p .operators + 1) → Took frame formulas effects operators after s2 l p r
+          took-many h e =
+              rw e
+              (record {
                 next = refl;
                 taken =
                     record {
-                      done = λ g.
-                          record { state = one-more ∙ y .done g .state; stands = stands-next (stood .stands) y g long };
-                      over = λ g v. y .over g (rw one-more at v);
+                      done = λ f. absurd (true≢false f);
+                      kept = λ f. absurd (true≢false f);
+                      over = λ _ _ few.
+                          omega (
+                            arith,
+                            h,
+                            few,
+                            recorded .count,
+                            t .taken .kept q .count,
+                            many-more frame formulas effects operators (p .operators),
+                          );
                     };
-              }
+              })
+
+          pub took :
+              {m : List ℕ} {r : Progress}
+              → z .records ≤ 2048
+              → length s2 ≡ length scratch
+              → length l ≡ length records
+              → m ≡ three l (p .operators) (z .row) (z .records) 0
+              → r ≡ record { rows = z .rows; twins = z .twins; operators = p .operators + 1; records = z .records; full = false }
+              → Took frame formulas effects operators after s2 m p r
+          took h long wide stored e =
+              rw (stored, e)
+              (record {
+                next = refl;
+                taken =
+                    record {
+                      done = λ _.
+                          record {
+                            state = one-more ∙ y .walked .reaches .done g .state;
+                            stands = stands-next (stood .stands) (y .walked .reaches) g long;
+                          };
+                      kept = λ _.
+                          one-kept frame formulas effects operators (t .taken .kept q) (t .limit) (omega (arith, t .room, wide)) recorded h
+                          (here-precondition ∙ y .precondition g);
+                      over = λ f _ _. true≢false (sym f);
+                    };
+              })
 
   -- The goal, behind all operators.
-  module _ {s : Store} {scratch : List ℕ} {p : Progress} (count goal : ℕ) (all : p .operators ≡ count) (t : Taken frame formulas effects operators s scratch p) where
+  module _ {s : Store} {scratch records : List ℕ} {p : Progress} (count goal : ℕ) (all : p .operators ≡ count) (t : Taken frame formulas effects operators s scratch records p) where
     pub operators-full :
-        {after : Store} {s2 : List ℕ} {z : Step}
-        → p .full ≡ true
-        → z .full ≡ true
-        → FromStart (whole-built frame formulas effects operators count goal) frame formulas effects after s2 z
+        p .full ≡ true
+        → Within frame (whole-built frame formulas effects operators count goal start .st)
+        → many frame formulas effects operators count ≤ 2048
+        → ⊥
     unfolding whole-built bind
-    operators-full q f =
-        record {
-          done = λ g. absurd (true≢false (sym f ∙ g));
-          over = λ _ w.
-              t .over q
-              (rw all
-              (within-before (steady-image-at frame formulas plain goal .grow (operators-built frame formulas effects operators count start .st)) w));
-        }
+    operators-full q w few =
+        t .over q
+        (rw all
+        (within-before (steady-image-at frame formulas plain goal .grow (operators-built frame formulas effects operators count start .st)) w))
+        (rw all few)
 
     module _ (q : p .full ≡ false) where
       before : operators-built frame formulas effects operators count start .st ≡ held (size-at p) s

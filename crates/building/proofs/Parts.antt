@@ -3,18 +3,20 @@ use Prim.Native.Nat.{ℕ, zero, suc, _<_}
 use native.Mathlib.Omega.{arith}
 use mathlib.Core.Path.{_≡_, refl, ap, _∙_}
 use lib.ListN.{length}
-use mathlib.Core.List.{List}
+use mathlib.Core.List.{List, [], _∷_, _++_}
 use Rattle.task.specs.Table.{Task, row-at}
 use Rattle.task.specs.Run.{operator-of, effect-of-operator}
 use Rattle.task.specs.Tree.{formula-of}
-use Rattle.normal_form.specs.Builder.{St, Got, Build, give, bind, each, plain}
+use Rattle.task.specs.Bounded.{upto}
+use Rattle.normal_form.specs.Builder.{St, Got, Build, give, bind, each, start, plain}
 use Rattle.normal_form.specs.Image.{image}
-use Rattle.normal_form.specs.Operators.{built-operator, parts}
+use Rattle.normal_form.specs.Operators.{Built, built-operator, parts}
 use Rattle.formula_builder.specs.declared.Frame.{Frame}
+use Rattle.formula_builder.proofs.Stored.{upto-same}
 use Rattle.images.specs.Images.{source-rows, tree, image-at}
 use Rattle.conditions.specs.Conditions.{effect-rows, effect-tree}
 use Rattle.operators.specs.Operator.{all-changes, operator-built, operator-here, operators-built}
-use Rattle.building.specs.Taken.{whole-built}
+use Rattle.building.specs.Taken.{precondition-here, changes-here, whole-built}
 
 -- steps that leave the same states leave the same state
 each-same :
@@ -27,6 +29,22 @@ each-same zero f g same s = refl
 each-same {A} {B} (suc n) f g same s =
     let before = each-same n f g (λ k h. same k (omega arith)) s in
     ap (λ (t : St). f n t .st) before ∙ same n (omega arith) (each n g s .st)
+
+-- the values of steps that are taken one after another
+each-upto :
+    {A : Type 0} (n : ℕ) (f : ℕ → Build A) (s : St) → each n f s .value ≡ upto n (λ k. f k (each k f s .st) .value)
+unfolding each bind give upto
+each-upto zero f s = refl
+each-upto {A} (suc n) f s = ap (λ (l : List A). l ++ (f n (each n f s .st) .value ∷ [])) (each-upto n f s)
+
+-- operator o, built where those before it are
+abbrev pub made-here : Frame → List ℕ → List ℕ → List ℕ → ℕ → Built
+made-here frame formulas effects operators o =
+    record {
+      precondition = precondition-here frame formulas effects operators o;
+      changes = changes-here frame formulas effects operators o;
+      cost = row-at operators o .b;
+    }
 
 -- The task t is what the tables hold.
 module _ (t : Task) (frame : Frame) (formulas effects operators : List ℕ) (count goal : ℕ) (variables : length (t .initial) ≡ frame .variables) (its-formulas : t .formulas ≡ source-rows frame formulas) (its-effects : t .effects ≡ effect-rows frame effects) (its-count : length (t .operators) ≡ count) (precondition : (o : ℕ) → o < count → operator-of t o .precondition ≡ row-at operators o .kind) (effect : (o : ℕ) → o < count → operator-of t o .effect ≡ row-at operators o .a) (its-goal : t .goal ≡ goal) where
@@ -62,3 +80,41 @@ module _ (t : Task) (frame : Frame) (formulas effects operators : List ℕ) (cou
   same-value s =
       ap (λ (m : Build ℕ). m (each (length (t .operators)) (built-operator t) s .st) .value) same-goal
       ∙ ap (λ (g : Got ℕ). g .value) (last s)
+
+  -- the operators
+  module _ (cost : (o : ℕ) → o < count → operator-of t o .cost ≡ row-at operators o .b) where
+    state-here :
+        (o : ℕ) → o < count → each o (built-operator t) start .st ≡ operators-built frame formulas effects operators o start .st
+    unfolding operators-built
+    state-here o h =
+        each-same o (built-operator t) (operator-here frame formulas effects operators) (λ k b. same-operator k (omega arith)) start
+
+    same-made :
+        (o : ℕ)
+        → o < count
+        → (s : St)
+        → built-operator t o s .value
+        ≡ record {
+          precondition = image-at frame formulas plain (row-at operators o .kind) s .value;
+          changes = operator-here frame formulas effects operators o s .value;
+          cost = row-at operators o .b;
+        }
+    unfolding built-operator operator-here operator-built all-changes image-at tree effect-tree effect-of-operator bind give
+    same-made o h s = rw (precondition o h, effect o h, cost o h, variables, its-formulas, its-effects)
+
+    its-made :
+        (o : ℕ)
+        → o < count
+        → built-operator t o (each o (built-operator t) start .st) .value ≡ made-here frame formulas effects operators o
+    unfolding precondition-here changes-here
+    its-made o h =
+        ap (λ (s : St). built-operator t o s .value) (state-here o h)
+        ∙ same-made o h (operators-built frame formulas effects operators o start .st)
+
+    pub same-operators-made : parts t start .value .operators ≡ upto count (made-here frame formulas effects operators)
+    unfolding parts bind give
+    same-operators-made =
+        each-upto (length (t .operators)) (built-operator t) start
+        ∙ ap (λ (n : ℕ). upto n (λ o. built-operator t o (each o (built-operator t) start .st) .value)) its-count
+        ∙ upto-same count (λ o. built-operator t o (each o (built-operator t) start .st) .value) (made-here frame formulas effects operators)
+        its-made

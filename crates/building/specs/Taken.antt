@@ -1,11 +1,12 @@
 -- Building in parts: what each part asks, and what stands behind it.
-use Prim.Native.Nat.{ℕ, _+_, _*_, _≤_, _<_}
+use Prim.Native.Nat.{ℕ, zero, suc, _+_, _*_, _≤_, _<_}
 use mathlib.Core.Path.{_≡_}
 use mathlib.Core.Bool.{true, false}
 use mathlib.Core.List.{List}
 use lib.ListN.{length, getD}
 use Rattle.task.specs.Table.{row-at}
 use Rattle.normal_form.specs.Builder.{St, Build, bind, start, plain}
+use Rattle.normal_form.specs.Operators.{Changes}
 use Rattle.formula_builder.specs.declared.Frame.{Frame}
 use Rattle.formula_builder.specs.declared.Size.{Size}
 use Rattle.formula_builder.specs.declared.Step.{Step}
@@ -13,7 +14,8 @@ use Rattle.formula_builder.specs.Held.{Store, store, held, size-of, RowsReady, 
 use Rattle.images.specs.Images.{image-at, Source}
 use Rattle.conditions.specs.Conditions.{EffectSource, Spans}
 use Rattle.changes.specs.Stands.{Stands}
-use Rattle.operators.specs.Operator.{operators-built}
+use Rattle.records.specs.Recorded.{acting, changes-from}
+use Rattle.operators.specs.Operator.{operator-here, operators-built}
 use Rattle.building.specs.declared.Progress.{Progress}
 
 abbrev pub size-at : Progress → Size
@@ -39,6 +41,7 @@ pub record Started (frame : Frame) (table : List ℕ) (p : Progress) : Type 0 wh
 -- It stands there, or there is no room for it; no operator is taken.
 pub record Begun (frame : Frame) (table : List ℕ) (p : Progress) : Type 0 where
   pub none : p .operators ≡ 0
+  pub no-records : p .records ≡ 0
   pub done : p .full ≡ false → Started frame table p
   pub over : p .full ≡ true → Within frame start → ⊥
 
@@ -56,26 +59,61 @@ pub record Stood (t : St) (frame : Frame) (formulas effects : List ℕ) (at : Si
   pub state : t ≡ held at s
   pub stands : Stands frame formulas effects at s scratch
 
--- So many operators are taken: the tables hold what building them gives from the start, or there is no room for it.
-pub record Taken (frame : Frame) (formulas effects operators : List ℕ) (s : Store) (scratch : List ℕ) (p : Progress) : Type 0 where
+-- Of operator o, built where those before it are: the row of its precondition, and its changes.
+unfoldable pub precondition-here : Frame → List ℕ → List ℕ → List ℕ → ℕ → ℕ
+precondition-here frame formulas effects operators o =
+    image-at frame formulas plain (row-at operators o .kind) (operators-built frame formulas effects operators o start .st) .value
+
+unfoldable pub changes-here : Frame → List ℕ → List ℕ → List ℕ → ℕ → List Changes
+changes-here frame formulas effects operators o =
+    operator-here frame formulas effects operators o (operators-built frame formulas effects operators o start .st) .value
+
+-- how many changes of the first n operators bring rules
+unfoldable pub many : Frame → List ℕ → List ℕ → List ℕ → ℕ → ℕ
+many frame formulas effects operators zero = 0
+many frame formulas effects operators (suc n) =
+    many frame formulas effects operators n + length (acting (changes-here frame formulas effects operators n))
+
+-- Operator o is recorded: its precondition, where its changes end, and the changes that bring rules.
+pub record Kept (frame : Frame) (formulas effects operators records : List ℕ) (o : ℕ) : Type 0 where
+  pub precondition : row-at records o .kind ≡ precondition-here frame formulas effects operators o
+  pub end : row-at records o .a ≡ many frame formulas effects operators (suc o)
+  pub changes :
+      changes-from records (many frame formulas effects operators o) (length (acting (changes-here frame formulas effects operators o)))
+      ≡ acting (changes-here frame formulas effects operators o)
+
+-- The first n are, with so many changes.
+pub record AllKept (frame : Frame) (formulas effects operators records : List ℕ) (n k : ℕ) : Type 0 where
+  pub count : k ≡ many frame formulas effects operators n
+  pub limit : k ≤ 2048
+  pub each : (o : ℕ) → o < n → Kept frame formulas effects operators records o
+
+-- So many operators are taken: the tables hold what building them gives from the start, and each is recorded; or there is no room for it.
+pub record Taken (frame : Frame) (formulas effects operators : List ℕ) (s : Store) (scratch records : List ℕ) (p : Progress) : Type 0 where
   pub done :
       p .full ≡ false
       → Stood (operators-built frame formulas effects operators (p .operators) start .st) frame formulas effects (size-at p) s scratch
-  pub over : p .full ≡ true → Within frame (operators-built frame formulas effects operators (p .operators) start .st) → ⊥
+  pub kept : p .full ≡ false → AllKept frame formulas effects operators records (p .operators) (p .records)
+  pub over :
+      p .full ≡ true
+      → Within frame (operators-built frame formulas effects operators (p .operators) start .st)
+      → many frame formulas effects operators (p .operators) ≤ 2048
+      → ⊥
 
 -- There is a next operator.
-pub record Takes (frame : Frame) (formulas effects spans operators : List ℕ) (s : Store) (scratch : List ℕ) (p : Progress) : Type 0 where
-  pub taken : Taken frame formulas effects operators s scratch p
+pub record Takes (frame : Frame) (formulas effects spans operators : List ℕ) (s : Store) (scratch records : List ℕ) (p : Progress) : Type 0 where
+  pub taken : Taken frame formulas effects operators s scratch records p
   pub spanned : Spans frame effects spans
   pub words : 3 * p .operators + 3 ≤ length operators
   pub limit : p .operators < 256
+  pub room : 6912 ≤ length records
   pub precondition : row-at operators (p .operators) .kind < frame .formulas
   pub effect : row-at operators (p .operators) .a < frame .effects
 
 -- It is taken.
-pub record Took (frame : Frame) (formulas effects operators : List ℕ) (s : Store) (scratch : List ℕ) (p r : Progress) : Type 0 where
+pub record Took (frame : Frame) (formulas effects operators : List ℕ) (s : Store) (scratch records : List ℕ) (p r : Progress) : Type 0 where
   pub next : r .operators ≡ p .operators + 1
-  pub taken : Taken frame formulas effects operators s scratch r
+  pub taken : Taken frame formulas effects operators s scratch records r
 
 -- the operators in order, the goal last
 unfoldable pub whole-built : Frame → List ℕ → List ℕ → List ℕ → ℕ → ℕ → Build ℕ

@@ -4,10 +4,11 @@ mod taking;
 pub use taking::begin;
 pub use taking::take_operator;
 
-// What stands between two parts: so many rows and twins, so many operators taken; or that there was no room.
+// What stands between two parts: so many rows and twins, so many operators taken and changes recorded; or that there was no room.
 pub struct Progress {
     pub rows: usize,
     pub twins: usize,
     pub operators: usize,
+    pub records: usize,
     pub full: bool,
 }

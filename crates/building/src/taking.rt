@@ -5,8 +5,24 @@ use formula_builder::Size;
 use formula_builder::first_rows;
 use formula_builder::read_row;
 use operators::build_operator;
+use rule_writer::store;
+ghost use mathlib.Core.Path.{_≡_};
+ghost use mathlib.Core.Bool.{true};
 ghost use Rattle.formula_builder.specs.Held.{store};
 ghost use Rattle.building.specs.Taken.{Fresh, Begun, Takes, Took};
+
+// No room, so many operators taken.
+fn no_room(taken: usize) -> Progress
+    ensures { λ r. ⌜ r ≡ record { rows = 0; twins = 0; operators = taken; records = 0; full = true } ⌝ }
+{
+    Progress {
+        rows: 0,
+        twins: 0,
+        operators: taken,
+        records: 0,
+        full: true,
+    }
+}
 
 // False and true, in a table that is all 0. Constant cost.
 pub fn begin(frame: Frame, table: &mut [u16]) -> Progress
@@ -14,24 +30,20 @@ pub fn begin(frame: Frame, table: &mut [u16]) -> Progress
     ensures { λ r. ⌜ Begun frame (now (table .exit)) r ⌝ }
 {
     if frame.rows < 2 {
-        return Progress {
-            rows: 0,
-            twins: 0,
-            operators: 0,
-            full: true,
-        };
+        return no_room(0);
     }
     first_rows(table);
     Progress {
         rows: 2,
         twins: 0,
         operators: 0,
+        records: 0,
         full: false,
     }
 }
 
-// The next operator: its precondition, then what it does to each variable that it touches; without room all stays as it is. Costs what
-// build_operator does: a walk over the effect for each variable touched, and the index finds each row.
+// The next operator: its precondition, then what it does to each variable that it touches, which is recorded for the rules. Without room
+// nothing more is built. Costs what build_operator does: a walk over the effect for each variable touched, and the index finds each row.
 pub fn take_operator(
     formulas: &[u16],
     effects: &[u16],
@@ -42,18 +54,14 @@ pub fn take_operator(
     table: &mut [u16],
     originals: &mut [u16],
     scratch: &mut [u16],
+    records: &mut [u16],
 ) -> Progress
-    requires { ⌜ Takes frame (now formulas) (now effects) (now spans) (now operators) (store (now table) (now originals)) (now scratch) at ⌝ }
-    ensures { λ r. ⌜ Took frame (now (formulas .entry)) (now (effects .entry)) (now (operators .entry)) (store (now (table .exit)) (now (originals .exit))) (now (scratch .exit)) at r ⌝ }
+    requires { ⌜ Takes frame (now formulas) (now effects) (now spans) (now operators) (store (now table) (now originals)) (now scratch) (now records) at ⌝ }
+    ensures { λ r. ⌜ Took frame (now (formulas .entry)) (now (effects .entry)) (now (operators .entry)) (store (now (table .exit)) (now (originals .exit))) (now (scratch .exit)) (now (records .exit)) at r ⌝ }
 {
     let next = at.operators + 1;
     if at.full {
-        return Progress {
-            rows: at.rows,
-            twins: at.twins,
-            operators: next,
-            full: true,
-        };
+        return no_room(next);
     }
     let w = read_row(operators, at.operators);
     let r = build_operator(
@@ -70,11 +78,21 @@ pub fn take_operator(
         table,
         originals,
         scratch,
+        at.records,
+        records,
     );
+    if r.full {
+        return no_room(next);
+    }
+    if 2048 < r.records {
+        return no_room(next);
+    }
+    store(records, at.operators, r.row, r.records as u16, 0);
     Progress {
         rows: r.rows,
         twins: r.twins,
         operators: next,
-        full: r.full,
+        records: r.records,
+        full: false,
     }
 }

@@ -11,7 +11,7 @@ use Rattle.task.specs.Table.{Row, Lent, Task, task-of, row-at}
 use Rattle.task.specs.Words.{words-of, operator-words, head-of}
 use Rattle.task.proofs.Bounded.{length-upto}
 use Rattle.task.proofs.Held.{length-operators, initial-held}
-use Rattle.normal_form.specs.Builder.{St, plain}
+use Rattle.normal_form.specs.Builder.{St, start, plain}
 use Rattle.normal_form.specs.Finished.{built, assembled, twin-values, finished}
 use Rattle.normal_form.specs.Compiled.{Fits, padded}
 use Rattle.normal_form.proofs.Growth.{grows-refl}
@@ -25,16 +25,16 @@ use Rattle.formula_builder.specs.declared.Step.{Step}
 use Rattle.formula_builder.specs.Held.{Store, store, held, size-of, Ready, Within}
 use Rattle.images.specs.Images.{image-at, Asks, Images}
 use Rattle.building.specs.declared.Progress.{Progress}
-use Rattle.building.specs.Taken.{size-at, whole-built, Whole, FromStart}
+use Rattle.building.specs.Taken.{size-at, AllKept, whole-built, Whole, FromStart}
 use Rattle.building.proofs.Begun.{operators-full, goal-asks, goal-built as goal-reached}
 use Rattle.rule_writer.specs.declared.Chain.{Chain}
 use Rattle.rule_writer.specs.Writes.{InitialReady}
-use Rattle.conditions.specs.Conditions.{Spans}
-use Rattle.assembling.specs.Assembles.{Holding, Assembles, Assembling, AssembledAll}
+use Rattle.assembling.specs.Assembles.{assembled-in, Holding, Assembles, AssembledAll}
 use Rattle.filling.specs.declared.Passes.{Passes}
 use Rattle.filling.specs.Fills.{Tables, room-of, frame-of, Lends, Ends, Fills}
 use Rattle.filling.proofs.Copied.{copied-rows}
-use Rattle.filling.proofs.Linked.{long, source, its-variables, state-built, goal-built, goal-below, operator-known, assembled-is}
+use Rattle.filling.proofs.Recalled.{in-order}
+use Rattle.filling.proofs.Linked.{long, source, its-variables, state-built, goal-built, goal-below, assembled-is, few-changes}
 
 module _ (l : Lent) (rows twins effects : ℕ) (x : Tables) (b : Lends l rows twins effects x) where
   abbrev t : Task
@@ -49,38 +49,46 @@ module _ (l : Lent) (rows twins effects : ℕ) (x : Tables) (b : Lends l rows tw
   fills-over : {y : Tables} {z : Passes} → z .full ≡ true → (Fits (finished (task-of l)) (room-of x) → ⊥) → Fills l x y z
   fills-over q n = record { done = λ e. absurd (true≢false (sym q ∙ e)); over = λ _ f. n f }
 
+  -- what fits is within the frame
+  built-within :
+      Fits (finished (task-of l)) (room-of x)
+      → Within (frame-of (l .head) rows twins)
+      (whole-built (frame-of (l .head) rows twins) (l .formulas) (l .effects) (l .operators) (l .head .operators) (l .head .goal) start .st)
+  built-within fit =
+      let w = building-within t (room-of x) rows twins effects allowed fit (built t .st) (grows-refl (built t .st)) in
+      let v : Within frame (built t .st) = record { rows = w .rows-within; twins = w .twins-within } in
+      rw (state-built l rows twins (b .passes)) at v
+
   pub building-full :
       {after : Store} {s2 : List ℕ} {r : Step} {y : Tables} {z : Passes}
       → FromStart (whole-built (frame-of (l .head) rows twins) (l .formulas) (l .effects) (l .operators) (l .head .operators) (l .head .goal)) (frame-of (l .head) rows twins) (l .formulas) (l .effects) after s2 r
       → r .full ≡ true
       → z .full ≡ true
       → Fills l x y z
-  building-full f q e =
-      fills-over e
-      (λ fit.
-      let w = building-within t (room-of x) rows twins effects allowed fit (built t .st) (grows-refl (built t .st)) in
-      let v : Within frame (built t .st) = record { rows = w .rows-within; twins = w .twins-within } in
-      f .over q (rw (state-built l rows twins (b .passes)) at v))
+  building-full f q e = fills-over e (λ fit. f .over q (built-within fit))
 
-  -- After the goal.
-  module _ {mid : Store} {s2 : List ℕ} {r : Step} (f : FromStart (whole-built (frame-of (l .head) rows twins) (l .formulas) (l .effects) (l .operators) (l .head .operators) (l .head .goal)) (frame-of (l .head) rows twins) (l .formulas) (l .effects) mid s2 r) (q : r .full ≡ false) where
+  -- After the goal, the operators being recorded.
+  module _ {mid : Store} {s2 records : List ℕ} {k : ℕ} {r : Step} (f : FromStart (whole-built (frame-of (l .head) rows twins) (l .formulas) (l .effects) (l .operators) (l .head .operators) (l .head .goal)) (frame-of (l .head) rows twins) (l .formulas) (l .effects) mid s2 r) (q : r .full ≡ false) (space : 6912 ≤ length records) (all : AllKept (frame-of (l .head) rows twins) (l .formulas) (l .effects) (l .operators) records (l .head .operators) k) where
     w : Whole (whole-built (frame-of (l .head) rows twins) (l .formulas) (l .effects) (l .operators) (l .head .operators) (l .head .goal)) (frame-of (l .head) rows twins) (l .formulas) (l .effects) mid s2 r
     w = f .done q
 
     held-is : held (size-of r) mid ≡ built (task-of l) .st
     held-is = sym (state-built l rows twins (b .passes) ∙ w .stood .state)
 
-    pub assembling-asks :
-        {spans : List ℕ}
-        → Spans (frame-of (l .head) rows twins) (l .effects) spans
-        → Assembles (frame-of (l .head) rows twins) (l .formulas) (l .effects) spans (l .operators) (l .head .operators) (size-of r) mid s2 effects (x .effects) (x .operators)
-    assembling-asks s =
+    ready : Ready (frame-of (l .head) rows twins) (size-of r) mid
+    ready = w .stood .stands .ready
+
+    pub assembling-asks : Assembles (record { variables = l .head .variables; twins = r .twins; room = effects }) (l .operators) records (mid .originals) (l .head .operators) (x .effects) (x .operators)
+    assembling-asks =
         record {
-          stands = w .stood .stands;
-          spanned = s;
           words = long l rows twins (b .passes) .operators;
           limit = omega (arith, source l rows twins (b .passes) .limits .operators, length-operators l);
-          knows = λ o h. rw held-is (operator-known l rows twins (b .passes) o h);
+          room = space;
+          in-order = λ o h.
+              in-order frame (l .formulas) (l .effects) (l .operators) records (l .head .operators) (all .each) o h
+              (omega (arith, all .count, all .limit));
+          twins = omega (arith, ready .twins, ready .originals);
+          variables = omega (arith, ready .twins, b .variables-limit);
           one = b .one-effect;
           rows-limit = b .effects-limit;
           space = b .effects-space;
@@ -89,10 +97,14 @@ module _ (l : Lent) (rows twins effects : ℕ) (x : Tables) (b : Lends l rows tw
           blank-operators = b .blank-operators;
         }
 
+    twins-held : take (r .twins) (mid .originals) ≡ built (task-of l) .st .twins
+    unfolding held
+    twins-held = ap (λ (s : St). s .twins) held-is
+
     -- After the rules.
-    module _ {after : Store} {s3 out outs : List ℕ} {c : Chain} (a : AssembledAll (frame-of (l .head) rows twins) (l .formulas) (l .effects) (l .operators) (l .head .operators) (size-of r) mid after s3 effects out outs c) where
-      assembles : Assembling (assembled (task-of l)) effects (l .head .operators) c out outs
-      assembles = rw (assembled-is l rows twins (b .passes)) (rw held-is at (a .assembles))
+    module _ {out outs : List ℕ} {c : Chain} (a : AssembledAll (assembled-in (l .head .variables) (take (r .twins) (mid .originals)) (l .operators) records (l .head .operators)) effects (l .head .operators) c out outs) where
+      assembles : AssembledAll (assembled (task-of l)) effects (l .head .operators) c out outs
+      assembles = rw (assembled-is l rows twins (b .passes) records k all) (rw twins-held at a)
 
       pub assembling-full : {y : Tables} {z : Passes} → c .full ≡ true → z .full ≡ true → Fills l x y z
       assembling-full full e = fills-over e (λ fit. assembles .over full (few fit))
@@ -106,27 +118,21 @@ module _ (l : Lent) (rows twins effects : ℕ) (x : Tables) (b : Lends l rows tw
         h : Holding (assembled (task-of l)) (c .rows) (l .head .operators) out outs
         h = assembles .done full
 
-        held-after : held (size-of r) after ≡ built (task-of l) .st
-        held-after = a .found .same ∙ held-is
-
-        ready : Ready (frame-of (l .head) rows twins) (size-of r) after
-        ready = a .found .stands .ready
-
-        rows-are : upto (r .rows) (row-at (after .table)) ≡ finished (task-of l) .formulas
+        rows-are : upto (r .rows) (row-at (mid .table)) ≡ finished (task-of l) .formulas
         unfolding finished held
-        rows-are = ap (λ (s : St). s .rows) held-after
+        rows-are = ap (λ (s : St). s .rows) held-is
 
-        twins-are : take (r .twins) (after .originals) ≡ finished (task-of l) .originals
+        twins-are : take (r .twins) (mid .originals) ≡ finished (task-of l) .originals
         unfolding finished held
-        twins-are = ap (λ (s : St). s .twins) held-after
+        twins-are = ap (λ (s : St). s .twins) held-is
 
         rows-many : length (finished (task-of l) .formulas) ≡ r .rows
-        rows-many = ap length (sym rows-are) ∙ length-upto (r .rows) (row-at (after .table))
+        rows-many = ap length (sym rows-are) ∙ length-upto (r .rows) (row-at (mid .table))
 
         twins-many : length (finished (task-of l) .originals) ≡ r .twins
         twins-many =
             ap length (sym twins-are)
-            ∙ length-take-le (r .twins) (after .originals) (omega (arith, ready .twins, ready .originals))
+            ∙ length-take-le (r .twins) (mid .originals) (omega (arith, ready .twins, ready .originals))
 
         effects-many : length (finished (task-of l) .effects) ≡ c .rows
         unfolding finished
@@ -151,7 +157,7 @@ module _ (l : Lent) (rows twins effects : ℕ) (x : Tables) (b : Lends l rows tw
               (omega (arith, effects-many, b .effects-limit)) (omega (arith, effects-many, b .effects-space))
               (omega (arith, length-operators l, b .operators-space))
 
-          pub initial-asks : InitialReady (l .initial) (after .originals) (x .initial) (l .head .variables) (r .twins)
+          pub initial-asks : InitialReady (l .initial) (mid .originals) (x .initial) (l .head .variables) (r .twins)
           initial-asks =
               let rules = finished-rules t (source l rows twins (b .passes)) (it-fits .limits) in
               let v = its-variables l rows twins (b .passes) in
@@ -160,7 +166,7 @@ module _ (l : Lent) (rows twins effects : ℕ) (x : Tables) (b : Lends l rows tw
                 twins = omega (arith, ready .twins, ready .originals);
                 space = omega (arith, ready .twins, b .initial-space);
                 below = λ k i.
-                    let at : getD (take (r .twins) (after .originals)) k 0 ≡ getD (after .originals) k 0 = getD-take (r .twins) (after .originals) k 0 i in
+                    let at : getD (take (r .twins) (mid .originals)) k 0 ≡ getD (mid .originals) k 0 = getD-take (r .twins) (mid .originals) k 0 i in
                     omega (
                       arith,
                       at,
@@ -173,7 +179,7 @@ module _ (l : Lent) (rows twins effects : ℕ) (x : Tables) (b : Lends l rows tw
               }
 
           -- what copying the rows asks
-          pub rows-there : 3 * r .rows ≤ length (after .table)
+          pub rows-there : 3 * r .rows ≤ length (mid .table)
           rows-there = omega (arith, rows-small, ready .rows .room)
 
           pub rows-fit : 3 * r .rows ≤ length (x .formulas)
@@ -181,13 +187,13 @@ module _ (l : Lent) (rows twins effects : ℕ) (x : Tables) (b : Lends l rows tw
 
           pub filled :
               {values table s4 : List ℕ} {z : Passes}
-              → table ≡ take (3 * r .rows) (after .table) ++ drop (3 * r .rows) (x .formulas)
-              → length (after .originals) ≡ length (x .twins)
+              → table ≡ take (3 * r .rows) (mid .table) ++ drop (3 * r .rows) (x .formulas)
+              → length (mid .originals) ≡ length (x .twins)
               → length out ≡ length (x .effects)
               → length outs ≡ length (x .operators)
-              → values ≡ (take (l .head .variables) (l .initial) ++ twin-values (take (l .head .variables) (l .initial)) (take (r .twins) (after .originals))) ++ drop (l .head .variables + r .twins) (x .initial)
+              → values ≡ (take (l .head .variables) (l .initial) ++ twin-values (take (l .head .variables) (l .initial)) (take (r .twins) (mid .originals))) ++ drop (l .head .variables + r .twins) (x .initial)
               → z ≡ record { rows = r .rows; twins = r .twins; effects = c .rows; goal = r .row; full = false }
-              → Fills l x (record { initial = values; twins = after .originals; formulas = table; effects = out; operators = outs; scratch = s4 }) z
+              → Fills l x (record { initial = values; twins = mid .originals; formulas = table; effects = out; operators = outs; scratch = s4 }) z
           filled {values} {table} {s4} copied long-originals long-out long-outs initial e = rw e it-is
             where
               p : Passes
@@ -222,7 +228,7 @@ module _ (l : Lent) (rows twins effects : ℕ) (x : Tables) (b : Lends l rows tw
                   ∙ ap (padded (length (x .initial))) words-are
                 where
                   words : List ℕ
-                  words = take (l .head .variables) (l .initial) ++ twin-values (take (l .head .variables) (l .initial)) (take (r .twins) (after .originals))
+                  words = take (l .head .variables) (l .initial) ++ twin-values (take (l .head .variables) (l .initial)) (take (r .twins) (mid .originals))
 
                   last :
                       take (l .head .variables) (l .initial) ++ twin-values (take (l .head .variables) (l .initial)) (finished (task-of l) .originals)
@@ -237,7 +243,7 @@ module _ (l : Lent) (rows twins effects : ℕ) (x : Tables) (b : Lends l rows tw
                   words-long : length words ≡ l .head .variables + r .twins
                   words-long = ap length words-are ∙ finished-variables t ∙ ap₂ (λ (m n : ℕ). m + n) v twins-many
 
-              it-is : Fills l x (record { initial = values; twins = after .originals; formulas = table; effects = out; operators = outs; scratch = s4 }) (record { rows = r .rows; twins = r .twins; effects = c .rows; goal = r .row; full = false })
+              it-is : Fills l x (record { initial = values; twins = mid .originals; formulas = table; effects = out; operators = outs; scratch = s4 }) (record { rows = r .rows; twins = r .twins; effects = c .rows; goal = r .row; full = false })
               it-is =
                   record {
                     done = λ _.
@@ -246,11 +252,11 @@ module _ (l : Lent) (rows twins effects : ℕ) (x : Tables) (b : Lends l rows tw
                           head = heads;
                           initial = initial-words;
                           twins =
-                              padded-front (after .originals) (r .twins) (omega (arith, ready .twins, ready .originals)) (ready .past-twins)
+                              padded-front (mid .originals) (r .twins) (omega (arith, ready .twins, ready .originals)) (ready .past-twins)
                               ∙ ap₂ padded long-originals twins-are;
                           formulas =
                               copied
-                              ∙ copied-rows (after .table) (x .formulas) (r .rows) rows-there rows-fit (b .blank-formulas)
+                              ∙ copied-rows (mid .table) (x .formulas) (r .rows) rows-there rows-fit (b .blank-formulas)
                               ∙ ap (λ (k : List Row). padded (length (x .formulas)) (words-of k)) rows-are;
                           effects = unfold finished in (h .effect-words ∙ ap (λ (m : ℕ). padded m (words-of (assembled (task-of l) .effects))) long-out);
                           operators = unfold finished in (h .held-operators ∙ ap (λ (m : ℕ). padded m (operator-words (assembled (task-of l) .operators))) long-outs);
@@ -259,16 +265,17 @@ module _ (l : Lent) (rows twins effects : ℕ) (x : Tables) (b : Lends l rows tw
                   }
 
 -- Up to the goal.
-module _ {spans : List ℕ} (l : Lent) (rows twins effects : ℕ) (x : Tables) (built : List ℕ) (p : Progress) (e : Ends l rows twins effects x spans built p) where
-  abbrev no-step : Step
-  no-step = record { rows = 0; twins = 0; row = 0; full = true }
-
+module _ (l : Lent) (rows twins effects : ℕ) (x : Tables) (built records : List ℕ) (p : Progress) (e : Ends l rows twins effects x built records p) where
   pub taken-full : {y : Tables} {z : Passes} → p .full ≡ true → z .full ≡ true → Fills l x y z
   taken-full q f =
-      building-full l rows twins effects x (e .lends) {after = store built (x .twins)} {s2 = x .scratch} {r = no-step}
-      (operators-full (frame-of (l .head) rows twins) (l .formulas) (l .effects) (l .operators) (l .head .operators) (l .head .goal) (e .all)
-      (e .taken) q refl)
-      refl f
+      fills-over l rows twins effects x (e .lends) f
+      (λ fit.
+      operators-full (frame-of (l .head) rows twins) (l .formulas) (l .effects) (l .operators) (l .head .operators) (l .head .goal) (e .all)
+      (e .taken) q (built-within l rows twins effects x (e .lends) fit)
+      (few-changes l rows twins (e .lends .passes) (fit .limits .effects)))
+
+  pub all-kept : p .full ≡ false → AllKept (frame-of (l .head) rows twins) (l .formulas) (l .effects) (l .operators) records (l .head .operators) (p .records)
+  all-kept q = rw (sym (e .all)) (e .taken .kept q)
 
   module _ (q : p .full ≡ false) where
     pub goal-ready : Asks (frame-of (l .head) rows twins) (l .formulas) (size-at p) (store built (x .twins)) (x .scratch) (l .head .goal)

@@ -1,3 +1,4 @@
+pub mod Recalled
 pub mod Linked
 pub mod Copied
 pub mod Filled

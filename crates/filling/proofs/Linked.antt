@@ -9,30 +9,27 @@ use Rattle.task.specs.Table.{Operator, Lent, Task, task-of, row-at, operator-at
 use Rattle.task.specs.Check.{refusal}
 use Rattle.task.specs.Words.{words-of}
 use Rattle.task.specs.Rules.{LongEnough, Rules}
-use Rattle.task.specs.Run.{operator-of, effect-of-operator}
-use Rattle.task.specs.Tree.{formula-of}
+use Rattle.task.specs.Run.{operator-of}
 use Rattle.task.proofs.Held.{length-initial, length-formulas, length-effects, length-operators, operator-held}
 use Rattle.task.proofs.Kept.{kept-rules}
 use Rattle.task.proofs.Trees.{EffectsDown, rules-formulas, rules-effects}
 use Rattle.normal_form.specs.Builder.{start, plain}
-use Rattle.normal_form.specs.Image.{image}
-use Rattle.normal_form.specs.Operators.{Built, changes-of, built-operator}
-use Rattle.normal_form.specs.Assembly.{assemble, unassembled}
+use Rattle.normal_form.specs.Assembly.{Assembled, assemble, unassembled}
 use Rattle.normal_form.specs.Finished.{built, assembled, finished}
 use Rattle.normal_form.specs.Compiled.{padded}
-use Rattle.normal_form.proofs.Again.{precondition-settled, changes-settled, operator-again, operators-again}
 use Rattle.formula_builder.specs.declared.Frame.{Frame}
-use Rattle.images.specs.Images.{source-rows, tree, image-at}
-use Rattle.conditions.specs.Conditions.{effect-rows, effect-tree, Spans}
+use Rattle.images.specs.Images.{source-rows}
+use Rattle.conditions.specs.Conditions.{effect-rows, Spans}
 use Rattle.formula_builder.specs.Held.{store}
 use Rattle.spans.specs.Found.{FindsSpans}
 use Rattle.building.specs.declared.Progress.{Progress}
-use Rattle.building.specs.Taken.{whole-built, Zeros, Fresh, Begun, Blank, Taken, Takes}
+use Rattle.building.specs.Taken.{many, AllKept, whole-built, Zeros, Fresh, Begun, Blank, Taken, Takes}
 use Rattle.building.proofs.Begun.{taken-none}
-use Rattle.building.proofs.Parts.{same-state, same-value}
-use Rattle.assembling.specs.Assembles.{changes-at, changes-below, built-again, all-again, assembled-again, Knows}
+use Rattle.building.proofs.Parts.{made-here, same-state, same-value, same-operators-made}
+use Rattle.assembling.specs.Assembles.{assembled-in}
 use Rattle.filling.specs.declared.Passes.{Passes}
 use Rattle.filling.specs.Fills.{Tables, room-of, frame-of, Begins, Starts, Ends, Fills}
+use Rattle.filling.proofs.Recalled.{recalled, made-more}
 
 zero-at : (n j : ℕ) → _≡_ {A = ℕ} (getD (replicate n 0) j 0) 0
 zero-at zero j = refl
@@ -41,12 +38,6 @@ zero-at (suc n) (suc j) = zero-at n j
 
 pub zeros : (l : List ℕ) → l ≡ replicate (length l) 0 → Zeros l
 zeros l e j = ap (λ (m : List ℕ). getD m j 0) e ∙ zero-at (length l) j
-
-upto-same : {A : Type 0} (n : ℕ) (f g : ℕ → A) → ((k : ℕ) → k < n → f k ≡ g k) → upto n f ≡ upto n g
-unfolding upto
-upto-same zero f g h = refl
-upto-same {A} (suc n) f g h =
-    ap₂ (λ (l : List A) (x : A). l ++ (x ∷ [])) (upto-same n f g (λ k b. h k (omega arith))) (h n (omega arith))
 
 module _ (l : Lent) (rows twins : ℕ) (passes : refusal l ≡ 0) where
   abbrev t : Task
@@ -109,53 +100,54 @@ module _ (l : Lent) (rows twins : ℕ) (passes : refusal l ≡ 0) where
     below : o < length (task-of l .operators)
     below = omega (arith, length-operators l)
 
-    image-is :
-        image (length (task-of l .initial)) plain (formula-of (task-of l .formulas) (operator-of (task-of l) o .precondition))
-        ≡ image-at (frame-of (l .head) rows twins) (l .formulas) plain (row-at (l .operators) o .kind)
-    unfolding image-at tree
-    image-is = rw (precondition-is o h, its-variables, its-formulas)
+    pub precondition-below : row-at (l .operators) o .kind < l .head .formulas
+    unfolding operator-of
+    precondition-below = omega (arith, precondition-is o h, source .operator o below .formula, length-formulas l)
 
-    changes-is :
-        changes-of (length (task-of l .initial)) (effect-of-operator (task-of l) o)
-        ≡ changes-at (frame-of (l .head) rows twins) (l .formulas) (l .effects) (row-at (l .operators) o .a)
-    unfolding changes-at effect-tree effect-of-operator
-    changes-is = rw (effect-is o h, its-variables, its-formulas, its-effects)
+    pub effect-below : row-at (l .operators) o .a < l .head .effects
+    unfolding operator-of
+    effect-below = omega (arith, effect-is o h, source .operator o below .changes, length-effects l)
 
-    pub operator-known : Knows (frame-of (l .head) rows twins) (l .formulas) (l .effects) (built (task-of l) .st) (row-at (l .operators) o)
-    operator-known =
-        let rule = source .operator o below in
-        record {
-          formula = formula-below;
-          effect = effect-below;
-          precondition = rw (sym image-is) (precondition-settled t o below);
-          changes = λ v b. rw (sym changes-is) (changes-settled t o below v (omega (arith, its-variables)));
-        }
-      where
-        formula-below : row-at (l .operators) o .kind < l .head .formulas
-        formula-below =
-            unfold operator-of in
-            omega (arith, precondition-is o h, source .operator o below .formula, length-formulas l)
-
-        effect-below : row-at (l .operators) o .a < l .head .effects
-        effect-below =
-            unfold operator-of in
-            omega (arith, effect-is o h, source .operator o below .changes, length-effects l)
-
-    its-again :
-        built-operator (task-of l) o (built (task-of l) .st) .value
-        ≡ built-again (frame-of (l .head) rows twins) (l .formulas) (l .effects) (built (task-of l) .st) (row-at (l .operators) o)
-    unfolding built-again changes-below
-    its-again =
-        operator-again t o below ∙ rw (image-is, changes-is, its-variables, cost-is o h)
-
-  pub assembled-is :
+  -- what is assembled is so from the operators that are built
+  assembled-made :
       assembled (task-of l)
-      ≡ assembled-again (frame-of (l .head) rows twins) (l .formulas) (l .effects) (l .operators) (built (task-of l) .st) (l .head .operators)
-  unfolding assembled assembled-again all-again
-  assembled-is =
-      rw (operators-again t, length-operators l, its-variables)
-      (ap (λ (b : List Built). assemble (l .head .variables) (built t .st .twins) unassembled b)
-      (upto-same (l .head .operators) _ _ its-again))
+      ≡ assemble (l .head .variables) (built (task-of l) .st .twins) unassembled
+      (upto (l .head .operators) (made-here (frame-of (l .head) rows twins) (l .formulas) (l .effects) (l .operators)))
+  unfolding assembled
+  assembled-made =
+      rw its-variables
+      (ap (assemble (l .head .variables) (built t .st .twins) unassembled) all-made)
+    where
+      all-made :
+          built (task-of l) .value .operators
+          ≡ upto (l .head .operators) (made-here (frame-of (l .head) rows twins) (l .formulas) (l .effects) (l .operators))
+      all-made =
+          unfold built in
+          same-operators-made t frame (l .formulas) (l .effects) (l .operators) (l .head .operators) (l .head .goal) its-variables its-formulas
+          its-effects (length-operators l) precondition-is effect-is goal-is cost-is
+
+  -- and from what was recorded of them
+  pub assembled-is :
+      (records : List ℕ) (k : ℕ)
+      → AllKept (frame-of (l .head) rows twins) (l .formulas) (l .effects) (l .operators) records (l .head .operators) k
+      → assembled (task-of l) ≡ assembled-in (l .head .variables) (built (task-of l) .st .twins) (l .operators) records (l .head .operators)
+  assembled-is records k all =
+      assembled-made
+      ∙ sym
+      (recalled frame (l .formulas) (l .effects) (l .operators) records (l .head .operators) (all .each) (l .head .variables)
+      (built t .st .twins))
+
+  pub few-changes :
+      length (finished (task-of l) .effects) ≤ 4096
+      → many (frame-of (l .head) rows twins) (l .formulas) (l .effects) (l .operators) (l .head .operators) ≤ 2048
+  unfolding finished
+  few-changes h =
+      omega (
+        arith,
+        h,
+        ap (λ (a : Assembled). length (a .effects)) assembled-made,
+        made-more frame (l .formulas) (l .effects) (l .operators) (l .head .variables) (built t .st .twins) (l .head .operators),
+      )
 
   pub goal-below : l .head .goal < l .head .formulas
   goal-below = omega (arith, source .goal-is-formula, length-formulas l, goal-is)
@@ -178,8 +170,11 @@ module _ (l : Lent) (rows twins : ℕ) (passes : refusal l ≡ 0) where
 
   -- What the parts ask.
   module _ (effects : ℕ) (x : Tables) (b : Begins l rows twins effects x) where
-    -- with a table of 0 in which rows are built
-    pub starts : {spans : List ℕ} → Spans (frame-of (l .head) rows twins) (l .effects) spans → Starts l rows twins effects x spans (replicate 20480 0)
+    -- with a table of 0 in which rows are built, and one for records
+    pub starts :
+        {spans : List ℕ}
+        → Spans (frame-of (l .head) rows twins) (l .effects) spans
+        → Starts l rows twins effects x spans (replicate 20480 0) (replicate 6912 0)
     starts s =
         record {
           begins = b;
@@ -190,6 +185,7 @@ module _ (l : Lent) (rows twins : ℕ) (passes : refusal l ≡ 0) where
                 limit = b .lends .rows-limit;
                 blank = zero-at 20480;
               };
+          space = omega (arith, length-replicate {A = ℕ} 6912 0);
         }
 
     blank-is : Blank (frame-of (l .head) rows twins) (l .formulas) (l .effects) (x .twins) (x .scratch)
@@ -216,38 +212,40 @@ module _ (l : Lent) (rows twins : ℕ) (passes : refusal l ≡ 0) where
         }
 
     pub first-taken :
-        {table : List ℕ} {p : Progress}
+        {table records : List ℕ} {p : Progress}
         → Begun (frame-of (l .head) rows twins) table p
-        → Taken (frame-of (l .head) rows twins) (l .formulas) (l .effects) (l .operators) (store table (x .twins)) (x .scratch) p
+        → Taken (frame-of (l .head) rows twins) (l .formulas) (l .effects) (l .operators) (store table (x .twins)) (x .scratch) records p
     first-taken g = taken-none frame (l .formulas) (l .effects) (l .operators) blank-is g
 
   pub next-asks :
-      {spans table originals scratch : List ℕ} {p : Progress}
+      {spans table originals scratch records : List ℕ} {p : Progress}
       → Spans (frame-of (l .head) rows twins) (l .effects) spans
       → p .operators < l .head .operators
-      → Taken (frame-of (l .head) rows twins) (l .formulas) (l .effects) (l .operators) (store table originals) scratch p
-      → Takes (frame-of (l .head) rows twins) (l .formulas) (l .effects) spans (l .operators) (store table originals) scratch p
-  next-asks {p = p} s h k =
+      → 6912 ≤ length records
+      → Taken (frame-of (l .head) rows twins) (l .formulas) (l .effects) (l .operators) (store table originals) scratch records p
+      → Takes (frame-of (l .head) rows twins) (l .formulas) (l .effects) spans (l .operators) (store table originals) scratch records p
+  next-asks {p = p} s h space k =
       record {
         taken = k;
         spanned = s;
         words = omega (arith, long .operators);
         limit = omega (arith, source .limits .operators, length-operators l);
-        precondition = operator-known (p .operators) h .formula;
-        effect = operator-known (p .operators) h .effect;
+        room = space;
+        precondition = precondition-below (p .operators) h;
+        effect = effect-below (p .operators) h;
       }
 
   -- what the last part asks, behind so many operators
   pub last-asks :
-      {effects : ℕ} {x : Tables} {spans built originals scratch : List ℕ} {p : Progress}
+      {effects : ℕ} {x : Tables} {built originals scratch records : List ℕ} {p : Progress}
       → Begins l rows twins effects x
-      → Spans (frame-of (l .head) rows twins) (l .effects) spans
       → length originals ≡ length (x .twins)
       → length scratch ≡ length (x .scratch)
       → p .operators ≡ l .head .operators
-      → Taken (frame-of (l .head) rows twins) (l .formulas) (l .effects) (l .operators) (store built originals) scratch p
-      → Ends l rows twins effects (record { initial = x .initial; twins = originals; formulas = x .formulas; effects = x .effects; operators = x .operators; scratch = scratch }) spans built p
-  last-asks {effects} {x} {spans} {built} {originals} {scratch} b spanned w s all k =
+      → 6912 ≤ length records
+      → Taken (frame-of (l .head) rows twins) (l .formulas) (l .effects) (l .operators) (store built originals) scratch records p
+      → Ends l rows twins effects (record { initial = x .initial; twins = originals; formulas = x .formulas; effects = x .effects; operators = x .operators; scratch = scratch }) built records p
+  last-asks {effects} {x} {built} {originals} {scratch} b w s all space k =
       record {
         lends =
             record {
@@ -274,9 +272,9 @@ module _ (l : Lent) (rows twins : ℕ) (passes : refusal l ≡ 0) where
               blank-effects = b .lends .blank-effects;
               blank-operators = b .lends .blank-operators;
             };
-        spanned = spanned;
         all = all;
         taken = k;
+        space = space;
       }
 
 -- tables as long are filled alike

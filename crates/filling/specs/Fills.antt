@@ -73,18 +73,19 @@ pub record Begins (l : Lent) (rows twins effects : ℕ) (x : Tables) : Type 0 wh
   pub blank-twins : x .twins ≡ replicate (length (x .twins)) 0
   pub blank-scratch : x .scratch ≡ replicate (length (x .scratch)) 0
 
--- All tables are 0, and the one in which rows are built; the spans of the effect rows are known.
-pub record Starts (l : Lent) (rows twins effects : ℕ) (x : Tables) (spans built : List ℕ) : Type 0 where
+-- All tables are 0, and the one in which rows are built; the spans of the effect rows are known, and there is room for records.
+pub record Starts (l : Lent) (rows twins effects : ℕ) (x : Tables) (spans built records : List ℕ) : Type 0 where
   pub begins : Begins l rows twins effects x
   pub spanned : Spans (frame-of (l .head) rows twins) (l .effects) spans
   pub fresh : Fresh (frame-of (l .head) rows twins) built
+  pub space : 6912 ≤ length records
 
 -- All operators are taken.
-pub record Ends (l : Lent) (rows twins effects : ℕ) (x : Tables) (spans built : List ℕ) (p : Progress) : Type 0 where
+pub record Ends (l : Lent) (rows twins effects : ℕ) (x : Tables) (built records : List ℕ) (p : Progress) : Type 0 where
   pub lends : Lends l rows twins effects x
-  pub spanned : Spans (frame-of (l .head) rows twins) (l .effects) spans
   pub all : p .operators ≡ l .head .operators
-  pub taken : Taken (frame-of (l .head) rows twins) (l .formulas) (l .effects) (l .operators) (store built (x .twins)) (x .scratch) p
+  pub taken : Taken (frame-of (l .head) rows twins) (l .formulas) (l .effects) (l .operators) (store built (x .twins)) (x .scratch) records p
+  pub space : 6912 ≤ length records
 
 -- The tables hold the finished task, which fits.
 pub record Holds (l : Lent) (x y : Tables) (r : Passes) : Type 0 where

@@ -27,14 +27,13 @@ fn full() -> Passes
 }
 
 // All operators are taken: builds the goal, then writes the rules, the operators and the initial values, and copies the rows that were
-// built. Stops at the first row without room. A second walk over every operator, as costly as the first at most, since every row is found.
+// built. Stops at the first row without room. Costs the goal's image, and one step for each change that was recorded.
 pub fn finish(
     head: Head,
     initial: &[u8],
     twins: &[u16],
     formulas: &[u16],
     effects: &[u16],
-    spans: &[u16],
     operators: &[u16],
     rows: usize,
     most: usize,
@@ -47,8 +46,9 @@ pub fn finish(
     written: &mut [u16],
     scratch: &mut [u16],
     built: &mut [u16],
+    records: &[u16],
 ) -> Passes
-    requires { ⌜ Ends (lent head (now initial) (now twins) (now formulas) (now effects) (now operators)) rows most room (tables (now values) (now originals) (now table) (now out) (now written) (now scratch)) (now spans) (now built) at ⌝ }
+    requires { ⌜ Ends (lent head (now initial) (now twins) (now formulas) (now effects) (now operators)) rows most room (tables (now values) (now originals) (now table) (now out) (now written) (now scratch)) (now built) (now records) at ⌝ }
     ensures { λ r. ⌜ Fills (lent head (now (initial .entry)) (now (twins .entry)) (now (formulas .entry)) (now (effects .entry)) (now (operators .entry))) (tables (now (values .entry)) (now (originals .entry)) (now (table .entry)) (now (out .entry)) (now (written .entry)) (now (scratch .entry))) (tables (now (values .exit)) (now (originals .exit)) (now (table .exit)) (now (out .exit)) (now (written .exit)) (now (scratch .exit))) r ⌝ }
 {
     if at.full {
@@ -77,20 +77,15 @@ pub fn finish(
         return full();
     }
     let r = assemble_operators(
-        formulas,
-        effects,
-        spans,
         operators,
-        head.operators as usize,
-        frame,
-        Size {
-            rows: g.rows,
-            twins: g.twins,
-        },
-        room,
-        built,
+        records,
         originals,
-        scratch,
+        head.operators as usize,
+        rule_writer::Frame {
+            variables: head.variables as usize,
+            twins: g.twins,
+            room: room,
+        },
         out,
         written,
     );

@@ -1,4 +1,4 @@
-// Filling, with tables of its own: one in which rows are built, one for the spans of the effect rows.
+// Filling, with three tables of its own: one in which rows are built, one of records, one of the spans of effect rows.
 use crate::Passes;
 use crate::whole::fill_built;
 use formula_builder::Frame;
@@ -7,8 +7,8 @@ use task::Head;
 ghost use Rattle.task.specs.Table.{lent};
 ghost use Rattle.filling.specs.Fills.{tables, Begins, Fills};
 
-// The first has the words of 4,096 rows, a link for each, and the heads of 4,096 chains; the other two words for each of 4,096 effects: 56 KiB,
-// cleared.
+// The first has the words of 4,096 rows, a link for each, and the heads of 4,096 chains: 40 KiB, cleared. The second has three words for
+// each of 256 operators and 2,048 changes: 13.5 KiB, cleared. The third has two for each of 4,096 effects: 16 KiB, cleared.
 pub fn fill(
     head: Head,
     initial: &[u8],
@@ -30,6 +30,7 @@ pub fn fill(
     ensures { λ r. ⌜ Fills (lent head (now (initial .entry)) (now (twins .entry)) (now (formulas .entry)) (now (effects .entry)) (now (operators .entry))) (tables (now (values .entry)) (now (originals .entry)) (now (table .entry)) (now (out .entry)) (now (written .entry)) (now (scratch .entry))) (tables (now (values .exit)) (now (originals .exit)) (now (table .exit)) (now (out .exit)) (now (written .exit)) (now (scratch .exit))) r ⌝ }
 {
     let mut built = [0u16; 20480];
+    let mut records = [0u16; 6912];
     let mut spans = [0u16; 8192];
     let frame = Frame {
         variables: head.variables as usize,
@@ -57,5 +58,6 @@ pub fn fill(
         written,
         scratch,
         &mut built,
+        &mut records,
     )
 }

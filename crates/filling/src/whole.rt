@@ -9,7 +9,7 @@ ghost use Rattle.task.specs.Table.{lent};
 ghost use Rattle.filling.specs.Fills.{tables, Starts, Fills};
 
 // Begins, takes the operators in order, finishes. The tables have room for so many rows, twins and effect rows; rows are built in a table
-// of their own, which has their index. Costs what its parts do, twice a walk over every operator.
+// of their own, which has their index. Costs what its parts do: one walk over every operator.
 pub fn fill_built(
     head: Head,
     initial: &[u8],
@@ -28,8 +28,9 @@ pub fn fill_built(
     written: &mut [u16],
     scratch: &mut [u16],
     built: &mut [u16],
+    records: &mut [u16],
 ) -> Passes
-    requires { ⌜ Starts (lent head (now initial) (now twins) (now formulas) (now effects) (now operators)) rows most room (tables (now values) (now originals) (now table) (now out) (now written) (now scratch)) (now spans) (now built) ⌝ }
+    requires { ⌜ Starts (lent head (now initial) (now twins) (now formulas) (now effects) (now operators)) rows most room (tables (now values) (now originals) (now table) (now out) (now written) (now scratch)) (now spans) (now built) (now records) ⌝ }
     ensures { λ r. ⌜ Fills (lent head (now (initial .entry)) (now (twins .entry)) (now (formulas .entry)) (now (effects .entry)) (now (operators .entry))) (tables (now (values .entry)) (now (originals .entry)) (now (table .entry)) (now (out .entry)) (now (written .entry)) (now (scratch .entry))) (tables (now (values .exit)) (now (originals .exit)) (now (table .exit)) (now (out .exit)) (now (written .exit)) (now (scratch .exit))) r ⌝ }
 {
     let frame = Frame {
@@ -52,6 +53,7 @@ pub fn fill_built(
             built,
             originals,
             scratch,
+            records,
         );
     }
     finish(
@@ -60,7 +62,6 @@ pub fn fill_built(
         twins,
         formulas,
         effects,
-        spans,
         operators,
         rows,
         most,
@@ -73,5 +74,6 @@ pub fn fill_built(
         written,
         scratch,
         built,
+        records,
     )
 }

@@ -20,10 +20,14 @@ use Rattle.formula_builder.specs.Held.{Store, held, size-of, Ready, Within}
 use Rattle.formula_builder.proofs.Steps.{within-before}
 use Rattle.images.specs.Images.{image-at, Memo, Images, Asks}
 use Rattle.conditions.specs.Conditions.{effect-tree, condition-at}
-use Rattle.changes.specs.Stands.{Stands, StandsAt, Reached, Reaches, Makes}
+use Rattle.changes.specs.Stands.{Stands, StandsAt, Reached, Reaches, Makes, made}
 use Rattle.changes.proofs.Standing.{stands-next, makes-row}
 use Rattle.touched.specs.Touched.{Untouched, LooksAt, Marks}
-use Rattle.operators.specs.Operator.{all-changes, operator-built, WalksVariable, WalksAll, BuildsOperator}
+use Rattle.changes.specs.declared.Change.{Change}
+use Rattle.records.specs.Recorded.{Recorded}
+use Rattle.records.proofs.Keeping.{recorded-none, recorded-more}
+use Rattle.operators.specs.declared.Tally.{Tally}
+use Rattle.operators.specs.Operator.{all-changes, operator-built, WalksVariable, WalksAll, BuildsOperator, size-behind, Walked, OperatorWalked}
 
 folded :
     (n v : ℕ) (tree : Effect)
@@ -76,6 +80,10 @@ pub passed-over :
 passed-over frame formulas effects at s scratch e v a u =
     rw (untouched-changes frame formulas effects v e u) (makes-give _ (a .stands))
 
+as-recorded :
+    {cs ds : List Changes} {from to : ℕ} {l n : List ℕ} → cs ≡ ds → Recorded ds from l n to → Recorded cs from l n to
+as-recorded e r = rw e r
+
 -- The loop over the variables.
 module _ (frame : Frame) (formulas effects : List ℕ) (e : ℕ) where
   pub changes-none :
@@ -84,6 +92,13 @@ module _ (frame : Frame) (formulas effects : List ℕ) (e : ℕ) where
       → Reaches (all-changes frame formulas effects e 0) frame formulas at s s scratch scratch false at
   unfolding all-changes each
   changes-none a = makes-give [] a .reaches
+
+  -- none is recorded
+  pub none-recorded :
+      (at : Size) (s : Store) (from : ℕ) (l : List ℕ)
+      → Recorded (all-changes frame formulas effects e 0 (held at s) .value) from l l from
+  unfolding all-changes each give
+  none-recorded at s from l = recorded-none from l
 
   module _ {at : Size} {before mid : Store} {s1 s2 : List ℕ} {here : Size} (v : ℕ) (x : Reaches (all-changes frame formulas effects e v) frame formulas at before mid s1 s2 false here) where
     pub changes-more :
@@ -102,6 +117,21 @@ module _ (frame : Frame) (formulas effects : List ℕ) (e : ℕ) where
           over = λ q w. y .over q (rw same at w);
           rest = λ j h. y .rest j h ∙ x .rest j h;
         })
+
+    pub more-recorded :
+        {after : Store} {s3 : List ℕ} {full : Bool} {next : Size} {from k to : ℕ} {l m n : List ℕ} (c : Change)
+        → Recorded (all-changes frame formulas effects e v (held at before) .value) from l m k
+        → Makes (changes-of (frame .variables) (effect-tree frame formulas effects e) v) frame formulas here mid after s2 s3 full next (made v c)
+        → full ≡ false
+        → Recorded (made v c ∷ []) k m n to
+        → Recorded (all-changes frame formulas effects e (v + 1) (held at before) .value) from l n to
+    unfolding all-changes each bind give
+    more-recorded {from = from} {to = to} {l = l} {n = n} c r y q z =
+        let all = each v (changes-of (frame .variables) (effect-tree frame formulas effects e)) (held at before) in
+        let step : St → Changes = λ t. changes-of (frame .variables) (effect-tree frame formulas effects e) v t .value in
+        let last : step (all .st) ≡ made v c = ap step (x .done refl .state) ∙ y .value q in
+        let same = ap (λ (d : Changes). all .value ++ (d ∷ [])) last in
+        rw (add-one v) (as-recorded same (recorded-more r z))
 
   -- no room for a part is no room for all
   pub changes-stop :
@@ -122,16 +152,24 @@ module _ (frame : Frame) (formulas effects : List ℕ) (e : ℕ) where
         rest = x .rest;
       }
 
+  pub all-walked :
+      {at : Size} {before after : Store} {s1 s2 : List ℕ} {from : ℕ} {l m : List ℕ} (r : Tally) (v n : ℕ)
+      → v ≡ n
+      → Reaches (all-changes frame formulas effects e v) frame formulas at before after s1 s2 (r .full) (size-behind r)
+      → Recorded (all-changes frame formulas effects e v (held at before) .value) from l m (r .records)
+      → Walked (all-changes frame formulas effects e n) frame formulas at before after s1 s2 from l m r
+  all-walked r v n same x y = rw (sym same) (record { reaches = x; recorded = λ _. y })
+
 -- The precondition, then all changes.
 module _ (frame : Frame) (formulas effects : List ℕ) (p e : ℕ) {at : Size} {before mid : Store} {s1 s2 : List ℕ} {f : Step} (x : Images (image-at frame formulas plain p) frame formulas at before mid s1 s2 f) where
-  pub precondition-full :
+  precondition-over :
       f .full ≡ true
-      → Reaches (operator-built frame formulas effects p e) frame formulas at before mid s1 s2 (f .full) (size-of f)
+      → Reaches (operator-built frame formulas effects p e) frame formulas at before mid s1 s2 true (size-of f)
   unfolding operator-built all-changes bind
-  precondition-full q =
+  precondition-over q =
       let g = image-at frame formulas plain p (held at before) in
       record {
-        done = λ z. absurd (true≢false (sym q ∙ z));
+        done = λ z. absurd (true≢false z);
         over = λ _ w.
             x .builds .over q
             (within-before
@@ -141,7 +179,19 @@ module _ (frame : Frame) (formulas effects : List ℕ) (p e : ℕ) {at : Size} {
         rest = x .rest;
       }
 
-  pub operator-done :
+  pub precondition-full :
+      {from : ℕ} {l m : List ℕ} {r : Tally}
+      → f .full ≡ true
+      → r ≡ record { rows = f .rows; twins = f .twins; row = 0; records = from; full = true }
+      → OperatorWalked frame formulas effects p e at before mid s1 s2 from l m r
+  precondition-full q same =
+      rw same
+      (record {
+        walked = record { reaches = precondition-over q; recorded = λ z. absurd (true≢false z) };
+        precondition = λ z. absurd (true≢false z);
+      })
+
+  operator-done :
       {after : Store} {s3 : List ℕ} {full : Bool} {next : Size}
       → f .full ≡ false
       → Reaches (all-changes frame formulas effects e (frame .variables)) frame formulas (size-of f) mid after s2 s3 full next
@@ -200,11 +250,25 @@ pub asks-walk :
 asks-walk {frame} touched a same room passed =
     rw same (record { stands = a; room = omega (arith, a .stands .ready .variables); passed = passed })
 
-pub operator-walked :
-    (frame : Frame) (formulas effects : List ℕ) (p e : ℕ) {at : Size} {before mid after : Store} {s1 s2 s2' s3 : List ℕ} {f : Step} {full : Bool} {next : Size}
-    → Images (image-at frame formulas plain p) frame formulas at before mid s1 s2 f
-    → f .full ≡ false
-    → s2' ≡ s2
-    → Reaches (all-changes frame formulas effects e (frame .variables)) frame formulas (size-of f) mid after s2' s3 full next
-    → Reaches (operator-built frame formulas effects p e) frame formulas at before after s1 s3 full next
-operator-walked frame formulas effects p e x q same y = operator-done frame formulas effects p e x q (rw same at y)
+-- Walked: the precondition, then all changes, of a scratch that marking left as it was.
+module _ (frame : Frame) (formulas effects : List ℕ) (p e : ℕ) {at : Size} {before mid after : Store} {s1 s2 s2' s3 : List ℕ} {f : Step} {from : ℕ} {l m : List ℕ} {w : Tally} (x : Images (image-at frame formulas plain p) frame formulas at before mid s1 s2 f) (q : f .full ≡ false) (same : s2' ≡ s2) (y : Walked (all-changes frame formulas effects e (frame .variables)) frame formulas (size-of f) mid after s2' s3 from l m w) where
+  value-is :
+      operator-built frame formulas effects p e (held at before) .value
+      ≡ all-changes frame formulas effects e (frame .variables) (held (size-of f) mid) .value
+  unfolding operator-built bind
+  value-is = ap (λ (t : St). all-changes frame formulas effects e (frame .variables) t .value) (x .builds .done q .state)
+
+  pub operator-walked :
+      {r : Tally}
+      → r ≡ record { rows = w .rows; twins = w .twins; row = f .row; records = w .records; full = w .full }
+      → OperatorWalked frame formulas effects p e at before after s1 s3 from l m r
+  operator-walked is =
+      rw is
+      (record {
+        walked =
+            record {
+              reaches = operator-done frame formulas effects p e x q (rw same at (y .reaches));
+              recorded = λ z. as-recorded value-is (y .recorded z);
+            };
+        precondition = λ _. x .builds .done q .value;
+      })

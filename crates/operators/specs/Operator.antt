@@ -8,12 +8,14 @@ use Rattle.normal_form.specs.Builder.{Build, bind, each, plain}
 use Rattle.normal_form.specs.Operators.{Changes, changes-of}
 use Rattle.formula_builder.specs.declared.Frame.{Frame}
 use Rattle.formula_builder.specs.declared.Size.{Size}
-use Rattle.formula_builder.specs.Held.{Store}
+use Rattle.formula_builder.specs.Held.{Store, held}
 use Rattle.images.specs.Images.{image-at}
 use Rattle.conditions.specs.Conditions.{effect-tree}
 use Rattle.task.specs.Table.{row-at}
-use Rattle.changes.specs.Stands.{StandsAt}
+use Rattle.changes.specs.Stands.{StandsAt, Reaches}
 use Rattle.touched.specs.Touched.{Untouched}
+use Rattle.records.specs.Recorded.{Recorded}
+use Rattle.operators.specs.declared.Tally.{Tally}
 
 -- the changes of the variables below v
 unfoldable pub all-changes : Frame → List ℕ → List ℕ → ℕ → ℕ → Build (List Changes)
@@ -36,6 +38,19 @@ pub record WalksAll (frame : Frame) (formulas effects spans touched : List ℕ) 
 pub record BuildsOperator (frame : Frame) (formulas effects spans : List ℕ) (at : Size) (s : Store) (scratch : List ℕ) (p e : ℕ) : Type 0 where
   pub stands : StandsAt frame formulas effects spans at s scratch e
   pub formula : p < frame .formulas
+
+abbrev pub size-behind : Tally → Size
+size-behind r = record { rows = r .rows; twins = r .twins }
+
+-- A step whose value is changes: it reaches its state, and the changes are recorded.
+pub record Walked (m : Build (List Changes)) (frame : Frame) (formulas : List ℕ) (at : Size) (before after : Store) (s1 s2 : List ℕ) (from : ℕ) (records records' : List ℕ) (r : Tally) : Type 0 where
+  pub reaches : Reaches m frame formulas at before after s1 s2 (r .full) (size-behind r)
+  pub recorded : r .full ≡ false → Recorded (m (held at before) .value) from records records' (r .records)
+
+-- An operator: and the row of its precondition.
+pub record OperatorWalked (frame : Frame) (formulas effects : List ℕ) (p e : ℕ) (at : Size) (before after : Store) (s1 s2 : List ℕ) (from : ℕ) (records records' : List ℕ) (r : Tally) : Type 0 where
+  pub walked : Walked (operator-built frame formulas effects p e) frame formulas at before after s1 s2 from records records' r
+  pub precondition : r .full ≡ false → image-at frame formulas plain p (held at before) .value ≡ r .row
 
 -- operator o: the first two words of its row are its precondition and its effect
 unfoldable pub operator-here : Frame → List ℕ → List ℕ → List ℕ → ℕ → Build (List Changes)

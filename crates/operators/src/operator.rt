@@ -1,15 +1,15 @@
 // One operator.
+use crate::Tally;
 use crate::walk::build_changes;
 use formula_builder::Frame;
 use formula_builder::Size;
-use formula_builder::Step;
 use images::image;
 use touched::touched_by;
-ghost use Rattle.formula_builder.specs.Held.{store, size-of};
-ghost use Rattle.changes.specs.Stands.{Reaches};
-ghost use Rattle.operators.specs.Operator.{BuildsOperator, operator-built};
+ghost use Rattle.formula_builder.specs.Held.{store};
+ghost use Rattle.records.specs.Recorded.{Opens};
+ghost use Rattle.operators.specs.Operator.{BuildsOperator, operator-built, OperatorWalked};
 
-// Builds the operator with precondition p and effect e.
+// Builds the operator with precondition p and effect e, and records its changes behind those that are.
 pub fn build_operator(
     formulas: &[u16],
     effects: &[u16],
@@ -21,17 +21,25 @@ pub fn build_operator(
     table: &mut [u16],
     originals: &mut [u16],
     scratch: &mut [u16],
-) -> Step
-    requires { ⌜ BuildsOperator frame (now formulas) (now effects) (now spans) at (store (now table) (now originals)) (now scratch) p e ⌝ }
-    ensures { λ r. ⌜ Reaches (operator-built frame (now (formulas .entry)) (now (effects .entry)) p e) frame (now (formulas .entry)) at (store (now (table .entry)) (now (originals .entry))) (store (now (table .exit)) (now (originals .exit))) (now (scratch .entry)) (now (scratch .exit)) (r .full) (size-of r) ⌝ }
+    from: usize,
+    records: &mut [u16],
+) -> Tally
+    requires { ⌜ BuildsOperator frame (now formulas) (now effects) (now spans) at (store (now table) (now originals)) (now scratch) p e × Opens from (now records) ⌝ }
+    ensures { λ r. ⌜ OperatorWalked frame (now (formulas .entry)) (now (effects .entry)) p e at (store (now (table .entry)) (now (originals .entry))) (store (now (table .exit)) (now (originals .exit))) (now (scratch .entry)) (now (scratch .exit)) from (now (records .entry)) (now (records .exit)) r ⌝ }
 {
     let f = image(formulas, p, frame, at, table, originals, scratch);
     if f.full {
-        return f;
+        return Tally {
+            rows: f.rows,
+            twins: f.twins,
+            row: 0,
+            records: from,
+            full: true,
+        };
     }
     let mut touched = [0u8; 512];
     touched_by(effects, e, frame, scratch, &mut touched);
-    build_changes(
+    let r = build_changes(
         formulas,
         effects,
         spans,
@@ -45,5 +53,14 @@ pub fn build_operator(
         table,
         originals,
         scratch,
-    )
+        from,
+        records,
+    );
+    Tally {
+        rows: r.rows,
+        twins: r.twins,
+        row: f.row,
+        records: r.records,
+        full: r.full,
+    }
 }

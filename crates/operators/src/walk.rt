@@ -1,17 +1,20 @@
 // The changes of all variables, upwards.
+use crate::Tally;
 use changes::Change;
 use changes::change_of;
 use formula_builder::Frame;
 use formula_builder::Size;
-use formula_builder::Step;
+use records::keep_change;
+use rule_writer::Changes;
 ghost use mathlib.Core.Path.{_≡_};
 ghost use Prim.Native.Nat.{ℕ, _≤_};
 ghost use lib.ListN.{length};
 ghost use Rattle.normal_form.specs.Operators.{changes-of};
-ghost use Rattle.formula_builder.specs.Held.{store, size-of};
+ghost use Rattle.formula_builder.specs.Held.{store};
 ghost use Rattle.conditions.specs.Conditions.{effect-tree};
-ghost use Rattle.changes.specs.Stands.{Makes, Reaches, size-after, made};
-ghost use Rattle.operators.specs.Operator.{WalksVariable, WalksAll, all-changes};
+ghost use Rattle.changes.specs.Stands.{Makes, size-after, made};
+ghost use Rattle.records.specs.Recorded.{Opens};
+ghost use Rattle.operators.specs.Operator.{WalksVariable, WalksAll, Walked, all-changes};
 
 // What effect e does to variable v; nothing, if the effect does not touch it.
 pub fn change_if(
@@ -53,7 +56,7 @@ pub fn change_if(
     }
 }
 
-// The changes of all variables are built; those that the effect does not touch are passed over.
+// The changes of all variables are built, and recorded behind those that are; variables that the effect does not touch are passed over.
 pub fn build_changes(
     formulas: &[u16],
     effects: &[u16],
@@ -65,26 +68,30 @@ pub fn build_changes(
     table: &mut [u16],
     originals: &mut [u16],
     scratch: &mut [u16],
-) -> Step
-    requires { ⌜ WalksAll frame (now formulas) (now effects) (now spans) (now touched) at (store (now table) (now originals)) (now scratch) e ⌝ }
-    ensures { λ r. ⌜ Reaches (all-changes frame (now (formulas .entry)) (now (effects .entry)) e (frame .variables)) frame (now (formulas .entry)) at (store (now (table .entry)) (now (originals .entry))) (store (now (table .exit)) (now (originals .exit))) (now (scratch .entry)) (now (scratch .exit)) (r .full) (size-of r) ⌝ }
+    from: usize,
+    records: &mut [u16],
+) -> Tally
+    requires { ⌜ WalksAll frame (now formulas) (now effects) (now spans) (now touched) at (store (now table) (now originals)) (now scratch) e × Opens from (now records) ⌝ }
+    ensures { λ r. ⌜ Walked (all-changes frame (now (formulas .entry)) (now (effects .entry)) e (frame .variables)) frame (now (formulas .entry)) at (store (now (table .entry)) (now (originals .entry))) (store (now (table .exit)) (now (originals .exit))) (now (scratch .entry)) (now (scratch .exit)) from (now (records .entry)) (now (records .exit)) r ⌝ }
 {
     let n = frame.variables;
     let mut rows = at.rows;
     let mut twins = at.twins;
+    let mut k = from;
     let mut v = 0;
     while v < n {
         let here = Size {
             rows: rows,
             twins: twins,
         };
+        let variable = v as u16;
         let c = change_if(
             touched[v] != 0,
             formulas,
             effects,
             spans,
             e,
-            v as u16,
+            variable,
             frame,
             here,
             table,
@@ -92,21 +99,32 @@ pub fn build_changes(
             scratch,
         );
         if c.full {
-            return Step {
+            return Tally {
                 rows: c.rows,
                 twins: c.twins,
                 row: 0,
+                records: k,
                 full: true,
             };
         }
         rows = c.rows;
         twins = c.twins;
+        k = keep_change(
+            records,
+            k,
+            Changes {
+                variable: variable,
+                adds: c.adds,
+                deletes: c.deletes,
+            },
+        );
         v += 1;
     }
-    Step {
+    Tally {
         rows: rows,
         twins: twins,
         row: 0,
+        records: k,
         full: false,
     }
 }

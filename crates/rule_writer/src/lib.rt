@@ -6,6 +6,7 @@ mod rules;
 
 pub use initial::write_initial;
 pub use operators::write_operator;
+pub use rows::store;
 pub use rules::write_changes;
 pub use rules::write_rule;
 
