@@ -109,7 +109,7 @@ module _ (frame : Frame) (formulas effects operators : List ℕ) where
         over = λ q w _. g .over q (rw (none-taken (p .operators) (g .none)) at w);
       }
 
-  module _ {s : Store} {scratch records : List ℕ} {p : Progress} (t : Takes frame formulas effects operators s scratch records p) where
+  module _ {spans : List ℕ} {s : Store} {scratch records : List ℕ} {p : Progress} (t : Takes frame formulas effects spans operators s scratch records p) where
     -- without room it stays so
     pub took-full : {r : Progress} → p .full ≡ true → r ≡ stopped (p .operators + 1) → Took frame formulas effects operators s scratch records p r
     took-full q e =
@@ -130,11 +130,11 @@ module _ (frame : Frame) (formulas effects operators : List ℕ) where
       stood : Stood (operators-built frame formulas effects operators (p .operators) start .st) frame formulas effects (size-at p) s scratch
       stood = t .taken .done q
 
-      pub asks-operator : BuildsOperator frame formulas effects (size-at p) s scratch (w .kind) (w .a)
+      pub asks-operator : BuildsOperator frame formulas effects spans (size-at p) s scratch (w .kind) (w .a)
       asks-operator =
           record {
             stands =
-                record { stands = stood .stands; effect = omega (arith, ap (λ (r : Row). r .a) words, t .effect) };
+                record { stands = stood .stands; spanned = t .spanned; effect = omega (arith, ap (λ (r : Row). r .a) words, t .effect) };
             formula = omega (arith, ap (λ (r : Row). r .kind) words, t .precondition);
           }
 

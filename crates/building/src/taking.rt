@@ -47,6 +47,7 @@ pub fn begin(frame: Frame, table: &mut [u16]) -> Progress
 pub fn take_operator(
     formulas: &[u16],
     effects: &[u16],
+    spans: &[u16],
     operators: &[u16],
     frame: Frame,
     at: Progress,
@@ -55,7 +56,7 @@ pub fn take_operator(
     scratch: &mut [u16],
     records: &mut [u16],
 ) -> Progress
-    requires { ⌜ Takes frame (now formulas) (now effects) (now operators) (store (now table) (now originals)) (now scratch) (now records) at ⌝ }
+    requires { ⌜ Takes frame (now formulas) (now effects) (now spans) (now operators) (store (now table) (now originals)) (now scratch) (now records) at ⌝ }
     ensures { λ r. ⌜ Took frame (now (formulas .entry)) (now (effects .entry)) (now (operators .entry)) (store (now (table .exit)) (now (originals .exit))) (now (scratch .exit)) (now (records .exit)) at r ⌝ }
 {
     let next = at.operators + 1;
@@ -66,6 +67,7 @@ pub fn take_operator(
     let r = build_operator(
         formulas,
         effects,
+        spans,
         w.kind as usize,
         w.a as usize,
         frame,

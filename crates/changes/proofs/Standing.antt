@@ -54,13 +54,14 @@ cleared-more {from} {k} {before} {l} h room c =
 
 -- an empty memo of effects is right for every target
 pub asks-fresh :
-    {frame : Frame} {formulas effects : List ℕ} {at : Size} {s : Store} {scratch : List ℕ} {e : ℕ} (t : Target)
-    → StandsAt frame formulas effects at s scratch e
-    → Asks frame formulas effects t at s scratch e
+    {frame : Frame} {formulas effects spans : List ℕ} {at : Size} {s : Store} {scratch : List ℕ} {e : ℕ} (t : Target)
+    → StandsAt frame formulas effects spans at s scratch e
+    → Asks frame formulas effects spans t at s scratch e
 asks-fresh {frame} t a =
     record {
       source = a .stands .source;
       effect-source = a .stands .effect-source;
+      spanned = a .spanned;
       ready = a .stands .ready;
       memo = a .stands .memo;
       effect-memo =
@@ -73,8 +74,8 @@ asks-fresh {frame} t a =
 
 -- the memo of effects is cleared behind a condition
 pub images-fresh :
-    {m : Build ℕ} {frame : Frame} {formulas effects : List ℕ} {t : Target} {e : ℕ} {at : Size} {before after : Store} {s1 s2 s3 : List ℕ} {r : Step}
-    → StandsAt frame formulas effects at before s1 e
+    {m : Build ℕ} {frame : Frame} {formulas effects spans : List ℕ} {t : Target} {e : ℕ} {at : Size} {before after : Store} {s1 s2 s3 : List ℕ} {r : Step}
+    → StandsAt frame formulas effects spans at before s1 e
     → Conditions m frame formulas effects t e at before after s1 s2 r
     → Cleared (2 * frame .formulas) (2 * frame .formulas + e + 1) s2 s3
     → Images m frame formulas at before after s1 s3 r
@@ -193,17 +194,17 @@ makes-as {frame = frame} {formulas = formulas} {at = at} {before = before} {afte
 
 -- where the next step for the same effect stands
 pub stands-at-next :
-    {m : Build ℕ} {frame : Frame} {formulas effects : List ℕ} {at : Size} {before after : Store} {s1 s2 : List ℕ} {r : Step} {e : ℕ}
-    → StandsAt frame formulas effects at before s1 e
+    {m : Build ℕ} {frame : Frame} {formulas effects spans : List ℕ} {at : Size} {before after : Store} {s1 s2 : List ℕ} {r : Step} {e : ℕ}
+    → StandsAt frame formulas effects spans at before s1 e
     → Images m frame formulas at before after s1 s2 r
     → r .full ≡ false
     → length s2 ≡ length s1
-    → StandsAt frame formulas effects (size-of r) after s2 e
+    → StandsAt frame formulas effects spans (size-of r) after s2 e
 stands-at-next a x q long =
-    record { stands = stands-next (a .stands) (makes-row x .reaches) q long; effect = a .effect }
+    record { stands = stands-next (a .stands) (makes-row x .reaches) q long; spanned = a .spanned; effect = a .effect }
 
 -- D, freed of conflict with A.
-module _ (frame : Frame) (formulas effects : List ℕ) (at : Size) (before : Store) (scratch : List ℕ) (e v a d : ℕ) (s : Deletes frame formulas effects at before scratch e d) where
+module _ {spans : List ℕ} (frame : Frame) (formulas effects : List ℕ) (at : Size) (before : Store) (scratch : List ℕ) (e v a d : ℕ) (s : Deletes frame formulas effects spans at before scratch e d) where
   tree : Effect
   tree = effect-tree frame formulas effects e
 

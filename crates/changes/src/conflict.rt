@@ -16,6 +16,7 @@ ghost use Rattle.changes.specs.Stands.{Deletes};
 pub fn deletes(
     formulas: &[u16],
     effects: &[u16],
+    spans: &[u16],
     e: usize,
     v: u16,
     a: u16,
@@ -26,7 +27,7 @@ pub fn deletes(
     originals: &mut [u16],
     scratch: &mut [u16],
 ) -> Step
-    requires { ⌜ Deletes frame (now formulas) (now effects) at (store (now table) (now originals)) (now scratch) e d ⌝ }
+    requires { ⌜ Deletes frame (now formulas) (now effects) (now spans) at (store (now table) (now originals)) (now scratch) e d ⌝ }
     ensures { λ r. ⌜ Images (deletes-of (frame .variables) (effect-tree frame (now (formulas .entry)) (now (effects .entry)) e) v a d) frame (now (formulas .entry)) at (store (now (table .entry)) (now (originals .entry))) (store (now (table .exit)) (now (originals .exit))) (now (scratch .entry)) (now (scratch .exit)) r ⌝ }
 {
     if a == 0 {
@@ -43,6 +44,7 @@ pub fn deletes(
     let n = condition_of(
         formulas,
         effects,
+        spans,
         e,
         t,
         frame,

@@ -27,6 +27,7 @@ pub fn clear(scratch: &mut [u16], from: usize, to: usize)
 pub fn condition_of(
     formulas: &[u16],
     effects: &[u16],
+    spans: &[u16],
     e: usize,
     t: Target,
     frame: Frame,
@@ -35,12 +36,13 @@ pub fn condition_of(
     originals: &mut [u16],
     scratch: &mut [u16],
 ) -> Step
-    requires { ⌜ StandsAt frame (now formulas) (now effects) at (store (now table) (now originals)) (now scratch) e ⌝ }
+    requires { ⌜ StandsAt frame (now formulas) (now effects) (now spans) at (store (now table) (now originals)) (now scratch) e ⌝ }
     ensures { λ r. ⌜ Images (condition-at frame (now (formulas .entry)) (now (effects .entry)) t e) frame (now (formulas .entry)) at (store (now (table .entry)) (now (originals .entry))) (store (now (table .exit)) (now (originals .exit))) (now (scratch .entry)) (now (scratch .exit)) r ⌝ }
 {
     let r = condition(
         formulas,
         effects,
+        spans,
         e,
         t,
         frame,

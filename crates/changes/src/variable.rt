@@ -14,6 +14,7 @@ ghost use Rattle.changes.specs.Stands.{StandsAt, Makes, size-after, made
 pub fn change_of(
     formulas: &[u16],
     effects: &[u16],
+    spans: &[u16],
     e: usize,
     v: u16,
     frame: Frame,
@@ -22,7 +23,7 @@ pub fn change_of(
     originals: &mut [u16],
     scratch: &mut [u16],
 ) -> Change
-    requires { ⌜ StandsAt frame (now formulas) (now effects) at (store (now table) (now originals)) (now scratch) e ⌝ }
+    requires { ⌜ StandsAt frame (now formulas) (now effects) (now spans) at (store (now table) (now originals)) (now scratch) e ⌝ }
     ensures { λ r. ⌜ Makes (changes-of (frame .variables) (effect-tree frame (now (formulas .entry)) (now (effects .entry)) e) v) frame (now (formulas .entry)) at (store (now (table .entry)) (now (originals .entry))) (store (now (table .exit)) (now (originals .exit))) (now (scratch .entry)) (now (scratch .exit)) (r .full) (size-after r) (made v r) ⌝ }
 {
     let set = Target {
@@ -33,6 +34,7 @@ pub fn change_of(
     let a = condition_of(
         formulas,
         effects,
+        spans,
         e,
         set,
         frame,
@@ -62,6 +64,7 @@ pub fn change_of(
     let d = condition_of(
         formulas,
         effects,
+        spans,
         e,
         unset,
         frame,
@@ -86,6 +89,7 @@ pub fn change_of(
     let k = deletes(
         formulas,
         effects,
+        spans,
         e,
         v,
         a.row,

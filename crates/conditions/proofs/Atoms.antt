@@ -1,12 +1,14 @@
--- Whether an effect's row is an atom, by its words. Assumes nothing.
-use Prim.Native.Nat.{ℕ, zero, suc}
+-- Whether an effect's row is an atom, by its words, and whether a variable lies outside its span. Assumes nothing.
+use Prim.Native.Nat.{ℕ, zero, suc, _+_, _*_, _≤_, _<_}
 use native.Mathlib.Omega.{arith}
 use mathlib.Core.Path.{_≡_, refl, sym}
 use mathlib.Core.Bool.{Bool, true, false}
-use lib.Dec.{eqb}
-use borrow.Author.Tests.{eq-eqb, ne-eqb}
+use mathlib.Core.List.{List}
+use lib.Dec.{eqb, ltb}
+use lib.ListN.{getD}
+use borrow.Author.Tests.{eq-eqb, ne-eqb, lt-ltb, le-ltb}
 use Rattle.task.specs.Table.{EffectKind, empty-kind, set-kind, clear-kind, both-kind, under-kind, unknown-effect, effect-kind}
-use Rattle.conditions.specs.Conditions.{atom-by, acts}
+use Rattle.conditions.specs.Conditions.{atom-by, acts, outside}
 
 pub touch-other : (clear : Bool) (v a : ℕ) (k : EffectKind) → (a ≡ v → ⊥) → false ≡ acts (atom-by clear v) k a
 unfolding acts
@@ -43,3 +45,12 @@ touch-set v a zero e = refl
 touch-set v a (suc zero) e = sym (eq-eqb v a (sym e))
 touch-set v a (suc (suc zero)) e = refl
 touch-set v a (suc (suc (suc k))) e = rw (touch-none false v a k) (ne-eqb (suc (suc (suc k))) 1 (λ q. omega arith))
+
+pub outside-below : (spans : List ℕ) (v e : ℕ) → v < getD spans (2 * e) 0 → true ≡ outside spans v e
+unfolding outside
+outside-below spans v e h = rw (lt-ltb v (getD spans (2 * e) 0) h)
+
+pub outside-above :
+    (spans : List ℕ) (v e : ℕ) → getD spans (2 * e) 0 ≤ v → ltb (getD spans (2 * e + 1) 0) v ≡ outside spans v e
+unfolding outside
+outside-above spans v e h = rw (le-ltb v (getD spans (2 * e) 0) h)

@@ -24,7 +24,7 @@ use Rattle.formula_builder.proofs.Steps.{builds-give, builds-done, falsity-smal
 use Rattle.images.specs.Images.{tree, image-at, Images, Asks as AsksImage}
 use Rattle.images.proofs.Memos.{steady-image-at}
 use Rattle.conditions.specs.declared.Target.{Target}
-use Rattle.conditions.specs.Conditions.{atom-of, acts, condition-at, EffectMemo, Asks, AsksRow, Conditions}
+use Rattle.conditions.specs.Conditions.{atom-of, acts, condition-at, EffectMemo, outside, Asks, AsksRow, Conditions}
 use Rattle.conditions.proofs.Rows.{both-lower, under-lower, of-atom, of-both, of-under}
 use Rattle.conditions.proofs.Memos.{conditions-as, conditions-leaf, conditions-bind, conditions-stop, conditions-of-images}
 
@@ -36,9 +36,22 @@ side-not : (b : Bool) → opposite (side b) ≡ side (not b)
 side-not true = refl
 side-not false = refl
 
+-- The variable lies outside row e's span.
+pub case-outside :
+    {spans : List ℕ} (frame : Frame) (formulas effects : List ℕ) (t : Target) (at : Size) (before : Store) (scratch : List ℕ) (e : ℕ)
+    → Asks frame formulas effects spans t at before scratch e
+    → true ≡ outside spans (t .variable) e
+    → Conditions (condition-at frame formulas effects t e) frame formulas effects t e at before before scratch scratch
+    (done-step at (falsity (side (t .negated))))
+case-outside frame formulas effects t at before scratch e a h =
+    let x = falsity (side (t .negated)) in
+    conditions-as (a .spanned .alone formulas (t .variable) e (a .effect) (sym h) .idle t refl)
+    (conditions-leaf (steady-give x) (a .memo) (a .effect-memo)
+    (builds-give x (a .ready) (omega (arith, falsity-small (side (t .negated)), a .ready .two))))
+
 -- Row e with the words w.
-module _ (frame : Frame) (formulas effects : List ℕ) (t : Target) (at : Size) (before : Store) (scratch : List ℕ) (e : ℕ) (a : Asks frame formulas effects t at before scratch e) (w : Words) (q : row-of w ≡ row-at effects e) where
-  pub asks-row : (k : ℕ) → w .kind ≡ k → AsksRow k frame formulas effects t at before scratch e
+module _ {spans : List ℕ} (frame : Frame) (formulas effects : List ℕ) (t : Target) (at : Size) (before : Store) (scratch : List ℕ) (e : ℕ) (a : Asks frame formulas effects spans t at before scratch e) (w : Words) (q : row-of w ≡ row-at effects e) where
+  pub asks-row : (k : ℕ) → w .kind ≡ k → AsksRow k frame formulas effects spans t at before scratch e
   asks-row k h = record { asks = a; is-kind = ap (λ (r : Row). r .kind) (sym q) ∙ h }
 
   module _ (three : w .kind ≡ 3 → ⊥) (four : w .kind ≡ 4 → ⊥) where
@@ -79,7 +92,7 @@ module _ (frame : Frame) (formulas effects : List ℕ) (t : Target) (at : Size) 
         (builds-give x (a .ready) (omega (arith, falsity-small (side (t .negated)), a .ready .two))))
 
 -- Both effects that row e names.
-module _ (frame : Frame) (formulas effects : List ℕ) (t : Target) (at : Size) (before : Store) (scratch : List ℕ) (e : ℕ) (a : AsksRow 3 frame formulas effects t at before scratch e) (w : Words) (q : row-of w ≡ row-at effects e) where
+module _ {spans : List ℕ} (frame : Frame) (formulas effects : List ℕ) (t : Target) (at : Size) (before : Store) (scratch : List ℕ) (e : ℕ) (a : AsksRow 3 frame formulas effects spans t at before scratch e) (w : Words) (q : row-of w ≡ row-at effects e) where
   lower : (row-at effects e .a < e) × (row-at effects e .b < e)
   lower = both-lower frame formulas effects scratch (a .asks .effect-source) e (a .asks .effect) (a .is-kind)
 
@@ -98,14 +111,15 @@ module _ (frame : Frame) (formulas effects : List ℕ) (t : Target) (at : Size) 
 
 -- what a step asks of a lower effect
 pub asks-lower :
-    {frame : Frame} {formulas effects : List ℕ} {t : Target} {at : Size} {before : Store} {scratch : List ℕ} {e : ℕ} (d : ℕ)
-    → Asks frame formulas effects t at before scratch e
+    {frame : Frame} {formulas effects spans : List ℕ} {t : Target} {at : Size} {before : Store} {scratch : List ℕ} {e : ℕ} (d : ℕ)
+    → Asks frame formulas effects spans t at before scratch e
     → d < e
-    → Asks frame formulas effects t at before scratch d
+    → Asks frame formulas effects spans t at before scratch d
 asks-lower d a h =
     record {
       source = a .source;
       effect-source = a .effect-source;
+      spanned = a .spanned;
       ready = a .ready;
       memo = a .memo;
       effect-memo = a .effect-memo;
@@ -113,7 +127,7 @@ asks-lower d a h =
     }
 
 -- The effect that row e names, under its formula.
-module _ (frame : Frame) (formulas effects : List ℕ) (t : Target) (at : Size) (before : Store) (scratch : List ℕ) (e : ℕ) (a : AsksRow 4 frame formulas effects t at before scratch e) (w : Words) (q : row-of w ≡ row-at effects e) where
+module _ {spans : List ℕ} (frame : Frame) (formulas effects : List ℕ) (t : Target) (at : Size) (before : Store) (scratch : List ℕ) (e : ℕ) (a : AsksRow 4 frame formulas effects spans t at before scratch e) (w : Words) (q : row-of w ≡ row-at effects e) where
   inner : (row-at effects e .a < frame .formulas) × (row-at effects e .b < e)
   inner = under-lower frame formulas effects scratch (a .asks .effect-source) e (a .asks .effect) (a .is-kind)
 

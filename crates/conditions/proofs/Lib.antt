@@ -1,4 +1,5 @@
 pub mod Atoms
 pub mod Rows
+pub mod Alone
 pub mod Memos
 pub mod Cases

@@ -106,13 +106,13 @@ module _ {m : Build ℕ} {frame : Frame} {formulas effects : List ℕ} {t : Targ
 
   -- the next step finds all that it asks
   pub asks-next :
-      {d : ℕ} (j : ℕ)
-      → Asks frame formulas effects t at before s1 d
+      {spans : List ℕ} {d : ℕ} (j : ℕ)
+      → Asks frame formulas effects spans t at before s1 d
       → Conditions m frame formulas effects t e at before after s1 s2 r
       → r .full ≡ false
       → length s2 ≡ length s1
       → j < frame .effects
-      → Asks frame formulas effects t (size-of r) after s2 j
+      → Asks frame formulas effects spans t (size-of r) after s2 j
   asks-next j a x q long h =
       record {
         source =
@@ -129,6 +129,7 @@ module _ {m : Build ℕ} {frame : Frame} {formulas effects : List ℕ} {t : Targ
               limit = a .effect-source .limit;
               down = a .effect-source .down;
             };
+        spanned = a .spanned;
         ready = x .builds .done q .ready;
         memo = x .memo q;
         effect-memo = x .effect-memo q;
@@ -223,8 +224,8 @@ module _ {left right : Build ℕ} {frame : Frame} {formulas effects : List ℕ} 
 
 -- The memo has effect e.
 pub conditions-known :
-    (frame : Frame) (formulas effects : List ℕ) (t : Target) (at : Size) (before : Store) (scratch : List ℕ) (e w : ℕ)
-    → Asks frame formulas effects t at before scratch e
+    {spans : List ℕ} (frame : Frame) (formulas effects : List ℕ) (t : Target) (at : Size) (before : Store) (scratch : List ℕ) (e w : ℕ)
+    → Asks frame formulas effects spans t at before scratch e
     → getD scratch (2 * frame .formulas + e) 0 ≡ w
     → 0 < w
     → Conditions (condition-at frame formulas effects t e) frame formulas effects t e at before before scratch scratch (done-step at (w - 1))

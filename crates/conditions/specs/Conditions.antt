@@ -1,15 +1,16 @@
 -- What the memo of effect conditions holds, and what the code that builds them asks and answers.
 use Prim.Native.Nat.{ℕ, _+_, _*_, _≤_, _<_}
 use mathlib.Core.Path.{_≡_}
-use mathlib.Core.Bool.{Bool, true, false}
+use mathlib.Core.Bool.{Bool, true, false, _||_}
 use mathlib.Core.List.{List}
+use lib.Dec.{ltb}
 use lib.ListN.{length, getD}
 use Rattle.task.specs.Bounded.{upto}
 use Rattle.task.specs.Table.{Row, row-at, EffectKind, empty-kind, set-kind, clear-kind, both-kind, under-kind, unknown-effect}
 use Rattle.task.specs.Semantics.{Atom, sets, clears, same-atom, Effect}
 use Rattle.task.specs.Tree.{effect-of}
 use Rattle.task.proofs.Trees.{EffectsDown}
-use Rattle.normal_form.specs.Builder.{St, Build}
+use Rattle.normal_form.specs.Builder.{St, Build, give, falsity}
 use Rattle.normal_form.specs.Conditions.{condition}
 use Rattle.formula_builder.specs.declared.Frame.{Frame}
 use Rattle.formula_builder.specs.declared.Size.{Size}
@@ -63,17 +64,38 @@ pub record EffectSource (frame : Frame) (effects scratch : List ℕ) : Type 0 wh
   pub limit : frame .effects ≤ 4096
   pub down : EffectsDown (frame .variables) (frame .formulas) (effect-rows frame effects)
 
-pub record Asks (frame : Frame) (formulas effects : List ℕ) (t : Target) (at : Size) (before : Store) (scratch : List ℕ) (e : ℕ) : Type 0 where
+-- Effect e neither sets nor clears v: each condition is false (dually true), and nothing is built.
+pub record Untouched (frame : Frame) (formulas effects : List ℕ) (v e : ℕ) : Type 0 where
+  pub idle :
+      (t : Target)
+      → t .variable ≡ v
+      → condition-at frame formulas effects t e ≡ give (falsity (side (t .negated)))
+
+-- whether v lies outside the span of row e: words 2e and 2e + 1, a least and a greatest variable
+unfoldable pub outside : List ℕ → ℕ → ℕ → Bool
+outside spans v e = ltb v (getD spans (2 * e) 0) || ltb (getD spans (2 * e + 1) 0) v
+
+-- Each row has a span, and leaves the variables outside it alone.
+pub record Spans (frame : Frame) (effects spans : List ℕ) : Type 0 where
+  pub words : 2 * frame .effects ≤ length spans
+  pub alone :
+      (formulas : List ℕ) (v e : ℕ)
+      → e < frame .effects
+      → outside spans v e ≡ true
+      → Untouched frame formulas effects v e
+
+pub record Asks (frame : Frame) (formulas effects spans : List ℕ) (t : Target) (at : Size) (before : Store) (scratch : List ℕ) (e : ℕ) : Type 0 where
   pub source : Source frame formulas scratch
   pub effect-source : EffectSource frame effects scratch
+  pub spanned : Spans frame effects spans
   pub ready : Ready frame at before
   pub memo : Memo frame formulas scratch (held at before)
   pub effect-memo : EffectMemo frame formulas effects t scratch (held at before)
   pub effect : e < frame .effects
 
 -- for a row of one kind
-pub record AsksRow (kind : ℕ) (frame : Frame) (formulas effects : List ℕ) (t : Target) (at : Size) (before : Store) (scratch : List ℕ) (e : ℕ) : Type 0 where
-  pub asks : Asks frame formulas effects t at before scratch e
+pub record AsksRow (kind : ℕ) (frame : Frame) (formulas effects spans : List ℕ) (t : Target) (at : Size) (before : Store) (scratch : List ℕ) (e : ℕ) : Type 0 where
+  pub asks : Asks frame formulas effects spans t at before scratch e
   pub is-kind : row-at effects e .kind ≡ kind
 
 -- A step with both memos: what lies behind effect e's word stays as it is.

@@ -1,5 +1,6 @@
 // The condition of an effect: the builder recurses to lower-numbered effect rows. Each row is built at most once for a target.
 use crate::Target;
+use crate::touch::is_outside;
 use crate::touch::touches;
 use formula_builder::Frame;
 use formula_builder::Size;
@@ -14,10 +15,11 @@ use images::sided;
 ghost use Rattle.formula_builder.specs.Held.{store};
 ghost use Rattle.conditions.specs.Conditions.{Asks, AsksRow, Conditions, condition-at};
 
-// The condition of effect e.
+// The condition of effect e: rows are visited only where the variable lies in their span.
 pub fn condition(
     formulas: &[u16],
     effects: &[u16],
+    spans: &[u16],
     e: usize,
     t: Target,
     frame: Frame,
@@ -26,9 +28,12 @@ pub fn condition(
     originals: &mut [u16],
     scratch: &mut [u16],
 ) -> Step
-    requires { ⌜ Asks frame (now formulas) (now effects) t at (store (now table) (now originals)) (now scratch) e ⌝ }
+    requires { ⌜ Asks frame (now formulas) (now effects) (now spans) t at (store (now table) (now originals)) (now scratch) e ⌝ }
     ensures { λ r. ⌜ Conditions (condition-at frame (now (formulas .entry)) (now (effects .entry)) t e) frame (now (formulas .entry)) (now (effects .entry)) t e at (store (now (table .entry)) (now (originals .entry))) (store (now (table .exit)) (now (originals .exit))) (now (scratch .entry)) (now (scratch .exit)) r ⌝ }
 {
+    if is_outside(spans, t.variable, e) {
+        return standing(at, falsity(t.negated));
+    }
     let k = 2 * frame.formulas + e;
     let known = scratch[k];
     if 0 < known {
@@ -37,6 +42,7 @@ pub fn condition(
     let r = condition_of_row(
         formulas,
         effects,
+        spans,
         e,
         t,
         frame,
@@ -53,6 +59,7 @@ pub fn condition(
 fn condition_of_row(
     formulas: &[u16],
     effects: &[u16],
+    spans: &[u16],
     e: usize,
     t: Target,
     frame: Frame,
@@ -61,7 +68,7 @@ fn condition_of_row(
     originals: &mut [u16],
     scratch: &mut [u16],
 ) -> Step
-    requires { ⌜ Asks frame (now formulas) (now effects) t at (store (now table) (now originals)) (now scratch) e ⌝ }
+    requires { ⌜ Asks frame (now formulas) (now effects) (now spans) t at (store (now table) (now originals)) (now scratch) e ⌝ }
     ensures { λ r. ⌜ Conditions (condition-at frame (now (formulas .entry)) (now (effects .entry)) t e) frame (now (formulas .entry)) (now (effects .entry)) t e at (store (now (table .entry)) (now (originals .entry))) (store (now (table .exit)) (now (originals .exit))) (now (scratch .entry)) (now (scratch .exit)) r ⌝ }
 {
     let w = read_row(effects, e);
@@ -69,6 +76,7 @@ fn condition_of_row(
         return both(
             formulas,
             effects,
+            spans,
             e,
             t,
             frame,
@@ -82,6 +90,7 @@ fn condition_of_row(
         return under(
             formulas,
             effects,
+            spans,
             e,
             t,
             frame,
@@ -101,6 +110,7 @@ fn condition_of_row(
 fn both(
     formulas: &[u16],
     effects: &[u16],
+    spans: &[u16],
     e: usize,
     t: Target,
     frame: Frame,
@@ -109,13 +119,14 @@ fn both(
     originals: &mut [u16],
     scratch: &mut [u16],
 ) -> Step
-    requires { ⌜ AsksRow 3 frame (now formulas) (now effects) t at (store (now table) (now originals)) (now scratch) e ⌝ }
+    requires { ⌜ AsksRow 3 frame (now formulas) (now effects) (now spans) t at (store (now table) (now originals)) (now scratch) e ⌝ }
     ensures { λ r. ⌜ Conditions (condition-at frame (now (formulas .entry)) (now (effects .entry)) t e) frame (now (formulas .entry)) (now (effects .entry)) t e at (store (now (table .entry)) (now (originals .entry))) (store (now (table .exit)) (now (originals .exit))) (now (scratch .entry)) (now (scratch .exit)) r ⌝ }
 {
     let w = read_row(effects, e);
     let l = condition(
         formulas,
         effects,
+        spans,
         w.a as usize,
         t,
         frame,
@@ -134,6 +145,7 @@ fn both(
     let r = condition(
         formulas,
         effects,
+        spans,
         w.b as usize,
         t,
         frame,
@@ -162,6 +174,7 @@ fn both(
 fn under(
     formulas: &[u16],
     effects: &[u16],
+    spans: &[u16],
     e: usize,
     t: Target,
     frame: Frame,
@@ -170,13 +183,14 @@ fn under(
     originals: &mut [u16],
     scratch: &mut [u16],
 ) -> Step
-    requires { ⌜ AsksRow 4 frame (now formulas) (now effects) t at (store (now table) (now originals)) (now scratch) e ⌝ }
+    requires { ⌜ AsksRow 4 frame (now formulas) (now effects) (now spans) t at (store (now table) (now originals)) (now scratch) e ⌝ }
     ensures { λ r. ⌜ Conditions (condition-at frame (now (formulas .entry)) (now (effects .entry)) t e) frame (now (formulas .entry)) (now (effects .entry)) t e at (store (now (table .entry)) (now (originals .entry))) (store (now (table .exit)) (now (originals .exit))) (now (scratch .entry)) (now (scratch .exit)) r ⌝ }
 {
     let w = read_row(effects, e);
     let c = condition(
         formulas,
         effects,
+        spans,
         w.b as usize,
         t,
         frame,

@@ -12,15 +12,16 @@ use Rattle.task.specs.Rules.{LongEnough, Rules}
 use Rattle.task.specs.Run.{operator-of}
 use Rattle.task.proofs.Held.{length-initial, length-formulas, length-effects, length-operators, operator-held}
 use Rattle.task.proofs.Kept.{kept-rules}
-use Rattle.task.proofs.Trees.{rules-formulas, rules-effects}
+use Rattle.task.proofs.Trees.{EffectsDown, rules-formulas, rules-effects}
 use Rattle.normal_form.specs.Builder.{start, plain}
 use Rattle.normal_form.specs.Assembly.{Assembled, assemble, unassembled}
 use Rattle.normal_form.specs.Finished.{built, assembled, finished}
 use Rattle.normal_form.specs.Compiled.{padded}
 use Rattle.formula_builder.specs.declared.Frame.{Frame}
 use Rattle.images.specs.Images.{source-rows}
-use Rattle.conditions.specs.Conditions.{effect-rows}
+use Rattle.conditions.specs.Conditions.{effect-rows, Spans}
 use Rattle.formula_builder.specs.Held.{store}
+use Rattle.spans.specs.Found.{FindsSpans}
 use Rattle.building.specs.declared.Progress.{Progress}
 use Rattle.building.specs.Taken.{many, AllKept, whole-built, Zeros, Fresh, Begun, Blank, Taken, Takes}
 use Rattle.building.proofs.Begun.{taken-none}
@@ -151,13 +152,33 @@ module _ (l : Lent) (rows twins : ℕ) (passes : refusal l ≡ 0) where
   pub goal-below : l .head .goal < l .head .formulas
   goal-below = omega (arith, source .goal-is-formula, length-formulas l, goal-is)
 
+  effects-limit : l .head .effects ≤ 4096
+  effects-limit = omega (arith, source .limits .effects, length-effects l)
+
+  effects-down : EffectsDown (l .head .variables) (l .head .formulas) (effect-rows (frame-of (l .head) rows twins) (l .effects))
+  effects-down = rw its-effects at (rw (length-formulas l) at (rw its-variables at (rules-effects t source)))
+
+  -- the spans are found in a table of their own
+  pub finds : FindsSpans (frame-of (l .head) rows twins) (l .effects) (replicate 8192 0)
+  finds =
+      record {
+        words = long .effects;
+        limit = effects-limit;
+        down = effects-down;
+        room = omega (arith, effects-limit, length-replicate {A = ℕ} 8192 0);
+      }
+
   -- What the parts ask.
   module _ (effects : ℕ) (x : Tables) (b : Begins l rows twins effects x) where
     -- with a table of 0 in which rows are built, and one for records
-    pub starts : Starts l rows twins effects x (replicate 20480 0) (replicate 6912 0)
-    starts =
+    pub starts :
+        {spans : List ℕ}
+        → Spans (frame-of (l .head) rows twins) (l .effects) spans
+        → Starts l rows twins effects x spans (replicate 20480 0) (replicate 6912 0)
+    starts s =
         record {
           begins = b;
+          spanned = s;
           fresh =
               record {
                 room = omega (arith, length-replicate {A = ℕ} 20480 0);
@@ -181,8 +202,8 @@ module _ (l : Lent) (rows twins : ℕ) (passes : refusal l ≡ 0) where
               record {
                 words = long .effects;
                 memo = b .lends .memo;
-                limit = omega (arith, source .limits .effects, length-effects l);
-                down = rw its-effects at (rw (length-formulas l) at (rw its-variables at (rules-effects t source)));
+                limit = effects-limit;
+                down = effects-down;
               };
           twins = b .lends .twins-space;
           variables = b .lends .variables-limit;
@@ -197,14 +218,16 @@ module _ (l : Lent) (rows twins : ℕ) (passes : refusal l ≡ 0) where
     first-taken g = taken-none frame (l .formulas) (l .effects) (l .operators) blank-is g
 
   pub next-asks :
-      {table originals scratch records : List ℕ} {p : Progress}
+      {spans table originals scratch records : List ℕ} {p : Progress}
+      → Spans (frame-of (l .head) rows twins) (l .effects) spans
       → p .operators < l .head .operators
       → 6912 ≤ length records
       → Taken (frame-of (l .head) rows twins) (l .formulas) (l .effects) (l .operators) (store table originals) scratch records p
-      → Takes (frame-of (l .head) rows twins) (l .formulas) (l .effects) (l .operators) (store table originals) scratch records p
-  next-asks {p = p} h space k =
+      → Takes (frame-of (l .head) rows twins) (l .formulas) (l .effects) spans (l .operators) (store table originals) scratch records p
+  next-asks {p = p} s h space k =
       record {
         taken = k;
+        spanned = s;
         words = omega (arith, long .operators);
         limit = omega (arith, source .limits .operators, length-operators l);
         room = space;

@@ -13,6 +13,7 @@ use Rattle.normal_form.specs.Compiled.{Room, Fits, padded}
 use Rattle.normal_form.proofs.Over.{Allows}
 use Rattle.formula_builder.specs.declared.Frame.{Frame}
 use Rattle.formula_builder.specs.Held.{store}
+use Rattle.conditions.specs.Conditions.{Spans}
 use Rattle.building.specs.declared.Progress.{Progress}
 use Rattle.building.specs.Taken.{Fresh, Taken}
 use Rattle.filling.specs.declared.Passes.{Passes}
@@ -72,9 +73,10 @@ pub record Begins (l : Lent) (rows twins effects : ℕ) (x : Tables) : Type 0 wh
   pub blank-twins : x .twins ≡ replicate (length (x .twins)) 0
   pub blank-scratch : x .scratch ≡ replicate (length (x .scratch)) 0
 
--- All tables are 0, and the one in which rows are built; there is room for records.
-pub record Starts (l : Lent) (rows twins effects : ℕ) (x : Tables) (built records : List ℕ) : Type 0 where
+-- All tables are 0, and the one in which rows are built; the spans of the effect rows are known, and there is room for records.
+pub record Starts (l : Lent) (rows twins effects : ℕ) (x : Tables) (spans built records : List ℕ) : Type 0 where
   pub begins : Begins l rows twins effects x
+  pub spanned : Spans (frame-of (l .head) rows twins) (l .effects) spans
   pub fresh : Fresh (frame-of (l .head) rows twins) built
   pub space : 6912 ≤ length records
 

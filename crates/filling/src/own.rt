@@ -1,12 +1,14 @@
-// Filling, with two tables of its own: one in which rows are built, and one of records.
+// Filling, with three tables of its own: one in which rows are built, one of records, one of the spans of effect rows.
 use crate::Passes;
 use crate::whole::fill_built;
+use formula_builder::Frame;
+use spans::find_spans;
 use task::Head;
 ghost use Rattle.task.specs.Table.{lent};
 ghost use Rattle.filling.specs.Fills.{tables, Begins, Fills};
 
 // The first has the words of 4,096 rows, a link for each, and the heads of 4,096 chains: 40 KiB, cleared. The second has three words for
-// each of 256 operators and 2,048 changes: 13.5 KiB, cleared.
+// each of 256 operators and 2,048 changes: 13.5 KiB, cleared. The third has two for each of 4,096 effects: 16 KiB, cleared.
 pub fn fill(
     head: Head,
     initial: &[u8],
@@ -29,12 +31,22 @@ pub fn fill(
 {
     let mut built = [0u16; 20480];
     let mut records = [0u16; 6912];
+    let mut spans = [0u16; 8192];
+    let frame = Frame {
+        variables: head.variables as usize,
+        formulas: head.formulas as usize,
+        effects: head.effects as usize,
+        rows: rows,
+        twins: most,
+    };
+    find_spans(effects, frame, &mut spans);
     fill_built(
         head,
         initial,
         twins,
         formulas,
         effects,
+        &spans,
         operators,
         rows,
         most,

@@ -72,8 +72,8 @@ makes-give x a =
     }
 
 pub passed-over :
-    (frame : Frame) (formulas effects : List ℕ) (at : Size) (s : Store) (scratch : List ℕ) (e v : ℕ)
-    → StandsAt frame formulas effects at s scratch e
+    {spans : List ℕ} (frame : Frame) (formulas effects : List ℕ) (at : Size) (s : Store) (scratch : List ℕ) (e v : ℕ)
+    → StandsAt frame formulas effects spans at s scratch e
     → Untouched frame formulas effects v e
     → Makes (changes-of (frame .variables) (effect-tree frame formulas effects e) v) frame formulas at s s scratch scratch false at
     (record { variable = v; adds = 0; deletes = 0 })
@@ -210,8 +210,8 @@ module _ (frame : Frame) (formulas effects : List ℕ) (p e : ℕ) {at : Size} {
 
 -- what the image of the precondition asks
 pub asks-precondition :
-    {frame : Frame} {formulas effects : List ℕ} {at : Size} {s : Store} {scratch : List ℕ} {p e : ℕ}
-    → BuildsOperator frame formulas effects at s scratch p e
+    {frame : Frame} {formulas effects spans : List ℕ} {at : Size} {s : Store} {scratch : List ℕ} {p e : ℕ}
+    → BuildsOperator frame formulas effects spans at s scratch p e
     → Asks frame formulas at s scratch p
 asks-precondition a =
     record {
@@ -223,8 +223,8 @@ asks-precondition a =
 
 -- and what marking asks after it
 pub asks-marks :
-    {frame : Frame} {formulas effects : List ℕ} {at : Size} {s : Store} {scratch : List ℕ} {e : ℕ} (touched : List ℕ)
-    → StandsAt frame formulas effects at s scratch e
+    {frame : Frame} {formulas effects spans : List ℕ} {at : Size} {s : Store} {scratch : List ℕ} {e : ℕ} (touched : List ℕ)
+    → StandsAt frame formulas effects spans at s scratch e
     → 512 ≤ length touched
     → Marks frame effects scratch touched e
 asks-marks touched a room =
@@ -241,12 +241,12 @@ asks-marks touched a room =
 
 -- what the walk asks after marking, which leaves the scratch as it was
 pub asks-walk :
-    {frame : Frame} {formulas effects : List ℕ} {at : Size} {s : Store} {scratch scratch' : List ℕ} {e : ℕ} (touched : List ℕ)
-    → StandsAt frame formulas effects at s scratch e
+    {frame : Frame} {formulas effects spans : List ℕ} {at : Size} {s : Store} {scratch scratch' : List ℕ} {e : ℕ} (touched : List ℕ)
+    → StandsAt frame formulas effects spans at s scratch e
     → scratch' ≡ scratch
     → 512 ≤ length touched
     → ((v : ℕ) → getD touched v 0 ≡ 0 → Untouched frame formulas effects v e)
-    → WalksAll frame formulas effects touched at s scratch' e
+    → WalksAll frame formulas effects spans touched at s scratch' e
 asks-walk {frame} touched a same room passed =
     rw same (record { stands = a; room = omega (arith, a .stands .ready .variables); passed = passed })
 

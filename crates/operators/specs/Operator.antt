@@ -26,17 +26,17 @@ unfoldable pub operator-built : Frame → List ℕ → List ℕ → ℕ → ℕ 
 operator-built frame formulas effects p e =
     bind (image-at frame formulas plain p) (λ f. all-changes frame formulas effects e (frame .variables))
 
-pub record WalksVariable (walked : Bool) (frame : Frame) (formulas effects : List ℕ) (at : Size) (s : Store) (scratch : List ℕ) (e v : ℕ) : Type 0 where
-  pub stands : StandsAt frame formulas effects at s scratch e
+pub record WalksVariable (walked : Bool) (frame : Frame) (formulas effects spans : List ℕ) (at : Size) (s : Store) (scratch : List ℕ) (e v : ℕ) : Type 0 where
+  pub stands : StandsAt frame formulas effects spans at s scratch e
   pub passed : walked ≡ false → Untouched frame formulas effects v e
 
-pub record WalksAll (frame : Frame) (formulas effects touched : List ℕ) (at : Size) (s : Store) (scratch : List ℕ) (e : ℕ) : Type 0 where
-  pub stands : StandsAt frame formulas effects at s scratch e
+pub record WalksAll (frame : Frame) (formulas effects spans touched : List ℕ) (at : Size) (s : Store) (scratch : List ℕ) (e : ℕ) : Type 0 where
+  pub stands : StandsAt frame formulas effects spans at s scratch e
   pub room : frame .variables ≤ length touched
   pub passed : (v : ℕ) → getD touched v 0 ≡ 0 → Untouched frame formulas effects v e
 
-pub record BuildsOperator (frame : Frame) (formulas effects : List ℕ) (at : Size) (s : Store) (scratch : List ℕ) (p e : ℕ) : Type 0 where
-  pub stands : StandsAt frame formulas effects at s scratch e
+pub record BuildsOperator (frame : Frame) (formulas effects spans : List ℕ) (at : Size) (s : Store) (scratch : List ℕ) (p e : ℕ) : Type 0 where
+  pub stands : StandsAt frame formulas effects spans at s scratch e
   pub formula : p < frame .formulas
 
 abbrev pub size-behind : Tally → Size

@@ -13,6 +13,7 @@ ghost use Rattle.operators.specs.Operator.{BuildsOperator, operator-buil
 pub fn build_operator(
     formulas: &[u16],
     effects: &[u16],
+    spans: &[u16],
     p: usize,
     e: usize,
     frame: Frame,
@@ -23,7 +24,7 @@ pub fn build_operator(
     from: usize,
     records: &mut [u16],
 ) -> Tally
-    requires { ⌜ BuildsOperator frame (now formulas) (now effects) at (store (now table) (now originals)) (now scratch) p e × Opens from (now records) ⌝ }
+    requires { ⌜ BuildsOperator frame (now formulas) (now effects) (now spans) at (store (now table) (now originals)) (now scratch) p e × Opens from (now records) ⌝ }
     ensures { λ r. ⌜ OperatorWalked frame (now (formulas .entry)) (now (effects .entry)) p e at (store (now (table .entry)) (now (originals .entry))) (store (now (table .exit)) (now (originals .exit))) (now (scratch .entry)) (now (scratch .exit)) from (now (records .entry)) (now (records .exit)) r ⌝ }
 {
     let f = image(formulas, p, frame, at, table, originals, scratch);
@@ -41,6 +42,7 @@ pub fn build_operator(
     let r = build_changes(
         formulas,
         effects,
+        spans,
         e,
         &touched,
         frame,

@@ -21,6 +21,7 @@ pub fn change_if(
     walked: bool,
     formulas: &[u16],
     effects: &[u16],
+    spans: &[u16],
     e: usize,
     v: u16,
     frame: Frame,
@@ -29,13 +30,14 @@ pub fn change_if(
     originals: &mut [u16],
     scratch: &mut [u16],
 ) -> Change
-    requires { ⌜ WalksVariable walked frame (now formulas) (now effects) at (store (now table) (now originals)) (now scratch) e v ⌝ }
+    requires { ⌜ WalksVariable walked frame (now formulas) (now effects) (now spans) at (store (now table) (now originals)) (now scratch) e v ⌝ }
     ensures { λ r. ⌜ Makes (changes-of (frame .variables) (effect-tree frame (now (formulas .entry)) (now (effects .entry)) e) v) frame (now (formulas .entry)) at (store (now (table .entry)) (now (originals .entry))) (store (now (table .exit)) (now (originals .exit))) (now (scratch .entry)) (now (scratch .exit)) (r .full) (size-after r) (made v r) ⌝ }
 {
     if walked {
         return change_of(
             formulas,
             effects,
+            spans,
             e,
             v,
             frame,
@@ -58,6 +60,7 @@ pub fn change_if(
 pub fn build_changes(
     formulas: &[u16],
     effects: &[u16],
+    spans: &[u16],
     e: usize,
     touched: &[u8],
     frame: Frame,
@@ -68,7 +71,7 @@ pub fn build_changes(
     from: usize,
     records: &mut [u16],
 ) -> Tally
-    requires { ⌜ WalksAll frame (now formulas) (now effects) (now touched) at (store (now table) (now originals)) (now scratch) e × Opens from (now records) ⌝ }
+    requires { ⌜ WalksAll frame (now formulas) (now effects) (now spans) (now touched) at (store (now table) (now originals)) (now scratch) e × Opens from (now records) ⌝ }
     ensures { λ r. ⌜ Walked (all-changes frame (now (formulas .entry)) (now (effects .entry)) e (frame .variables)) frame (now (formulas .entry)) at (store (now (table .entry)) (now (originals .entry))) (store (now (table .exit)) (now (originals .exit))) (now (scratch .entry)) (now (scratch .exit)) from (now (records .entry)) (now (records .exit)) r ⌝ }
 {
     let n = frame.variables;
@@ -86,6 +89,7 @@ pub fn build_changes(
             touched[v] != 0,
             formulas,
             effects,
+            spans,
             e,
             variable,
             frame,

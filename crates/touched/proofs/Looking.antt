@@ -1,101 +1,17 @@
 -- Marking finds every variable that an effect touches. Assumes nothing.
-use Prim.Native.Nat.{ℕ, zero, suc, _+_, _*_, _≤_, _<_}
+use Prim.Native.Nat.{ℕ, zero, suc, _+_, _-_, _*_, _≤_, _<_}
 use native.Mathlib.Omega.{arith}
 use native.Mathlib.Decide.{decLt, ℕ-discrete}
-use mathlib.Core.Path.{_≡_, refl, sym, ap, ap₂, _∙_}
-use mathlib.Core.Bool.{Bool, true, false, cond}
+use mathlib.Core.Path.{_≡_, refl, sym, ap, _∙_}
 use mathlib.Core.List.{List, [], _∷_}
 use lib.ListN.{length, getD, set, length-set}
 use lib.Seq.{getD-set-same, getD-set-other, ext-getD, set-set, set-getD}
-use Rattle.task.specs.Table.{Row, row-at, effect-kind}
-use Rattle.task.specs.Semantics.{Formula}
-use Rattle.task.specs.Rules.{no-row, EffectRule}
-use Rattle.task.proofs.Bounded.{length-upto, getD-upto}
-use Rattle.normal_form.specs.Builder.{Build, give, bind, join, pair, Polarity, plain, negated, opposite, falsity, truth}
-use Rattle.normal_form.specs.Conditions.{guarded}
+use Rattle.task.specs.Table.{Row, row-at}
 use Rattle.formula_builder.specs.declared.Words.{Words}
 use Rattle.formula_builder.specs.declared.Frame.{Frame}
-use Rattle.formula_builder.specs.Held.{side, row-of}
-use Rattle.formula_builder.proofs.Steps.{join-left-true}
-use Rattle.images.specs.Images.{tree}
-use Rattle.conditions.specs.declared.Target.{Target}
-use Rattle.conditions.specs.Conditions.{atom-of, atom-by, acts, condition-at, effect-rows, EffectSource}
-use Rattle.conditions.proofs.Atoms.{touch-other}
-use Rattle.conditions.proofs.Rows.{both-lower, under-lower, of-atom, of-both, of-under}
-use borrow.Author.Tests.{eq-eqb}
-use Rattle.touched.specs.Touched.{Untouched, mark-place, LeftAlone, LooksAt, Looked, Marks}
-
--- a join of what folds away folds away
-idle-pair : (p : Polarity) → pair (opposite p) (give (falsity p)) (give (falsity p)) ≡ give (falsity p)
-unfolding pair bind give
-idle-pair plain = join-left-true negated 0 0 (λ e. omega arith) (λ e. omega arith) refl
-idle-pair negated = join-left-true plain 1 1 (λ e. omega arith) (λ e. omega arith) refl
-
--- and a formula over what folds away is not built
-idle-guard : (n : ℕ) (p : Polarity) (f : Formula) → bind (give (falsity p)) (λ c. guarded n p f c) ≡ give (falsity p)
-unfolding bind give guarded
-idle-guard n plain f = refl
-idle-guard n negated f = refl
-
--- Row i with the words w, of a variable v.
-module _ (frame : Frame) (formulas effects scratch : List ℕ) (source : EffectSource frame effects scratch) (i : ℕ) (h : i < frame .effects) (w : Words) (q : row-of w ≡ row-at effects i) (v : ℕ) where
-  kind-read : row-at effects i .kind ≡ w .kind
-  kind-read = ap (λ (r : Row). r .kind) (sym q)
-
-  pub idle-both :
-      w .kind ≡ 3 → Untouched frame formulas effects v (w .a) → Untouched frame formulas effects v (w .b) → Untouched frame formulas effects v i
-  idle-both k l r =
-      record {
-        idle = λ t e.
-            let p = side (t .negated) in
-            of-both frame formulas effects scratch source i h t (kind-read ∙ k)
-            ∙ rw (← q)
-            (ap₂ (pair (opposite p)) (l .idle t e) (r .idle t e) ∙ idle-pair p);
-      }
-
-  pub idle-under : w .kind ≡ 4 → Untouched frame formulas effects v (w .b) → Untouched frame formulas effects v i
-  idle-under k l =
-      record {
-        idle = λ t e.
-            let p = side (t .negated) in
-            let f = tree frame formulas (w .a) in
-            of-under frame formulas effects scratch source i h t (kind-read ∙ k)
-            ∙ ap (λ (r : Row). bind (condition-at frame formulas effects t (r .b)) (λ c. guarded (frame .variables) p (tree frame formulas (r .a)) c)) (sym q)
-            ∙ ap (λ (m : Build ℕ). bind m (λ c. guarded (frame .variables) p f c)) (l .idle t e)
-            ∙ idle-guard (frame .variables) p f;
-      }
-
-  pub idle-empty : w .kind ≡ 0 → Untouched frame formulas effects v i
-  unfolding acts effect-kind
-  idle-empty k =
-      record {
-        idle = λ t e.
-            of-atom frame formulas effects scratch source i h t (λ z. omega (arith, z, kind-read)) (λ z. omega (arith, z, kind-read))
-            ∙ rw (kind-read ∙ k);
-      }
-
-  pub idle-atom :
-      (w .kind ≡ 3 → ⊥) → (w .kind ≡ 4 → ⊥) → (v ≡ w .a → ⊥) → Untouched frame formulas effects v i
-  idle-atom three four other =
-      record {
-        idle = λ t e.
-            of-atom frame formulas effects scratch source i h t (λ z. three (sym kind-read ∙ z)) (λ z. four (sym kind-read ∙ z))
-            ∙ ap
-            (λ (b : Bool). give (cond b (truth (side (t .negated))) (falsity (side (t .negated)))))
-            (sym
-            (touch-other (t .clear) (t .variable) (row-at effects i .a) (effect-kind (row-at effects i .kind))
-            (λ z. other (sym e ∙ sym z ∙ ap (λ (r : Row). r .a) (sym q)))));
-      }
-
-  pub both-within : w .kind ≡ 3 → (w .a < i) × (w .b < i)
-  both-within k =
-      let l = both-lower frame formulas effects scratch source i h (kind-read ∙ k) in
-      (omega (arith, l .0, ap (λ (r : Row). r .a) q), omega (arith, l .1, ap (λ (r : Row). r .b) q))
-
-  pub under-within : w .kind ≡ 4 → w .b < i
-  under-within k =
-      let l = under-lower frame formulas effects scratch source i h (kind-read ∙ k) in
-      omega (arith, l .1, ap (λ (r : Row). r .b) q)
+use Rattle.formula_builder.specs.Held.{row-of}
+use Rattle.conditions.proofs.Alone.{idle-both, idle-under, idle-empty, idle-atom, both-within, under-within, atom-within}
+use Rattle.touched.specs.Touched.{Untouched, mark-place, Unmarked, LeftAlone, LooksAt, Looked, Marks}
 
 -- a mark that stands stays when another is made
 mark-keeps : (l : List ℕ) (k j : ℕ) → (getD l j 0 ≡ 0 → ⊥) → getD (set l k 1) j 0 ≡ 0 → ⊥
@@ -104,29 +20,6 @@ mark-keeps (x ∷ xs) zero zero h e = omega (arith, e)
 mark-keeps (x ∷ xs) zero (suc j) h e = h e
 mark-keeps (x ∷ xs) (suc k) zero h e = h e
 mark-keeps (x ∷ xs) (suc k) (suc j) h e = mark-keeps xs k j h e
-
--- an atom names a variable
-atom-rule : (v f i k a b : ℕ) → EffectRule v f i (effect-kind k) a b → (k ≡ 0 → ⊥) → (k ≡ 3 → ⊥) → (k ≡ 4 → ⊥) → a < v
-unfolding effect-kind
-atom-rule v f i zero a b r x y z = absurd (x refl)
-atom-rule v f i (suc zero) a b r x y z = r .0
-atom-rule v f i (suc (suc zero)) a b r x y z = r .0
-atom-rule v f i (suc (suc (suc zero))) a b r x y z = absurd (y refl)
-atom-rule v f i (suc (suc (suc (suc zero)))) a b r x y z = absurd (z refl)
-atom-rule v f i (suc (suc (suc (suc (suc k))))) a b r x y z = absurd r
-
-pub atom-within :
-    (frame : Frame) (effects scratch : List ℕ) (source : EffectSource frame effects scratch) (i : ℕ) (h : i < frame .effects) (w : Words) (q : row-of w ≡ row-at effects i)
-    → (w .kind ≡ 0 → ⊥)
-    → (w .kind ≡ 3 → ⊥)
-    → (w .kind ≡ 4 → ⊥)
-    → w .a < frame .variables
-unfolding effect-rows
-atom-within frame effects scratch source i h w q x y z =
-    let there : i < length (effect-rows frame effects) = rw (length-upto (frame .effects) (row-at effects)) h in
-    let same : getD (effect-rows frame effects) i no-row ≡ row-of w =
-    getD-upto (frame .effects) (row-at effects) i no-row h ∙ sym q in
-    atom-rule (frame .variables) (frame .formulas) i (w .kind) (w .a) (w .b) (rw same at (source .down .row i there)) x y z
 
 -- Row i was looked at, in general: the marks below it stay, and its own is answered for.
 module _ (frame : Frame) (effects : List ℕ) (i : ℕ) (before after touched touched' : List ℕ) where
@@ -281,8 +174,29 @@ module _ (frame : Frame) (effects : List ℕ) (i : ℕ) (l touched : List ℕ) (
         ∙ getD-set-other one left j 1 0 (λ e. omega arith)
         ∙ gone-other frame l i room j (λ z. omega arith))
 
--- The loop's invariant: the rows from i on have been looked at.
-pub record Marking (frame : Frame) (effects : List ℕ) (e i : ℕ) (before scratch touched : List ℕ) : Type 0 where
+-- a mark taken away, and one made above
+zero-keeps : (l : List ℕ) (k j : ℕ) → getD l j 0 ≡ 0 → getD (set l k 0) j 0 ≡ 0
+zero-keeps [] k j h = h
+zero-keeps (x ∷ xs) zero zero h = refl
+zero-keeps (x ∷ xs) zero (suc j) h = h
+zero-keeps (x ∷ xs) (suc k) zero h = h
+zero-keeps (x ∷ xs) (suc k) (suc j) h = zero-keeps xs k j h
+
+pub unmarked-gone : (frame : Frame) (l : List ℕ) (i low : ℕ) → Unmarked frame l low → Unmarked frame (set l (mark-place frame i) 0) low
+unmarked-gone frame l i low u j h = zero-keeps l (mark-place frame i) (mark-place frame j) (u j h)
+
+pub unmarked-above :
+    (frame : Frame) (l : List ℕ) (d low r : ℕ)
+    → r ≤ d
+    → r ≤ low
+    → Unmarked frame l low
+    → Unmarked frame (set l (mark-place frame d) 1) r
+unmarked-above frame l d low r x y u j h =
+    getD-set-other l (mark-place frame d) (mark-place frame j) 1 0 (λ z. omega arith) ∙ u j (omega arith)
+
+-- The loop's invariant: the rows from i on have been looked at, and none below low is marked.
+pub record Marking (frame : Frame) (effects : List ℕ) (e i low : ℕ) (before scratch touched : List ℕ) : Type 0 where
+  pub lows : Unmarked frame scratch low
   pub bound : i ≤ e + 1
   pub long : length scratch ≡ length before
   pub goes :
@@ -296,9 +210,10 @@ pub record Marking (frame : Frame) (effects : List ℕ) (e i : ℕ) (before scra
 pub marking-begins :
     (frame : Frame) (effects : List ℕ) (e : ℕ) (before touched : List ℕ)
     → Marks frame effects before touched e
-    → Marking frame effects e (e + 1) before (set before (mark-place frame e) 1) touched
+    → Marking frame effects e (e + 1) e before (set before (mark-place frame e) 1) touched
 marking-begins frame effects e before touched m =
     record {
+      lows = unmarked-above frame before e e e (omega arith) (omega arith) (λ j h. m .clean (mark-place frame j) (omega arith));
       bound = omega arith;
       long = length-set before (mark-place frame e) 1;
       goes = λ formulas v t alone.
@@ -316,10 +231,10 @@ marking-begins frame effects e before touched m =
 
 -- what looking at row k asks
 pub marking-looks :
-    (frame : Frame) (effects : List ℕ) (e i k : ℕ) (before scratch touched first : List ℕ)
+    {low : ℕ} (frame : Frame) (effects : List ℕ) (e i k : ℕ) (before scratch touched first : List ℕ)
     → Marks frame effects before first e
     → length touched ≡ length first
-    → Marking frame effects e i before scratch touched
+    → Marking frame effects e i low before scratch touched
     → k < i
     → LooksAt frame effects scratch touched k
 marking-looks frame effects e i k before scratch touched first m same x h =
@@ -337,14 +252,16 @@ marking-looks frame effects e i k before scratch touched first m same x h =
     }
 
 pub marking-more :
-    (frame : Frame) (effects : List ℕ) (e i k : ℕ) (before scratch scratch' touched touched' : List ℕ)
+    {low next : ℕ} (frame : Frame) (effects : List ℕ) (e i k : ℕ) (before scratch scratch' touched touched' : List ℕ)
     → k + 1 ≡ i
     → length scratch' ≡ length scratch
-    → Marking frame effects e i before scratch touched
+    → Marking frame effects e i low before scratch touched
     → Looked frame effects k scratch scratch' touched touched'
-    → Marking frame effects e k before scratch' touched'
-marking-more frame effects e i k before scratch scratch' touched touched' n same x l =
+    → (Unmarked frame scratch low → Unmarked frame scratch' next)
+    → Marking frame effects e k next before scratch' touched'
+marking-more frame effects e i k before scratch scratch' touched touched' n same x l u =
     record {
+      lows = u (x .lows);
       bound = omega (arith, x .bound);
       long = same ∙ x .long;
       goes = λ formulas v t alone.
@@ -360,19 +277,26 @@ marking-more frame effects e i k before scratch scratch' touched touched' n same
         l .above j up ∙ x .above j (omega arith)
 
 pub marking-ends :
-    (frame : Frame) (effects : List ℕ) (e i : ℕ) (before scratch touched first : List ℕ)
+    {low : ℕ} (frame : Frame) (effects : List ℕ) (e i : ℕ) (before scratch touched first : List ℕ)
     → Marks frame effects before first e
-    → Marking frame effects e i before scratch touched
-    → i ≤ 0
+    → Marking frame effects e i low before scratch touched
+    → i ≤ low
     → (scratch ≡ before) × ((formulas : List ℕ) (v : ℕ) → getD touched v 0 ≡ 0 → Untouched frame formulas effects v e)
-marking-ends frame effects e i before scratch touched first m x z = (
+marking-ends {low} frame effects e i before scratch touched first m x z = (
   ext-getD 0 scratch before (x .long) (λ j h. go j (decLt j (2 * frame .formulas + frame .effects))),
-  λ formulas v t. x .goes formulas v t (λ j h k. absurd (omega arith)),
+  λ formulas v t. x .goes formulas v t (λ j h k. absurd (k (x .lows j (omega arith)))),
 )
   where
+    blank : (k : ℕ) → Dec (k < i) → getD scratch (mark-place frame k) 0 ≡ 0
+    blank k (yes b) = x .lows k (omega arith)
+    blank k (no b) = x .above (mark-place frame k) (omega arith)
+
     go : (j : ℕ) → Dec (j < 2 * frame .formulas + frame .effects) → getD scratch j 0 ≡ getD before j 0
     go j (yes b) = x .below j b
-    go j (no b) = x .above j (omega arith) ∙ sym (m .clean j (omega arith))
+    go j (no b) =
+        let k = j - (2 * frame .formulas + frame .effects) in
+        let e : mark-place frame k ≡ j = omega arith in
+        (rw e at (blank k (decLt k i))) ∙ sym (m .clean j (omega arith))
 
 -- the root's mark taken away again
 pub unmarked :

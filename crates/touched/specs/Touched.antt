@@ -1,24 +1,19 @@
--- Variables that an effect neither sets nor clears, and what marking tells of them.
+-- What marking tells of the variables that an effect neither sets nor clears.
 use Prim.Native.Nat.{ℕ, _+_, _*_, _≤_, _<_}
 use mathlib.Core.Path.{_≡_}
 use mathlib.Core.List.{List}
 use lib.ListN.{length, getD}
-use Rattle.normal_form.specs.Builder.{give, falsity}
 use Rattle.formula_builder.specs.declared.Frame.{Frame}
-use Rattle.formula_builder.specs.Held.{side}
-use Rattle.conditions.specs.declared.Target.{Target}
-use Rattle.conditions.specs.Conditions.{condition-at, EffectSource}
-
--- Effect e neither sets nor clears v: each condition is false (dually true), and nothing is built.
-pub record Untouched (frame : Frame) (formulas effects : List ℕ) (v e : ℕ) : Type 0 where
-  pub idle :
-      (t : Target)
-      → t .variable ≡ v
-      → condition-at frame formulas effects t e ≡ give (falsity (side (t .negated)))
+use Rattle.conditions.specs.Conditions.{EffectSource}
+pub use Rattle.conditions.specs.Conditions.{Untouched}
 
 -- where row j's mark is
 abbrev pub mark-place : Frame → ℕ → ℕ
 mark-place frame j = 2 * frame .formulas + frame .effects + j
+
+-- no row below low is marked
+abbrev pub Unmarked : Frame → List ℕ → ℕ → Type 0
+Unmarked frame scratch low = (j : ℕ) → j < low → getD scratch (mark-place frame j) 0 ≡ 0
 
 -- each marked row below i leaves v alone
 abbrev pub LeftAlone : Frame → List ℕ → List ℕ → List ℕ → ℕ → ℕ → Type 0

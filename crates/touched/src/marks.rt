@@ -5,17 +5,34 @@ ghost use mathlib.Core.Path.{_≡_};
 ghost use mathlib.Core.List.{List};
 ghost use Prim.Native.Nat.{ℕ, _+_, _*_, _≤_, _<_};
 ghost use lib.ListN.{length, getD};
-ghost use Rattle.touched.specs.Touched.{LooksAt, Looked, Marks, Untouched};
+ghost use Rattle.touched.specs.Touched.{LooksAt, Looked, Marks, Unmarked, Untouched};
 
-// Looks at row i: if it is marked, the mark goes on to the rows that it names, or its variable is touched.
-fn look(effects: &[u16], i: usize, frame: Frame, scratch: &mut [u16], touched: &mut [u8])
+fn least(a: usize, b: usize) -> usize
+    ensures { λ r. ⌜ (r ≤ a) × (r ≤ b) ⌝ }
+{
+    if a < b {
+        return a;
+    }
+    b
+}
+
+// Looks at row i: if it is marked, the mark goes on to the rows that it names, or its variable is touched. No row below low is marked;
+// answers how far down that holds then.
+fn look(
+    effects: &[u16],
+    i: usize,
+    low: usize,
+    frame: Frame,
+    scratch: &mut [u16],
+    touched: &mut [u8],
+) -> usize
     requires { ⌜ LooksAt frame (now effects) (now scratch) (now touched) i ⌝ }
-    ensures { λ _. ⌜ Looked frame (now (effects .entry)) i (now (scratch .entry)) (now (scratch .exit)) (now (touched .entry)) (now (touched .exit)) ⌝ }
+    ensures { λ r. ⌜ Looked frame (now (effects .entry)) i (now (scratch .entry)) (now (scratch .exit)) (now (touched .entry)) (now (touched .exit)) × (Unmarked frame (now (scratch .entry)) low → Unmarked frame (now (scratch .exit)) r) ⌝ }
 {
     let base = 2 * frame.formulas + frame.effects;
     let k = base + i;
     if scratch[k] == 0 {
-        return;
+        return low;
     }
     scratch[k] = 0;
     let w = read_row(effects, i);
@@ -24,21 +41,22 @@ fn look(effects: &[u16], i: usize, frame: Frame, scratch: &mut [u16], touched: &
         let right = base + w.b as usize;
         scratch[left] = 1;
         scratch[right] = 1;
-        return;
+        return least(low, least(w.a as usize, w.b as usize));
     }
     if w.kind == 4 {
         let inner = base + w.b as usize;
         scratch[inner] = 1;
-        return;
+        return least(low, w.b as usize);
     }
     if w.kind == 0 {
-        return;
+        return low;
     }
     let v = w.a as usize;
     touched[v] = 1;
+    low
 }
 
-// Marks in touched each variable that effect e sets or clears. Linear in e.
+// Marks in touched each variable that effect e sets or clears. A step for each row from e down to the least below it.
 pub fn touched_by(effects: &[u16], e: usize, frame: Frame, scratch: &mut [u16], touched: &mut [u8])
     requires { ⌜ Marks frame (now effects) (now scratch) (now touched) e ⌝ }
     ensures { λ _. ⌜ (now (scratch .exit) ≡ now (scratch .entry)) × ((formulas : List ℕ) (v : ℕ) → getD (now (touched .exit)) v 0 ≡ 0 → Untouched frame formulas (now (effects .entry)) v e) ⌝ }
@@ -46,8 +64,9 @@ pub fn touched_by(effects: &[u16], e: usize, frame: Frame, scratch: &mut [u16], 
     let root = 2 * frame.formulas + frame.effects + e;
     scratch[root] = 1;
     let mut i = e + 1;
-    while 0 < i {
+    let mut low = e;
+    while low < i {
         i -= 1;
-        look(effects, i, frame, scratch, touched);
+        low = look(effects, i, low, frame, scratch, touched);
     }
 }

@@ -9,7 +9,7 @@ use Rattle.changes.proofs.Standing.{asks-fresh, images-fresh}
 
 -- src/fresh.rt:31:9
 condition-requires : tie.Need-condition-requires
-condition-requires c κs = asks-fresh (c .before .before .before .before .before .before .before .before .args .t) (c .before .before .before .before .before .before .before .before .pre)
+condition-requires c κs = asks-fresh (c .before .before .before .before .before .before .before .before .before .args .t) (c .before .before .before .before .before .before .before .before .before .pre)
 
 -- src/fresh.rt:32:16
 mul-from : tie.Need-mul-from
@@ -41,7 +41,7 @@ same-length-3 c = search needs
 
 -- src/fresh.rt:27:1
 returns : tie.Need-returns
-returns c = images-fresh (c .before .before .before .before .before .before .before .before .before .before .before .before .before .before .before .before .before .before .before .before .pre) (c .before .before .before .before .before .before .before .before .before .before .before .condition .ensures) (c .before .before .clear .ensures)
+returns c = images-fresh (c .before .before .before .before .before .before .before .before .before .before .before .before .before .before .before .before .before .before .before .before .before .pre) (c .before .before .before .before .before .before .before .before .before .before .before .condition .ensures) (c .before .before .clear .ensures)
 
 pub condition-of-spec : {M : Type 1} → statement M
 condition-of-spec =

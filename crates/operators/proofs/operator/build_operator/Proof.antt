@@ -29,7 +29,7 @@ same-length-3 c = search needs
 
 -- src/operator.rt:31:9
 returns : tie.Need-returns
-returns c = precondition-full (c .before .before .before .before .before .before .before .before .before .before .before .before .before .before .before .before .before .args .frame) (c .before .before .before .before .before .before .before .before .before .before .before .before .before .before .before .before .before .args .formulas .now) (c .before .before .before .before .before .before .before .before .before .before .before .before .before .before .before .before .before .args .effects .now) (c .before .before .before .before .before .before .before .before .before .before .before .before .before .before .before .before .before .args .p) (c .before .before .before .before .before .before .before .before .before .before .before .before .before .before .before .before .before .args .e) (c .before .before .before .before .before .before .before .image .ensures) (c .if1 .taken) refl
+returns c = precondition-full (c .before .before .before .before .before .before .before .before .before .before .before .before .before .before .before .before .before .before .args .frame) (c .before .before .before .before .before .before .before .before .before .before .before .before .before .before .before .before .before .before .args .formulas .now) (c .before .before .before .before .before .before .before .before .before .before .before .before .before .before .before .before .before .before .args .effects .now) (c .before .before .before .before .before .before .before .before .before .before .before .before .before .before .before .before .before .before .args .p) (c .before .before .before .before .before .before .before .before .before .before .before .before .before .before .before .before .before .before .args .e) (c .before .before .before .before .before .before .before .image .ensures) (c .if1 .taken) refl
 
 -- src/operator.rt:40:44
 slice-aggregate-touched-by : tie.Need-slice-aggregate-touched-by
@@ -37,7 +37,7 @@ slice-aggregate-touched-by c = search needs
 
 -- src/operator.rt:40:5
 touched-by-requires : tie.Need-touched-by-requires
-touched-by-requires c κs = asks-marks _ (stands-at-next (c .before .before .before .before .before .before .before .before .before .before .before .before .before .before .before .before .before .before .before .pre .0 .stands) (c .before .before .before .before .before .before .before .before .before .image .ensures) (c .before .before .if1 .left) (c .before .before .before .before .before .before .before .before .before .image .kept .1 .1 .1 .1 .1 .1 .0)) (omega arith)
+touched-by-requires c κs = asks-marks _ (stands-at-next (c .before .before .before .before .before .before .before .before .before .before .before .before .before .before .before .before .before .before .before .before .pre .0 .stands) (c .before .before .before .before .before .before .before .before .before .image .ensures) (c .before .before .if1 .left) (c .before .before .before .before .before .before .before .before .before .image .kept .1 .1 .1 .1 .1 .1 .0)) (omega arith)
 
 -- src/operator.rt:45:9
 slice-aggregate-build-changes : tie.Need-slice-aggregate-build-changes
@@ -45,7 +45,7 @@ slice-aggregate-build-changes c = search needs
 
 -- src/operator.rt:41:9
 build-changes-requires : tie.Need-build-changes-requires
-build-changes-requires c κs = (asks-walk (c .before .before .before .before .before .before .before .before .touched-by .last .1 .1 .1 .1 .0) (stands-at-next (c .before .before .before .before .before .before .before .before .before .before .before .before .before .before .before .before .before .before .before .before .before .before .before .before .before .before .before .before .pre .0 .stands) (c .before .before .before .before .before .before .before .before .before .before .before .before .before .before .before .before .before .before .image .ensures) (c .before .before .before .before .before .before .before .before .before .before .before .if1 .left) (c .before .before .before .before .before .before .before .before .before .before .before .before .before .before .before .before .before .before .image .kept .1 .1 .1 .1 .1 .1 .0)) (c .before .before .before .before .before .before .before .before .touched-by .ensures .0) (omega (arith, c .before .before .before .before .before .before .before .before .touched-by .kept .1 .1 .1 .1 .0)) (c .before .before .before .before .before .before .before .before .touched-by .ensures .1 (c .before .before .before .before .before .before .before .before .before .before .before .before .before .before .before .before .before .before .before .before .before .before .before .before .before .before .before .before .args .formulas .now)), c .before .before .before .before .before .before .before .before .before .before .before .before .before .before .before .before .before .before .before .before .before .before .before .before .before .before .before .before .pre .1)
+build-changes-requires c κs = (asks-walk (c .before .before .before .before .before .before .before .before .touched-by .last .1 .1 .1 .1 .0) (stands-at-next (c .before .before .before .before .before .before .before .before .before .before .before .before .before .before .before .before .before .before .before .before .before .before .before .before .before .before .before .before .before .pre .0 .stands) (c .before .before .before .before .before .before .before .before .before .before .before .before .before .before .before .before .before .before .image .ensures) (c .before .before .before .before .before .before .before .before .before .before .before .if1 .left) (c .before .before .before .before .before .before .before .before .before .before .before .before .before .before .before .before .before .before .image .kept .1 .1 .1 .1 .1 .1 .0)) (c .before .before .before .before .before .before .before .before .touched-by .ensures .0) (omega (arith, c .before .before .before .before .before .before .before .before .touched-by .kept .1 .1 .1 .1 .0)) (c .before .before .before .before .before .before .before .before .touched-by .ensures .1 (c .before .before .before .before .before .before .before .before .before .before .before .before .before .before .before .before .before .before .before .before .before .before .before .before .before .before .before .before .before .args .formulas .now)), c .before .before .before .before .before .before .before .before .before .before .before .before .before .before .before .before .before .before .before .before .before .before .before .before .before .before .before .before .before .pre .1)
 
 -- src/operator.rt:13:1
 same-length-4 : tie.Need-same-length-4
@@ -65,7 +65,7 @@ same-length-7 c = search needs
 
 -- src/operator.rt:13:1
 returns-2 : tie.Need-returns-2
-returns-2 c = operator-walked (c .before .before .before .before .before .before .before .before .before .before .before .before .before .before .before .before .before .before .before .before .before .before .before .before .before .before .before .before .before .before .before .before .before .before .before .before .before .args .frame) (c .before .before .before .before .before .before .before .before .before .before .before .before .before .before .before .before .before .before .before .before .before .before .before .before .before .before .before .before .before .before .before .before .before .before .before .before .before .args .formulas .now) (c .before .before .before .before .before .before .before .before .before .before .before .before .before .before .before .before .before .before .before .before .before .before .before .before .before .before .before .before .before .before .before .before .before .before .before .before .before .args .effects .now) (c .before .before .before .before .before .before .before .before .before .before .before .before .before .before .before .before .before .before .before .before .before .before .before .before .before .before .before .before .before .before .before .before .before .before .before .before .before .args .p) (c .before .before .before .before .before .before .before .before .before .before .before .before .before .before .before .before .before .before .before .before .before .before .before .before .before .before .before .before .before .before .before .before .before .before .before .before .before .args .e) (c .before .before .before .before .before .before .before .before .before .before .before .before .before .before .before .before .before .before .before .before .before .before .before .before .before .before .before .image .ensures) (c .before .before .before .before .before .before .before .before .before .before .before .before .before .before .before .before .before .before .before .before .if1 .left) (c .before .before .before .before .before .before .before .before .before .before .before .before .before .before .before .before .before .touched-by .ensures .0) (c .before .before .before .before .before .before .before .before .build-changes .ensures) refl
+returns-2 c = operator-walked (c .before .before .before .before .before .before .before .before .before .before .before .before .before .before .before .before .before .before .before .before .before .before .before .before .before .before .before .before .before .before .before .before .before .before .before .before .before .before .args .frame) (c .before .before .before .before .before .before .before .before .before .before .before .before .before .before .before .before .before .before .before .before .before .before .before .before .before .before .before .before .before .before .before .before .before .before .before .before .before .before .args .formulas .now) (c .before .before .before .before .before .before .before .before .before .before .before .before .before .before .before .before .before .before .before .before .before .before .before .before .before .before .before .before .before .before .before .before .before .before .before .before .before .before .args .effects .now) (c .before .before .before .before .before .before .before .before .before .before .before .before .before .before .before .before .before .before .before .before .before .before .before .before .before .before .before .before .before .before .before .before .before .before .before .before .before .before .args .p) (c .before .before .before .before .before .before .before .before .before .before .before .before .before .before .before .before .before .before .before .before .before .before .before .before .before .before .before .before .before .before .before .before .before .before .before .before .before .before .args .e) (c .before .before .before .before .before .before .before .before .before .before .before .before .before .before .before .before .before .before .before .before .before .before .before .before .before .before .before .image .ensures) (c .before .before .before .before .before .before .before .before .before .before .before .before .before .before .before .before .before .before .before .before .if1 .left) (c .before .before .before .before .before .before .before .before .before .before .before .before .before .before .before .before .before .touched-by .ensures .0) (c .before .before .before .before .before .before .before .before .build-changes .ensures) refl
 
 pub build-operator-spec : {M : Type 1} → statement M
 build-operator-spec =

@@ -29,7 +29,7 @@ returns c = search needs
 
 -- src/walk.rt:17:1
 returns-2 : tie.Need-returns-2
-returns-2 c = passed-over (c .before .before .before .before .before .before .args .frame) (c .before .before .before .before .before .before .args .formulas .now) (c .before .before .before .before .before .before .args .effects .now) (c .before .before .before .before .before .before .args .at) (store (c .before .before .before .before .before .before .args .table .now) (c .before .before .before .before .before .before .args .originals .now)) (c .before .before .before .before .before .before .args .scratch .now) (c .before .before .before .before .before .before .args .e) (c .before .before .before .before .before .before .args .v) (c .before .before .before .before .before .before .pre .stands) (c .before .before .before .before .before .before .pre .passed (c .if1 .left))
+returns-2 c = passed-over (c .before .before .before .before .before .before .before .args .frame) (c .before .before .before .before .before .before .before .args .formulas .now) (c .before .before .before .before .before .before .before .args .effects .now) (c .before .before .before .before .before .before .before .args .at) (store (c .before .before .before .before .before .before .before .args .table .now) (c .before .before .before .before .before .before .before .args .originals .now)) (c .before .before .before .before .before .before .before .args .scratch .now) (c .before .before .before .before .before .before .before .args .e) (c .before .before .before .before .before .before .before .args .v) (c .before .before .before .before .before .before .before .pre .stands) (c .before .before .before .before .before .before .before .pre .passed (c .if1 .left))
 
 pub change-if-spec : {M : Type 1} → statement M
 change-if-spec =

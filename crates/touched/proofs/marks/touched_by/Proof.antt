@@ -11,10 +11,10 @@ use Rattle.touched.specs.Touched.{mark-place}
 use Rattle.touched.proofs.Looking.{Marking, marking-begins, marking-looks, marking-more, marking-ends, unmarked}
 
 abbrev Inv-loop : tie.InvT-loop
-Inv-loop effects e frame scratch₀ touched₀ root i₀ scratch touched i = (length touched ≡ length touched₀) × (length scratch ≡ length scratch₀) × Marking frame effects e i (set scratch₀ (mark-place frame e) 0) scratch touched
+Inv-loop effects e frame scratch₀ touched₀ root i₀ low₀ scratch touched i low = (length touched ≡ length touched₀) × (length scratch ≡ length scratch₀) × Marking frame effects e i low (set scratch₀ (mark-place frame e) 0) scratch touched
 
 abbrev μ-loop : tie.MeasureT-loop
-μ-loop effects e frame scratch₀ touched₀ root i₀ scratch touched i = i
+μ-loop effects e frame scratch₀ touched₀ root i₀ low₀ scratch touched i low = i
 
 -- src/marks.rt:46:16
 mul-root : tie.Need-mul-root Inv-loop μ-loop
@@ -58,7 +58,7 @@ loop-less c = omega arith
 
 -- src/marks.rt:49:5
 loop-again : tie.Need-loop-again Inv-loop μ-loop
-loop-again c = (c .before .before .before .before .look .kept .1 .1 .1 .1 .0 ∙ c .before .before .before .before .before .before .before .before .loop .inv .0, c .before .before .before .before .look .kept .1 .1 .1 .0 ∙ c .before .before .before .before .before .before .before .before .loop .inv .1, rw (unmarked (c .before .before .before .before .before .before .before .before .before .before .before .before .before .before .args .frame) (c .before .before .before .before .before .before .before .before .before .before .before .before .before .before .args .effects .now) (c .before .before .before .before .before .before .before .before .before .before .before .before .before .before .args .e) (c .before .before .before .before .before .before .before .before .before .before .before .before .before .before .args .scratch .now) (c .before .before .before .before .before .before .before .before .before .before .before .before .before .before .args .touched .now) (c .before .before .before .before .before .before .before .before .before .before .before .before .before .before .pre)) (marking-more (c .before .before .before .before .before .before .before .before .before .before .before .before .before .before .args .frame) (c .before .before .before .before .before .before .before .before .before .before .before .before .before .before .args .effects .now) (c .before .before .before .before .before .before .before .before .before .before .before .before .before .before .args .e) (c .before .before .before .before .before .before .before .before .loop .i) (c .before .before .before .before .before .before .before .before .loop .i - 1) (c .before .before .before .before .before .before .before .before .before .before .before .before .before .before .args .scratch .now) (c .before .before .before .before .before .before .before .before .loop .scratch) (c .before .before .before .before .look .last .1 .1 .1 .0) (c .before .before .before .before .before .before .before .before .loop .touched) (c .before .before .before .before .look .last .1 .1 .1 .1 .0) (omega arith) (c .before .before .before .before .look .kept .1 .1 .1 .0) (rw (unmarked (c .before .before .before .before .before .before .before .before .before .before .before .before .before .before .args .frame) (c .before .before .before .before .before .before .before .before .before .before .before .before .before .before .args .effects .now) (c .before .before .before .before .before .before .before .before .before .before .before .before .before .before .args .e) (c .before .before .before .before .before .before .before .before .before .before .before .before .before .before .args .scratch .now) (c .before .before .before .before .before .before .before .before .before .before .before .before .before .before .args .touched .now) (c .before .before .before .before .before .before .before .before .before .before .before .before .before .before .pre)) at (c .before .before .before .before .before .before .before .before .loop .inv .2)) (c .before .before .before .before .look .ensures)))
+loop-again c = (c .before .before .before .before .look .kept .1 .1 .1 .1 .1 .0 ∙ c .before .before .before .before .before .before .before .before .loop .inv .0, c .before .before .before .before .look .kept .1 .1 .1 .1 .0 ∙ c .before .before .before .before .before .before .before .before .loop .inv .1, rw (unmarked (c .before .before .before .before .before .before .before .before .before .before .before .before .before .before .args .frame) (c .before .before .before .before .before .before .before .before .before .before .before .before .before .before .args .effects .now) (c .before .before .before .before .before .before .before .before .before .before .before .before .before .before .args .e) (c .before .before .before .before .before .before .before .before .before .before .before .before .before .before .args .scratch .now) (c .before .before .before .before .before .before .before .before .before .before .before .before .before .before .args .touched .now) (c .before .before .before .before .before .before .before .before .before .before .before .before .before .before .pre)) (marking-more (c .before .before .before .before .before .before .before .before .before .before .before .before .before .before .args .frame) (c .before .before .before .before .before .before .before .before .before .before .before .before .before .before .args .effects .now) (c .before .before .before .before .before .before .before .before .before .before .before .before .before .before .args .e) (c .before .before .before .before .before .before .before .before .loop .i) (c .before .before .before .before .before .before .before .before .loop .i - 1) (c .before .before .before .before .before .before .before .before .before .before .before .before .before .before .args .scratch .now) (c .before .before .before .before .before .before .before .before .loop .scratch) (c .before .before .before .before .look .last .1 .1 .1 .1 .0) (c .before .before .before .before .before .before .before .before .loop .touched) (c .before .before .before .before .look .last .1 .1 .1 .1 .1 .0) (omega arith) (c .before .before .before .before .look .kept .1 .1 .1 .1 .0) (rw (unmarked (c .before .before .before .before .before .before .before .before .before .before .before .before .before .before .args .frame) (c .before .before .before .before .before .before .before .before .before .before .before .before .before .before .args .effects .now) (c .before .before .before .before .before .before .before .before .before .before .before .before .before .before .args .e) (c .before .before .before .before .before .before .before .before .before .before .before .before .before .before .args .scratch .now) (c .before .before .before .before .before .before .before .before .before .before .before .before .before .before .args .touched .now) (c .before .before .before .before .before .before .before .before .before .before .before .before .before .before .pre)) at (c .before .before .before .before .before .before .before .before .loop .inv .2)) (c .before .before .before .before .look .ensures .0) (c .before .before .before .before .look .ensures .1)))
 
 -- src/marks.rt:42:1
 same-length : tie.Need-same-length Inv-loop μ-loop
