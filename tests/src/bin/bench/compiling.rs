@@ -11,7 +11,7 @@ use saqwillo_tests::task::*;
 
 use crate::calls::compiling as calls;
 use crate::tasks;
-use crate::times::{least_of_three, print_pair, Report};
+use crate::times::{least_of_three, Report};
 use crate::worst;
 
 pub fn compare(report: Report) {
@@ -26,7 +26,7 @@ pub fn compare(report: Report) {
     compiling("deepest", &deep_task(formulas, effects));
     compiling("refused at the limit", &examples::conjunctions(4096));
     compiling(
-        "worst found, 16 variables, 1 operator",
+        "worst found, 8 variables, 1 operator",
         &worst::worst_found(),
     );
 }
@@ -90,24 +90,30 @@ impl<'a> Pair<'a> {
     }
 }
 
+/// The quicker form is compared, and the one that keeps nothing beside it.
 fn compiling(report: Report, name: &str, task: &Task) {
     let (mut ours, mut theirs) = (Pair::new(task), Pair::new(task));
-    let form = theirs.quicker();
+    let form = match report {
+        Report::Times => theirs.quicker(),
+        Report::Counts => Form::Kept,
+    };
     if report == Report::Times {
         ours.check();
     }
     let [_, _, f, e, _, _] = theirs.other(form).unwrap_or_default().words();
-    let library = report.compare(
-        &format!("compile {name}, to {f} + {e}"),
-        || {
-            ours.library();
-        },
-        || {
-            let _ = black_box(theirs.other(form));
-        },
-    );
-    if let (Some(library), Form::Kept) = (library, form) {
-        let other = theirs.seconds(Form::Cleared);
-        print_pair("  beside the form that keeps nothing", library, other);
+    let mut compare = |name: &str, form: Form| {
+        report.compare(
+            name,
+            || {
+                ours.library();
+            },
+            || {
+                let _ = black_box(theirs.other(form));
+            },
+        );
+    };
+    compare(&format!("compile {name}, to {f} + {e}"), form);
+    if form == Form::Kept {
+        compare("  beside the form that keeps nothing", Form::Cleared);
     }
 }

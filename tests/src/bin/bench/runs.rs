@@ -28,7 +28,7 @@ pub fn compare(report: Report) {
     let name = format!("run a small task, {steps} steps");
     if let Some(seconds) = running(report, &name, &small, &sequence) {
         println!(
-            "{:<50} {:>10.2} million steps a second",
+            "{:<58} {:>10.2} million steps a second",
             "  the library's",
             1e-6 * steps as f64 / seconds
         );

@@ -112,7 +112,7 @@ fn print_family(family: &Family) {
 /// The worst family, small enough for a table of times.
 pub fn worst_found() -> Task {
     (FAMILIES[WORST].make)(&Size {
-        variables: 16,
+        variables: 8,
         operators: 1,
         ..LIMITS
     })
