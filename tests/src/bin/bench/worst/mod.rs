@@ -5,6 +5,7 @@ mod alike;
 pub mod families;
 pub mod search;
 
+use saqwillo_tests::best::compile::Form;
 use saqwillo_tests::task::Task;
 
 use crate::compiling::Pair;
@@ -57,7 +58,7 @@ fn growth(family: &Family, whole: f64, half: Size) -> f64 {
 
 pub fn print_families(only: Option<&str>) {
     println!(
-        "{:<52} {:>5} {:>5} {:>5} {:>5} {:>10} {:>10} {:>8}",
+        "{:<52} {:>5} {:>5} {:>5} {:>5} {:>10} {:>10} {:>8}  answer",
         "powers of the counts; time at the limits", "V", "F", "E", "O", "library", "other", "ratio"
     );
     for family in &FAMILIES {
@@ -93,15 +94,15 @@ fn print_family(family: &Family) {
     let (library, measured) = at_the_limits(family);
     let task = (family.make)(&LIMITS);
     let mut pair = Pair::new(&task);
-    let form = pair.quicker();
-    let other = pair.seconds(form);
+    let other = pair.seconds(Form::Kept);
+    let answer = pair.other(Form::Kept).err().unwrap_or(0);
     let foretold = if measured < LIMITS.operators {
         "*"
     } else {
         " "
     };
     println!(
-        "{:<52} {v:>5.1} {f:>5.1} {e:>5.1} {o:>5.1} {:>10}{foretold}{:>9} {:>8.1}",
+        "{:<52} {v:>5.1} {f:>5.1} {e:>5.1} {o:>5.1} {:>10}{foretold}{:>9} {:>8.1} {answer:>7}",
         family.name,
         readable(library),
         readable(other),
