@@ -16,7 +16,7 @@ const SLOTS: usize = 4 * MOST_FORMULAS;
 type Memo = [Vec<u16>; 2];
 
 pub struct Builder<'a> {
-    source: Rows<'a>,
+    pub source: Rows<'a>,
     pub rows: Vec<[u16; 3]>,
     slots: Vec<u16>,
     pub twins: Vec<u16>,

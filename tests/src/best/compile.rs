@@ -1,13 +1,32 @@
 //! Compiling straight into lent tables.
 
+use std::ops::Range;
+
 use super::builder::Builder;
+use super::kept::Kept;
 use super::{Room, Rows};
 use crate::builder::Over;
 use crate::task::*;
 
+/// How effect conditions are found: neither form is the quicker on all tasks.
+#[derive(Clone, Copy, Debug, PartialEq, Eq)]
+pub enum Form {
+    /// A walk for each operator and atom, with a memo that is cleared.
+    Cleared,
+    /// With as much memory as it likes: each condition once for all operators.
+    Kept,
+}
+
+pub const FORMS: [Form; 2] = [Form::Cleared, Form::Kept];
+
 /// The new head, or the refusal; then all lent tables are 0. Scratch ends as
 /// 0 and is measured, but not used.
-pub fn compile(rows: &Rows, mut room: Room, scratch: &mut [u16]) -> Result<Head, Refusal> {
+pub fn compile(
+    form: Form,
+    rows: &Rows,
+    mut room: Room,
+    scratch: &mut [u16],
+) -> Result<Head, Refusal> {
     room.clear();
     scratch.fill(0);
     let rows = rows.checked()?;
@@ -18,7 +37,7 @@ pub fn compile(rows: &Rows, mut room: Room, scratch: &mut [u16]) -> Result<Head,
     if scratch.len() < 2 * (f + e) {
         return Err(14);
     }
-    let answer = fill(&rows, &mut room);
+    let answer = fill(form, &rows, &mut room);
     if answer.is_err() {
         room.clear();
     }
@@ -26,24 +45,55 @@ pub fn compile(rows: &Rows, mut room: Room, scratch: &mut [u16]) -> Result<Head,
 }
 
 /// The conditions under which an operator sets and clears a variable.
-struct Conditions {
-    variable: u16,
-    set: u16,
-    clear: u16,
+pub struct Conditions {
+    pub variable: u16,
+    pub set: u16,
+    pub clear: u16,
 }
 
-fn fill(rows: &Rows, room: &mut Room) -> Result<Head, Over> {
+/// What stands between two operators, by form.
+enum Walks {
+    Cleared(Touched),
+    Kept(Kept),
+}
+
+impl Walks {
+    fn new(form: Form, rows: &Rows) -> Walks {
+        match form {
+            Form::Cleared => Walks::Cleared(Touched::new(rows)),
+            Form::Kept => Walks::Kept(Kept::new(rows)),
+        }
+    }
+
+    /// An effect's conditions, behind those that stand or among them.
+    fn conditions(
+        &mut self,
+        builder: &mut Builder,
+        root: u16,
+        all: &mut Vec<Conditions>,
+    ) -> Result<Range<usize>, Over> {
+        match self {
+            Walks::Kept(kept) => kept.conditions(builder, root, all),
+            Walks::Cleared(touched) => {
+                let first = all.len();
+                for variable in touched.variables(&builder.source, root) {
+                    all.extend(conditions(builder, variable, root)?);
+                }
+                Ok(first..all.len())
+            }
+        }
+    }
+}
+
+fn fill(form: Form, rows: &Rows, room: &mut Room) -> Result<Head, Over> {
     let mut builder = Builder::new(*rows);
-    let mut touched = Touched::new(rows);
+    let mut walks = Walks::new(form, rows);
     let mut all = Vec::new();
     let mut operators = Vec::new();
     for row in rows.operators.chunks_exact(OPERATOR_ROW) {
         let precondition = builder.image(row[0], false)?;
-        let first = all.len();
-        for variable in touched.variables(rows, row[1]) {
-            all.extend(conditions(&mut builder, variable, row[1])?);
-        }
-        operators.push((precondition, first..all.len(), row[2]));
+        let range = walks.conditions(&mut builder, row[1], &mut all)?;
+        operators.push((precondition, range, row[2]));
     }
     let goal = builder.image(rows.head.goal, false)?;
     let mut effects = Effects::new(room.effects)?;

@@ -4,6 +4,8 @@
 
 pub mod builder;
 pub mod compile;
+pub mod kept;
+pub mod print;
 pub mod read;
 pub mod rules;
 pub mod run;

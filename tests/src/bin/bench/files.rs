@@ -6,9 +6,10 @@ use saqwillo_tests::file::{file_of, LARGEST};
 use saqwillo_tests::task::*;
 
 use crate::calls::reading as calls;
-use crate::{tasks, times};
+use crate::tasks;
+use crate::times::Report;
 
-pub fn compare() {
+pub fn compare(report: Report) {
     let small = examples::whole();
     let typical = tasks::typical(40);
     let longest = tasks::longest();
@@ -19,15 +20,15 @@ pub fn compare() {
     ] {
         let file = file_of(&task.head, &task.tables);
         let name = format!("{name} file, {} bytes", file.len());
-        reading(&format!("read {name}"), &file, &task.head.needs());
-        writing(&format!("write {name}"), task, file.len());
+        reading(report, &format!("read {name}"), &file, &task.head.needs());
+        writing(report, &format!("write {name}"), task, file.len());
     }
     let file = file_of(&small.head, &small.tables);
-    reading("read small file, all lent", &file, &LARGEST);
-    writing("write small file, all lent", &small, 43_341);
+    reading(report, "read small file, all lent", &file, &LARGEST);
+    writing(report, "write small file, all lent", &small, 43_341);
 }
 
-fn reading(name: &str, file: &[u8], lent: &Lengths) {
+fn reading(report: Report, name: &str, file: &[u8], lent: &Lengths) {
     let mut ours = Tables::zeros(lent);
     let mut theirs = Tables::zeros(lent);
     let mut head = [0; 6];
@@ -35,7 +36,7 @@ fn reading(name: &str, file: &[u8], lent: &Lengths) {
     let other = read::read(file, Room::of(&mut theirs));
     assert_eq!((number, Ok(Head::from_words(head))), (0, other));
     assert!(ours == theirs);
-    times::compare(
+    report.compare(
         name,
         || {
             calls::read_quickly(file, &mut head, &mut ours);
@@ -46,14 +47,14 @@ fn reading(name: &str, file: &[u8], lent: &Lengths) {
     );
 }
 
-fn writing(name: &str, task: &Task, length: usize) {
+fn writing(report: Report, name: &str, task: &Task, length: usize) {
     let mut ours = vec![0; length];
     let mut theirs = vec![0; length];
     let rows = Rows::of(task);
     let written = calls::write_quickly(task, &mut ours);
     assert_eq!(Ok(written), write::write(&rows, &mut theirs));
     assert!(ours == theirs);
-    times::compare(
+    report.compare(
         name,
         || {
             calls::write_quickly(task, &mut ours);

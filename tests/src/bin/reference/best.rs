@@ -1,11 +1,12 @@
 //! Group `best`: the quickest forms give what the plain ones give.
 
-use saqwillo_tests::best::{compile, read, run, write, Room, Rows};
+use saqwillo_tests::best::{self, compile, read, run, write, Room, Rows};
 use saqwillo_tests::damage;
 use saqwillo_tests::examples;
 use saqwillo_tests::file::{self, file_of, LARGEST};
 use saqwillo_tests::generate::{self, Shape};
 use saqwillo_tests::harness::{dump_task, Test, Trial, Verdict};
+use saqwillo_tests::print;
 use saqwillo_tests::semantics;
 use saqwillo_tests::task::*;
 
@@ -22,6 +23,7 @@ pub fn tests() -> Vec<Test> {
         test("writing", writing),
         test("running", running),
         test("compiling", compiling),
+        test("printing", printing),
     ]
 }
 
@@ -114,12 +116,19 @@ fn running(trial: &mut Trial) -> Verdict {
 }
 
 fn same_compiled(trial: &mut Trial, task: &Task, lent: &Lengths) -> Verdict {
-    trial.case();
+    for form in compile::FORMS {
+        trial.case();
+        same_in_form(form, task, lent)?;
+    }
+    Ok(())
+}
+
+fn same_in_form(form: compile::Form, task: &Task, lent: &Lengths) -> Verdict {
     let rows = usize::from(task.head.formula_count) + usize::from(task.head.effect_count);
     let mut scratch = vec![7; 2 * rows];
     let plain = saqwillo_tests::compile::compile(task, lent, scratch.len());
     let mut tables = dirty(lent);
-    let answer = compile::compile(&Rows::of(task), Room::of(&mut tables), &mut scratch);
+    let answer = compile::compile(form, &Rows::of(task), Room::of(&mut tables), &mut scratch);
     let wanted = match plain.number {
         0 => Ok(plain.head),
         number => Err(number),
@@ -154,6 +163,21 @@ fn compiling(trial: &mut Trial) -> Verdict {
         examples::many_rules(&[512, 512, 342]),
     ] {
         same_compiled(trial, &task, &LARGEST)?;
+    }
+    Ok(())
+}
+
+fn printing(trial: &mut Trial) -> Verdict {
+    for _ in 0..1000 {
+        trial.case();
+        let shape = Shape::small(&mut trial.random, true);
+        let task = generate::task(&mut trial.random, &shape);
+        let file = match trial.random.below(20) {
+            0 => trial.random.number().to_le_bytes().to_vec(),
+            _ => file_of(&task.head, &task.tables),
+        };
+        let plain = print::program(&file).into_bytes();
+        same("printing", best::print::program(&file), plain)?;
     }
     Ok(())
 }
