@@ -26,7 +26,7 @@ pub struct Family {
     pub make: fn(&Size) -> Task,
 }
 
-pub const FAMILIES: [Family; 10] = [
+pub const FAMILIES: [Family; 12] = [
     Family {
         name: "one tree, all set and cleared, same row",
         make: one_tree,
@@ -46,6 +46,14 @@ pub const FAMILIES: [Family; 10] = [
     Family {
         name: "a deep \"when\" for each operator, false at its top",
         make: deep_whens,
+    },
+    Family {
+        name: "a deep \"when\" below one of each operator's own",
+        make: own_whens,
+    },
+    Family {
+        name: "a net that operators enter at many rows",
+        make: net,
     },
     Family {
         name: "chain of equivalents, growing",
@@ -167,6 +175,52 @@ fn deep_whens(size: &Size) -> Task {
     let chain = whens(&mut draft, size, size.operators);
     for i in 0..size.operators {
         let root = draft.under(no, chain - i as u16);
+        draft.operator(yes, root, i as u16);
+    }
+    draft.finish(yes)
+}
+
+/// The same, and between top and chain a variable that is the operator's own:
+/// a row of its own is built, from every atom's.
+fn own_whens(size: &Size) -> Task {
+    let mut draft = draft(size);
+    let yes = draft.yes();
+    let no = draft.formula(formula::FALSE, 0, 0);
+    let chain = whens(&mut draft, size, 2 * size.operators);
+    for i in 0..size.operators {
+        let own = 2 + (i % size.variables.min(size.formulas - 2)) as u16;
+        let inner = draft.under(own, chain);
+        let root = draft.under(no, inner);
+        draft.operator(yes, root, i as u16);
+    }
+    draft.finish(yes)
+}
+
+/// How many rows of the net an operator names, and how many stand abreast.
+const ENTERED: usize = 7;
+const ABREAST: usize = 8;
+
+/// Above all atoms a net of rows, each "both" of two of the line below it;
+/// the operators enter it at rows far apart, each under a false top.
+fn net(size: &Size) -> Task {
+    let mut draft = draft(size);
+    let yes = draft.yes();
+    let no = draft.formula(formula::FALSE, 0, 0);
+    let all = atoms(&mut draft, size, size.effects / 8);
+    let bottom = draft.all(&all);
+    let mut rows = vec![bottom; ABREAST];
+    let spare = (ENTERED + 1) * size.operators;
+    while usize::from(*rows.last().expect("a row")) + 1 + spare < size.effects {
+        let line = &rows[rows.len() - ABREAST..];
+        let (left, right) = (line[0], line[1]);
+        let row = draft.effect(effect::BOTH, left, right);
+        rows.push(row);
+    }
+    for i in 0..size.operators {
+        let place = |k: usize| rows[rows.len() - 1 - (i * ENTERED + k) * 37 % rows.len()];
+        let entered: Vec<u16> = (0..ENTERED).map(place).collect();
+        let inner = draft.all(&entered);
+        let root = draft.under(no, inner);
         draft.operator(yes, root, i as u16);
     }
     draft.finish(yes)
