@@ -115,13 +115,13 @@ starts {words} {at} {root} {before} {after} g =
     only-root k l m (yes h) = absurd (false≢true (sym (g .only k h) ∙ m))
     only-root k l m (no h) = let e : k ≡ root = omega arith in rw e at-root
 
-pub first-markable :
+pub still-markable :
     {words : List ℕ} {v at root : ℕ} {before after : List ℕ}
     → Markable words v at root before
-    → Begun at root before after
+    → length after ≡ length before
     → Markable words v at root after
-first-markable m b =
-    record { rows = m .rows; marks = omega (arith, m .marks, b .same); rule = m .rule }
+still-markable m same =
+    record { rows = m .rows; marks = omega (arith, m .marks, same); rule = m .rule }
 
 module _
     {words : List ℕ} {v at root : ℕ} {before : List ℕ} {left : ℕ} {s : List ℕ}

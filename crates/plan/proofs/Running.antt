@@ -9,16 +9,14 @@ use lib.ListN.{length, getD, drop}
 use lib.Seq.{drop-cons, drop-length}
 use lib.Dec.{ltb}
 use Rattle.task.specs.declared.Head.{Head}
-use Rattle.task.specs.Table.{Task, task-of}
-use Rattle.task.specs.Semantics.{effcond, sets, clears, holds, value-after, apply}
-use Rattle.task.specs.Tree.{formula-of}
+use Rattle.task.specs.Table.{Task}
+use Rattle.task.specs.Semantics.{effcond, sets, clears, value-after, apply}
 use Rattle.task.specs.Run.{Run, Progress, ended, stopped, effect-of-operator, goal-holds, applicable, after-step, answer, run-on, plain-run}
 use Rattle.task.proofs.Bounded.{length-upto, getD-upto}
 use Rattle.plan.specs.declared.outcome.End.the-variants.{Ended, Stopped}
 use Rattle.plan.specs.declared.steps.Taken.{Taken}
 use Rattle.plan.specs.Outcome.{run-answer, end-of}
-use Rattle.plan.specs.Values.{rows-of}
-use Rattle.plan.specs.Steps.{running, StateReady, Took, took-by, took, Takes, RunDone}
+use Rattle.plan.specs.Steps.{StateReady, Took, took-by, took, Takes, RunDone}
 
 -- a step of the plain run, by what a step gives
 module _ (t : Task) (p : Progress) (o : ℕ) (rest : List ℕ) where
@@ -187,10 +185,3 @@ module _ {h : Head} {t : Task} {s numbers : List ℕ} where
 
       whole : plain-run t s numbers ≡ answer t at ended
       whole = g .rest ∙ ap (λ (n : ℕ). run-on t at (drop n numbers)) e ∙ ap (run-on t at) (drop-length numbers)
-
--- the goal of the running task
-pub goal-told :
-    (h : Head) (f e o s : List ℕ)
-    → holds s (formula-of (rows-of (h .formulas) f) (h .goal)) ≡ goal-holds (running h f e o) s
-unfolding goal-holds task-of
-goal-told h f e o s = refl

@@ -14,13 +14,14 @@ use Rattle.task.specs.Table.{Task, Operator, row-at, operator-at, task-of}
 use Rattle.task.specs.Rules.{no-row, no-operator}
 use Rattle.task.specs.Semantics.{holds, apply}
 use Rattle.task.specs.Tree.{formula-of, effect-of}
-use Rattle.task.specs.Run.{operator-of, effect-of-operator, applicable, charge}
+use Rattle.task.specs.Run.{operator-of, effect-of-operator, goal-holds, applicable, charge}
 use Rattle.task.proofs.Bounded.{length-upto, getD-upto}
 use Rattle.task.proofs.Trees.{EffectsDown}
-use Rattle.task.proofs.Values.{Values}
+use Rattle.task.proofs.Values.{bit-small, Values}
 use Rattle.plan.specs.Values.{rows-of, Valuable}
 use Rattle.plan.specs.Marks.{changed, Markable}
-use Rattle.plan.specs.Steps.{running, StateReady, Ready, Carried, Took, stayed, took-by, took, Takes}
+use Rattle.plan.specs.Steps.{running, StateReady, Ready, ConditionsReady, Carried, Took, stayed, took-by, took, Takes}
+use Rattle.plan.proofs.Valuing.{same-holds, same-values}
 use Rattle.plan.proofs.Applying.{applied}
 
 -- the formula that an operator asks for, by its number
@@ -67,13 +68,27 @@ takes t s n w q small =
     }
 
 module _ {h : Head} {f e o s scratch : List ℕ} (ready : Ready h f e o s scratch) where
-  pub valuable : Valuable f (h .formulas) s scratch
-  valuable =
+  -- the formulas up to p, and all of them
+  pub valuable : {p : ℕ} → p < h .formulas → Valuable f 0 (p + 1) s scratch
+  valuable b =
+      record {
+        there = omega (arith, ready .tables .formulas-there);
+        rule = λ i l. rw (ready .state .size) (ready .tables .formula i (omega arith));
+        state-bits = ready .state .bits;
+        room = omega (arith, ready .room);
+        order = omega arith;
+        value-bits = λ j l. absurd (omega arith);
+      }
+
+  all-valuable : Valuable f 0 (h .formulas) s scratch
+  all-valuable =
       record {
         there = ready .tables .formulas-there;
         rule = λ i l. rw (ready .state .size) (ready .tables .formula i l);
         state-bits = ready .state .bits;
         room = omega (arith, ready .room);
+        order = omega arith;
+        value-bits = λ j l. absurd (omega arith);
       }
 
   effects-down : EffectsDown (length s) (h .formulas) (rows-of (h .effects) e)
@@ -111,11 +126,14 @@ module _ {h : Head} {f e o s scratch : List ℕ} (ready : Ready h f e o s scratc
 
       module _
           {holding : Bool} {stop : ℕ}
-          (held : holding ≡ holds s (formula-of (rows-of (h .formulas) f) p))
+          (held : holding ≡ holds s (formula-of (rows-of (p + 1) f) p))
           (told : stop ≡ unless (ltb n (h .operators)) 17 (unless holding 18 0)) where
         applicable-same : holding ≡ applicable (running h f e o) s n
         unfolding applicable operator-of task-of
-        applicable-same = held ∙ ap (λ (i : ℕ). holds s (formula-of (rows-of (h .formulas) f) i)) asked
+        applicable-same =
+            held
+            ∙ same-holds all-valuable (p + 1) p (omega (arith, asked-below)) (omega arith)
+            ∙ ap (λ (i : ℕ). holds s (formula-of (rows-of (h .formulas) f) i)) asked
 
         stop-same :
             stop
@@ -131,7 +149,7 @@ module _ {h : Head} {f e o s scratch : List ℕ} (ready : Ready h f e o s scratc
           pub there : n < h .operators
           there = rw operators-same at (ltb-true n (length (running h f e o .operators)) (took-done (running h f e o) s n stop stop-same z .0))
 
-          pub markable :
+          markable :
               (values : List ℕ)
               → length values ≡ length scratch
               → Markable e (length s) (h .formulas) (operator-at o n .effect) values
@@ -143,34 +161,56 @@ module _ {h : Head} {f e o s scratch : List ℕ} (ready : Ready h f e o s scratc
                 rule = λ k l. rw (ready .state .size) (ready .tables .effect k (omega arith));
               }
 
-          pub carried-out :
-              (values marks after : List ℕ)
-              → Values s (rows-of (h .formulas) f) (h .formulas) values
-              → length values ≡ length scratch
-              → Carried e (h .formulas) (operator-at o n .effect) s after values marks
-              → operator-at o n .cost ≤ 65535
-              → Takes (running h f e o) s n (record { stop = 0; charge = operator-at o n .cost }) after
-          unfolding charge effect-of-operator task-of took-by
-          carried-out values marks after known same passes low =
-              rw (passes .state ∙ law)
-              (takes (running h f e o) s n (by-row (operator-at o n))
-              (took-done (running h f e o) s n stop stop-same z .1 ∙ ap by-row (operator-same there))
-              low)
-            where
-              by-row : Operator → Took
-              by-row r =
-                  record {
-                    answer = record { stop = 0; charge = r .cost };
-                    state = apply s (effect-of (rows-of (h .formulas) f) (rows-of (h .effects) e) (r .effect));
-                  }
+          -- the formulas up to the precondition are evaluated; the conditions can be decided
+          module _
+              (values : List ℕ) (same : length values ≡ length scratch)
+              (known : Values s (rows-of (p + 1) f) (p + 1) values) where
+            pub known-here : Values s (rows-of (h .formulas) f) (p + 1) values
+            known-here = same-values all-valuable (p + 1) values (omega (arith, asked-below)) known
 
-              law :
-                  changed e 1 1 marks (h .formulas) (operator-at o n .effect + 1)
-                  (changed e 2 0 marks (h .formulas) (operator-at o n .effect + 1) s)
-                  ≡ apply s (effect-of (rows-of (h .formulas) f) (rows-of (h .effects) e) (operator-at o n .effect))
-              law =
-                  applied e (h .effects) (length s) (h .formulas) (operator-at o n .effect) s (rows-of (h .formulas) f) values marks
-                  (ready .tables .operator n there .changes) effects-down (markable values same) known (passes .marking)
+            pub conditions-ready : ConditionsReady f e (p + 1) (h .formulas) (operator-at o n .effect) s values
+            conditions-ready =
+                record {
+                  formulas =
+                      record {
+                        there = all-valuable .there;
+                        rule = all-valuable .rule;
+                        state-bits = all-valuable .state-bits;
+                        room = omega (arith, ready .room, same);
+                        order = omega (arith, asked-below);
+                        value-bits = λ j l. rw (known .at j l) (bit-small (holds s (formula-of (rows-of (p + 1) f) j)));
+                      };
+                  effects = markable values same;
+                }
+
+            pub carried-out :
+                (marks after : List ℕ)
+                → Carried f e (p + 1) (h .formulas) (operator-at o n .effect) s after values marks
+                → operator-at o n .cost ≤ 65535
+                → Takes (running h f e o) s n (record { stop = 0; charge = operator-at o n .cost }) after
+            unfolding charge effect-of-operator task-of took-by
+            carried-out marks after passes low =
+                rw (passes .state ∙ law)
+                (takes (running h f e o) s n (by-row (operator-at o n))
+                (took-done (running h f e o) s n stop stop-same z .1 ∙ ap by-row (operator-same there))
+                low)
+              where
+                by-row : Operator → Took
+                by-row r =
+                    record {
+                      answer = record { stop = 0; charge = r .cost };
+                      state = apply s (effect-of (rows-of (h .formulas) f) (rows-of (h .effects) e) (r .effect));
+                    }
+
+                law :
+                    changed e 1 1 marks (h .formulas) (operator-at o n .effect + 1)
+                    (changed e 2 0 marks (h .formulas) (operator-at o n .effect + 1) s)
+                    ≡ apply s (effect-of (rows-of (h .formulas) f) (rows-of (h .effects) e) (operator-at o n .effect))
+                law =
+                    let d = passes .deciding in
+                    applied e (h .effects) (length s) (h .formulas) (operator-at o n .effect) s (rows-of (h .formulas) f)
+                    (d .values) marks (ready .tables .operator n there .changes) effects-down
+                    (markable (d .values) (d .same ∙ same)) (d .evaluating .known known-here) (d .marking)
 
 -- the tables stay ready when the state and scratch change
 pub ready-again :
@@ -181,3 +221,14 @@ pub ready-again :
     → Ready h f e o now rest
 ready-again ready state same =
     record { tables = ready .tables; state = state; room = omega (arith, ready .room) }
+
+-- the goal of the running task
+pub goal-told :
+    {h : Head} {f e o s scratch now : List ℕ}
+    → Ready h f e o s scratch
+    → StateReady h now
+    → holds now (formula-of (rows-of (h .goal + 1) f) (h .goal)) ≡ goal-holds (running h f e o) now
+unfolding goal-holds task-of
+goal-told {h} {scratch = scratch} ready state =
+    same-holds (all-valuable (ready-again {rest = scratch} ready state refl)) (h .goal + 1) (h .goal)
+    (omega (arith, ready .tables .goal)) (omega arith)

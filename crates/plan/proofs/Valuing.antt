@@ -1,19 +1,23 @@
--- Laws of the value of one row: what each arm of the code gives. Assumes nothing.
+-- Laws of the values of the rows: what each arm of the code gives, and what each turn of the loop leaves. Assumes nothing.
 use Prim.Native.Nat.{ℕ, zero, suc, _+_, _-_, _≤_, _<_}
+use native.Mathlib.Nat.{add-zero, add-suc}
+use native.Mathlib.Decide.{decLt}
 use native.Mathlib.Omega.{arith}
 use mathlib.Core.Path.{_≡_, refl, sym, ap, _∙_}
 use mathlib.Core.Bool.{cond, not}
-use mathlib.Core.List.{List}
-use lib.ListN.{length, getD, set}
+use mathlib.Core.List.{List, [], _∷_}
+use lib.ListN.{length, getD, set, length-set}
+use lib.Seq.{getD-set-same, getD-set-other}
 use lib.Dec.{eqb}
+use Rattle.task.specs.Bounded.{upto}
 use Rattle.task.specs.Table.{row-at, formula-kind}
 use Rattle.task.specs.Rules.{no-row, FormulaRule}
 use Rattle.task.specs.Semantics.{holds}
 use Rattle.task.specs.Tree.{formula-of}
 use Rattle.task.proofs.Bounded.{length-upto, getD-upto}
-use Rattle.task.proofs.Trees.{FormulasDown}
+use Rattle.task.proofs.Trees.{FormulasDown, formula-grows}
 use Rattle.task.proofs.Values.{bit, told, bit-small, kind-value, row-value, Values, values-stored}
-use Rattle.plan.specs.Values.{joins, rows-of, RowReady, Valuable}
+use Rattle.plan.specs.Values.{joins, rows-of, RowReady, Valuable, Valued}
 
 -- a bit is 0 or 1
 by-bit : (P : Type 0) (x : ℕ) → x ≤ 1 → (x ≡ 0 → P) → (x ≡ 1 → P) → P
@@ -152,31 +156,83 @@ module _ {words : List ℕ} {i : ℕ} {s values : List ℕ} (ready : RowReady wo
         (sym
         (join-value s values (row-at words i .kind) (row-at words i .a) (row-at words i .b) (join-refs .0) (join-refs .1)))
 
--- the loop over the rows below n
-module _ {words : List ℕ} {n : ℕ} {s scratch : List ℕ} (able : Valuable words n s scratch) where
-  down : FormulasDown (length s) (rows-of n words)
-  down =
+-- what the loop has done before row i
+pub record Evaluating (words : List ℕ) (from n : ℕ) (s before : List ℕ) (i : ℕ) (t : List ℕ) : Type 0 where
+  pub inside : i ≤ n
+  pub same : length t ≡ length before
+  pub bits : (j : ℕ) → j < i → getD t j 0 ≤ 1
+  pub known : Values s (rows-of n words) from before → Values s (rows-of n words) i t
+
+module _ {words : List ℕ} {from n : ℕ} {s scratch : List ℕ} (able : Valuable words from n s scratch) where
+  down : (m : ℕ) → m ≤ n → FormulasDown (length s) (rows-of m words)
+  down m b =
       record {
         row =
             λ i h.
-            let l : i < n = rw (length-upto n (row-at words)) at h in
-            rw (getD-upto n (row-at words) i no-row l) (able .rule i l);
+            let l : i < m = rw (length-upto m (row-at words)) at h in
+            rw (getD-upto m (row-at words) i no-row l) (able .rule i (omega arith));
       }
 
-  module _ {i : ℕ} {t : List ℕ} (h : i < n) (same : length t ≡ length scratch) (so-far : Values s (rows-of n words) i t) where
+  -- rows behind do not change a row's formula
+  same-formula :
+      (m d j : ℕ) → m + d ≤ n → j < m → formula-of (rows-of (m + d) words) j ≡ formula-of (rows-of m words) j
+  unfolding upto
+  same-formula m zero j h l = rw (add-zero m)
+  same-formula m (suc d) j h l =
+      rw (add-suc m d)
+      (formula-grows (length s) (rows-of (m + d) words) (down (m + d) (omega arith)) (row-at words (m + d) ∷ []) j
+      (rw (length-upto (m + d) (row-at words)) (omega arith))
+      ∙ same-formula m d j (omega arith) l)
+
+  pub same-holds :
+      (m j : ℕ)
+      → m ≤ n
+      → j < m
+      → holds s (formula-of (rows-of m words) j) ≡ holds s (formula-of (rows-of n words) j)
+  same-holds m j b l =
+      let e : m + (n - m) ≡ n = omega arith in
+      ap (holds s)
+      (sym (same-formula m (n - m) j (omega arith) l) ∙ ap (λ (k : ℕ). formula-of (rows-of k words) j) e)
+
+  pub same-values :
+      (m : ℕ) (t : List ℕ) → m ≤ n → Values s (rows-of m words) m t → Values s (rows-of n words) m t
+  same-values m t b v = record { at = λ j l. v .at j l ∙ ap bit (same-holds m j b l) }
+
+  -- the loop over the rows from .. n - 1
+  pub begin : Evaluating words from n s scratch from scratch
+  begin = record { inside = able .order; same = refl; bits = able .value-bits; known = λ v. v }
+
+  module _ {i : ℕ} {t : List ℕ} (h : i < n) (so-far : Evaluating words from n s scratch i t) where
     pub row-ready : RowReady words i s t
     row-ready =
         record {
           there = omega (arith, able .there);
           rule = able .rule i h;
           state-bits = able .state-bits;
-          room = omega (arith, able .room);
-          value-bits = λ j l. rw (so-far .at j l) (bit-small (holds s (formula-of (rows-of n words) j)));
+          room = omega (arith, able .room, so-far .same);
+          value-bits = so-far .bits;
         }
 
     pub one-more :
-        {x : ℕ} → x ≡ bit (row-value s t (row-at words i)) → Values s (rows-of n words) (i + 1) (set t i x)
-    one-more e =
-        rw (e, ← getD-upto n (row-at words) i no-row h)
-        (values-stored (length s) (rows-of n words) down s i t (rw (length-upto n (row-at words)) h)
-        (omega (arith, able .room)) so-far)
+        {x : ℕ} → x ≡ bit (row-value s t (row-at words i)) → Evaluating words from n s scratch (i + 1) (set t i x)
+    one-more {x} e =
+        record {
+          inside = omega arith;
+          same = length-set t i x ∙ so-far .same;
+          bits = λ j l. bit-at j l (decLt j i);
+          known =
+              λ v.
+              rw (e, ← getD-upto n (row-at words) i no-row h)
+              (values-stored (length s) (rows-of n words) (down n (omega arith)) s i t
+              (rw (length-upto n (row-at words)) h) (omega (arith, able .room, so-far .same)) (so-far .known v));
+        }
+      where
+        bit-at : (j : ℕ) → j < i + 1 → Dec (j < i) → getD (set t i x) j 0 ≤ 1
+        bit-at j l (yes b) = rw (getD-set-other t i j x 0 (omega arith)) (so-far .bits j b)
+        bit-at j l (no b) =
+            let q : j ≡ i = omega arith in
+            rw (q, getD-set-same t i x 0 (omega (arith, able .room, so-far .same)), e)
+            (bit-small (row-value s t (row-at words i)))
+
+  pub evaluated : {t : List ℕ} → Evaluating words from n s scratch n t → Valued words from n s scratch t
+  evaluated done = record { known = done .known }

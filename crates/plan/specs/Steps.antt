@@ -1,5 +1,5 @@
 -- One step, where nothing before its operator refuses. Only the contracts of private helpers cite this file.
-use Prim.Native.Nat.{ℕ, _+_, _*_, _≤_, _<_}
+use Prim.Native.Nat.{ℕ, _+_, _-_, _*_, _≤_, _<_}
 use mathlib.Core.Path.{_≡_}
 use mathlib.Core.Bool.{Bool, true, false}
 use mathlib.Core.List.{List, [], _∷_}
@@ -14,7 +14,8 @@ use Rattle.task.proofs.Trees.{FormulaKept, EffectKept}
 use Rattle.plan.specs.declared.steps.Taken.{Taken}
 use Rattle.plan.specs.declared.outcome.StepOutcome.{StepOutcome}
 use Rattle.plan.specs.declared.outcome.RunOutcome.{RunOutcome}
-use Rattle.plan.specs.Marks.{changed, Marked}
+use Rattle.plan.specs.Values.{Valuable, Valued}
+use Rattle.plan.specs.Marks.{changed, Markable, Marked}
 use Rattle.plan.specs.Outcome.{run-answer, step-told}
 
 -- the task of a run: its initial state and its twins play no part
@@ -42,10 +43,32 @@ pub record Ready (h : Head) (f e o s scratch : List ℕ) : Type 0 where
   pub state : StateReady h s
   pub room : h .formulas + h .effects ≤ length scratch
 
--- carrying out the effect of row `root`: marks, then the clears, then the sets
-pub record Carried (words : List ℕ) (at root : ℕ) (s t before after : List ℕ) : Type 0 where
-  pub marking : Marked words at root before after
-  pub state : t ≡ changed words 1 1 after at (root + 1) (changed words 2 0 after at (root + 1) s)
+-- what it takes to decide the conditions of the effect of row `root`: `at` formulas, those below `from` evaluated already
+pub record ConditionsReady (f e : List ℕ) (from at root : ℕ) (s scratch : List ℕ) : Type 0 where
+  pub formulas : Valuable f from at s scratch
+  pub effects : Markable e (length s) at root scratch
+
+-- they are decided in state s: the other formulas are evaluated there, and by the values the rows that act are marked
+pub record Decided (f e : List ℕ) (from at root : ℕ) (s before after : List ℕ) : Type 0 where
+  pub values : List ℕ
+  pub same : length values ≡ length before
+  pub evaluating : Valued f from at s before values
+  pub marking : Marked e at root values after
+
+-- unless they are decided already: then all stays
+pub record Decides (decided : Bool) (f e : List ℕ) (from at root : ℕ) (s before after : List ℕ) : Type 0 where
+  pub kept : decided ≡ true → after ≡ before
+  pub new : decided ≡ false → Decided f e from at root s before after
+
+-- the atoms that give this value are carried out by the marks: value 0 is given by kind 2, the clears, and value 1 by kind 1, the sets
+pub record AtomsCarried (decided : Bool) (f e : List ℕ) (from at root value : ℕ) (s t before after : List ℕ) : Type 0 where
+  pub deciding : Decides decided f e from at root s before after
+  pub state : t ≡ changed e (2 - value) value after at (root + 1) s
+
+-- the effect is carried out: its conditions are decided in the state before, then come the clears, then the sets
+pub record Carried (f e : List ℕ) (from at root : ℕ) (s t before after : List ℕ) : Type 0 where
+  pub deciding : Decided f e from at root s before after
+  pub state : t ≡ changed e 1 1 after at (root + 1) (changed e 2 0 after at (root + 1) s)
 
 -- what a step gives: 0 and its charge, or 17 or 18; and the state
 pub record Took : Type 0 where

@@ -6,6 +6,7 @@ use lib.ListN.{length, getD}
 use Rattle.task.specs.Bounded.{upto}
 use Rattle.task.specs.Table.{Row, row-at, FormulaKind, false-kind, true-kind, variable-kind, not-kind, and-kind, or-kind, implies-kind, equivalent-kind, unknown-formula}
 use Rattle.task.proofs.Trees.{FormulaKept}
+use Rattle.task.proofs.Values.{Values}
 
 -- the rows of a table of words
 abbrev pub rows-of : ℕ → List ℕ → List Row
@@ -31,9 +32,15 @@ pub record RowReady (words : List ℕ) (i : ℕ) (s values : List ℕ) : Type 0 
   pub room : i ≤ length values
   pub value-bits : (j : ℕ) → j < i → getD values j 0 ≤ 1
 
--- what the values of the rows below n ask
-pub record Valuable (words : List ℕ) (n : ℕ) (s scratch : List ℕ) : Type 0 where
+-- what the values of the rows from .. n - 1 ask: below them stand bits already
+pub record Valuable (words : List ℕ) (from n : ℕ) (s scratch : List ℕ) : Type 0 where
   pub there : 3 * n ≤ length words
   pub rule : (i : ℕ) → i < n → FormulaKept (length s) i (row-at words i)
   pub state-bits : (v : ℕ) → v < length s → getD s v 0 ≤ 1
   pub room : n ≤ length scratch
+  pub order : from ≤ n
+  pub value-bits : (j : ℕ) → j < from → getD scratch j 0 ≤ 1
+
+-- what they leave: if those bits were the values of the rows below `from` in this state, all below n are
+pub record Valued (words : List ℕ) (from n : ℕ) (s before after : List ℕ) : Type 0 where
+  pub known : Values s (rows-of n words) from before → Values s (rows-of n words) n after

@@ -1,9 +1,12 @@
 // Carrying out an effect: the rows that act are marked, then the state is changed in place.
-ghost use Prim.Native.Nat.{_+_, _<_};
+ghost use Prim.Native.Nat.{_+_, _≤_, _<_};
 ghost use mathlib.Core.Path.{_≡_};
 ghost use lib.ListN.{length};
+ghost use Rattle.task.proofs.Values.{Values};
+ghost use Rattle.plan.specs.Values.{rows-of};
 ghost use Rattle.plan.specs.Marks.{changed, Changeable, Markable, Marked, HandedOn, Begun};
-ghost use Rattle.plan.specs.Steps.{Carried};
+ghost use Rattle.plan.specs.Steps.{ConditionsReady, Decides, AtomsCarried, Carried};
+use crate::formulas::evaluate;
 use task::clear::clear_bytes;
 
 // The value goes to each variable that a marked row of this kind names, among the rows below `rows`. Linear in `rows`.
@@ -75,14 +78,68 @@ fn mark(effects: &[u16], root: usize, variables: usize, scratch: &mut [u8], at: 
     }
 }
 
-// The effect of row `root` is carried out: all of its conditions count in the state before, and a set wins. Linear in `root`.
-pub fn carry_out(effects: &[u16], root: usize, state: &mut [u8], scratch: &mut [u8], at: usize)
-    requires { ⌜ Markable (now effects) (length (now state)) at root (now scratch) ⌝ }
-    ensures { λ _. ⌜ Carried (now (effects .entry)) at root (now (state .entry)) (now (state .exit)) (now (scratch .entry)) (now (scratch .exit)) ⌝ }
+// The conditions of the effect of row `root` are decided in the state as it stands, unless they are decided already: the formulas
+// from..at are evaluated, and the rows that act are marked. Linear in the formulas left and in `root`.
+fn decide(
+    decided: bool,
+    formulas: &[u16],
+    from: usize,
+    at: usize,
+    effects: &[u16],
+    root: usize,
+    state: &[u8],
+    scratch: &mut [u8],
+)
+    requires { ⌜ ConditionsReady (now formulas) (now effects) from at root (now state) (now scratch) ⌝ }
+    ensures { λ _. ⌜ Decides decided (now (formulas .entry)) (now (effects .entry)) from at root (now (state .entry)) (now (scratch .entry)) (now (scratch .exit)) ⌝ }
 {
+    if decided {
+        return;
+    }
     let variables = state.len();
-    let rows = root + 1;
+    evaluate(formulas, from, at, state, scratch);
     mark(effects, root, variables, scratch, at);
-    change(effects, rows, 2, 0, state, scratch, at);
-    change(effects, rows, 1, 1, state, scratch, at);
+}
+
+// The atoms that give this value, 0 the clears and 1 the sets, are carried out: it goes to each variable that an acting row of their kind
+// names. Linear as `decide`.
+fn carry_out_atoms(
+    decided: bool,
+    formulas: &[u16],
+    from: usize,
+    at: usize,
+    effects: &[u16],
+    root: usize,
+    value: u8,
+    state: &mut [u8],
+    scratch: &mut [u8],
+)
+    requires { ⌜ ConditionsReady (now formulas) (now effects) from at root (now state) (now scratch) ⌝ }
+    requires { ⌜ value ≤ 1 ⌝ }
+    ensures { λ _. ⌜ AtomsCarried decided (now (formulas .entry)) (now (effects .entry)) from at root value (now (state .entry)) (now (state .exit)) (now (scratch .entry)) (now (scratch .exit)) ⌝ }
+{
+    decide(decided, formulas, from, at, effects, root, state, scratch);
+    let rows = root + 1;
+    let kind = 2 - value as u16;
+    change(effects, rows, kind, value, state, scratch, at);
+}
+
+// The effect of row `root` is carried out; the formulas below `from` are evaluated already, those from..at are not. All conditions
+// count in the state before: they are decided before the clears, and the sets go by the same marks. The sets come last, so a set wins.
+// Linear in the formulas left and in `root`.
+pub fn carry_out(
+    formulas: &[u16],
+    from: usize,
+    at: usize,
+    effects: &[u16],
+    root: usize,
+    state: &mut [u8],
+    scratch: &mut [u8],
+)
+    requires { ⌜ ConditionsReady (now formulas) (now effects) from at root (now state) (now scratch) ⌝ }
+    requires { ⌜ Values (now state) (rows-of at (now formulas)) from (now scratch) ⌝ }
+    ensures { λ _. ⌜ Carried (now (formulas .entry)) (now (effects .entry)) from at root (now (state .entry)) (now (state .exit)) (now (scratch .entry)) (now (scratch .exit)) ⌝ }
+{
+    carry_out_atoms(false, formulas, from, at, effects, root, 0, state, scratch);
+    carry_out_atoms(true, formulas, from, at, effects, root, 1, state, scratch);
 }

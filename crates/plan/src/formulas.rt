@@ -3,8 +3,8 @@ ghost use Prim.Native.Nat.{_≤_, _<_};
 ghost use mathlib.Core.Path.{_≡_};
 ghost use lib.Dec.{eqb};
 ghost use Rattle.task.specs.Table.{row-at, formula-kind};
-ghost use Rattle.task.proofs.Values.{bit, row-value, Values};
-ghost use Rattle.plan.specs.Values.{joins, rows-of, RowReady, Valuable};
+ghost use Rattle.task.proofs.Values.{bit, row-value};
+ghost use Rattle.plan.specs.Values.{joins, RowReady, Valuable, Valued};
 
 // "and", "or", "implies", "equivalent" of two bits. Constant time.
 fn joined(kind: u16, x: u8, y: u8) -> u8
@@ -36,13 +36,13 @@ fn value_of(formulas: &[u16], i: usize, state: &[u8], values: &[u8]) -> u8
     }
 }
 
-// The values of the rows below `count` go to the front of scratch. Linear in `count`.
-pub fn evaluate(formulas: &[u16], count: usize, state: &[u8], scratch: &mut [u8])
-    requires { ⌜ Valuable (now formulas) count (now state) (now scratch) ⌝ }
-    ensures { λ _. ⌜ Values (now (state .entry)) (rows-of count (now (formulas .entry))) count (now (scratch .exit)) ⌝ }
+// The values of the rows from..to go to scratch, behind those of the rows below, which stand there already. Linear in `to - from`.
+pub fn evaluate(formulas: &[u16], from: usize, to: usize, state: &[u8], scratch: &mut [u8])
+    requires { ⌜ Valuable (now formulas) from to (now state) (now scratch) ⌝ }
+    ensures { λ _. ⌜ Valued (now (formulas .entry)) from to (now (state .entry)) (now (scratch .entry)) (now (scratch .exit)) ⌝ }
 {
-    let mut i = 0;
-    while i < count {
+    let mut i = from;
+    while i < to {
         let value = value_of(formulas, i, state, scratch);
         scratch[i] = value;
         i += 1;

@@ -25,7 +25,6 @@ fn run_ready(
     requires { ⌜ length (now sequence) ≤ 65535 ⌝ }
     ensures { λ r. ⌜ RunDone (running head (now (formulas .entry)) (now (effects .entry)) (now (operators .entry))) (now (state .entry)) (now (sequence .entry)) r (now (state .exit)) ⌝ }
 {
-    let count = head.formulas as usize;
     let goal = head.goal as usize;
     let mut steps: u32 = 0;
     let mut cost: u64 = 0;
@@ -33,7 +32,7 @@ fn run_ready(
         let number = sequence[steps as usize];
         let taken = take(head, formulas, effects, operators, state, number, scratch);
         if taken.stop != 0 {
-            let there = holds(formulas, count, goal, state, scratch);
+            let there = holds(formulas, goal, state, scratch);
             let end = End::Stopped {
                 number: taken.stop,
                 step: steps,
@@ -48,7 +47,7 @@ fn run_ready(
         steps += 1;
         cost += taken.charge;
     }
-    let reached = holds(formulas, count, goal, state, scratch);
+    let reached = holds(formulas, goal, state, scratch);
     RunOutcome {
         steps,
         cost,

@@ -1,5 +1,5 @@
 // Single steps.
-ghost use Prim.Native.Nat.{_*_, _≤_, _<_};
+ghost use Prim.Native.Nat.{_+_, _*_, _≤_};
 ghost use mathlib.Core.Path.{_≡_};
 ghost use mathlib.Core.Bool.{false};
 ghost use lib.ListN.{length, getD};
@@ -23,20 +23,13 @@ pub struct Taken {
     pub charge: u64,
 }
 
-// Whether a formula holds in the state; the values of all formulas stay at the front of scratch. Linear in the formulas.
-pub fn holds(
-    formulas: &[u16],
-    count: usize,
-    formula: usize,
-    state: &[u8],
-    scratch: &mut [u8],
-) -> bool
-    requires { ⌜ Valuable (now formulas) count (now state) (now scratch) ⌝ }
-    requires { ⌜ formula < count ⌝ }
-    ensures { λ r. ⌜ r ≡ holds (now (state .entry)) (formula-of (rows-of count (now (formulas .entry))) formula) ⌝ }
-    ensures { λ _. ⌜ Values (now (state .entry)) (rows-of count (now (formulas .entry))) count (now (scratch .exit)) ⌝ }
+// Whether a formula holds in the state; the values of the rows up to it stay at the front of scratch. Linear in those rows.
+pub fn holds(formulas: &[u16], formula: usize, state: &[u8], scratch: &mut [u8]) -> bool
+    requires { ⌜ Valuable (now formulas) 0 (formula + 1) (now state) (now scratch) ⌝ }
+    ensures { λ r. ⌜ r ≡ holds (now (state .entry)) (formula-of (rows-of (formula + 1) (now (formulas .entry))) formula) ⌝ }
+    ensures { λ _. ⌜ Values (now (state .entry)) (rows-of (formula + 1) (now (formulas .entry))) (formula + 1) (now (scratch .exit)) ⌝ }
 {
-    crate::formulas::evaluate(formulas, count, state, scratch);
+    crate::formulas::evaluate(formulas, 0, formula + 1, state, scratch);
     scratch[formula] == 1
 }
 
@@ -64,7 +57,8 @@ fn stop_of(there: bool, applicable: bool) -> u16
     0
 }
 
-// Operator `number` is carried out if it is there and applicable. Linear in the formulas and the effects.
+// Operator `number` is carried out if it is there and applicable. Linear in the formulas and the effects: each formula is evaluated
+// once, and those behind the precondition only if nothing stops the step.
 pub fn take(
     head: Head,
     formulas: &[u16],
@@ -79,14 +73,22 @@ pub fn take(
 {
     let count = head.formulas as usize;
     let precondition = precondition_of(head.operators, operators, number);
-    let applicable = holds(formulas, count, precondition, state, scratch);
+    let applicable = holds(formulas, precondition, state, scratch);
     let stop = stop_of(number < head.operators, applicable);
     if stop != 0 {
         return Taken { stop, charge: 0 };
     }
     let row = 3 * (number as usize);
     let effect = operators[row + 1] as usize;
-    crate::effects::carry_out(effects, effect, state, scratch, count);
+    crate::effects::carry_out(
+        formulas,
+        precondition + 1,
+        count,
+        effects,
+        effect,
+        state,
+        scratch,
+    );
     Taken {
         stop: 0,
         charge: operators[row + 2] as u64,
@@ -122,13 +124,12 @@ fn step_ready(
     if taken.stop != 0 {
         return refused(taken.stop);
     }
-    let count = head.formulas as usize;
     let goal = head.goal as usize;
     StepOutcome {
         refusal: 0,
         steps: 1,
         cost: taken.charge,
-        goal: holds(formulas, count, goal, state, scratch),
+        goal: holds(formulas, goal, state, scratch),
     }
 }
 

@@ -1,22 +1,16 @@
--- `carry_out` marks, clears, then sets. Assumes nothing.
+-- `carry_out` decides the conditions and clears, then sets by what was decided. Assumes nothing.
 use borrow.Author.Needs.{needs}
 use Rattle.plan.proofs.effects.carry_out.Statement.{statement}
 use Rattle.plan.proofs.effects.carry_out.Tie as tie
 use native.Mathlib.Omega.{arith}
 use mathlib.Core.Path.{refl}
-use Rattle.plan.proofs.Passes.{changeable, carried}
+use Rattle.plan.proofs.Passes.{conditions-again, carried}
 
-add-rows : tie.Need-add-rows
-add-rows c = search needs
+carry-out-atoms-requires : tie.Need-carry-out-atoms-requires
+carry-out-atoms-requires c κs = search needs
 
-mark-requires : tie.Need-mark-requires
-mark-requires c κs = search needs
-
-change-requires : tie.Need-change-requires
-change-requires c κs = changeable (c .before .before .before .before .before .before .before .before .before .pre) (c .before .before .before .before .mark .ensures) (omega arith) (omega arith) refl
-
-change-requires-2 : tie.Need-change-requires-2
-change-requires-2 c κs = changeable (c .before .before .before .before .before .before .before .before .before .before .before .before .before .before .pre) (c .before .before .before .before .before .before .before .before .before .mark .ensures) (omega arith) (omega arith) (c .before .before .before .before .change .kept .1 .1 .1 .1 .0)
+carry-out-atoms-requires-2 : tie.Need-carry-out-atoms-requires-2
+carry-out-atoms-requires-2 c κs = (conditions-again (c .before .before .before .before .before .before .before .before .before .before .before .before .before .pre .0) (c .before .before .before .before .before .before .before .before .before .before .before .before .before .pre .1) (c .before .before .before .before .before .before .carry-out-atoms .ensures) (omega arith), omega arith)
 
 same-length : tie.Need-same-length
 same-length c = search needs
@@ -25,16 +19,14 @@ same-length-2 : tie.Need-same-length-2
 same-length-2 c = search needs
 
 returns : tie.Need-returns
-returns c = carried (c .before .before .before .before .before .before .before .before .before .before .before .before .mark .ensures) (c .before .before .before .before .before .before .before .change .ensures) (c .before .before .change2 .ensures)
+returns c = carried ((c .before .before .before .before .before .before .before .before .before .before .before .carry-out-atoms .ensures .deciding .new) refl) (c .before .before .before .before .before .before .before .before .before .before .before .carry-out-atoms .ensures .state) ((c .before .before .before .before .carry-out-atoms2 .ensures .deciding .kept) refl) (c .before .before .before .before .carry-out-atoms2 .ensures .state)
 
 pub carry-out-spec : {M : Type 1} → statement M
 carry-out-spec =
     tie.close
     (tie.spec
-    add-rows
-    mark-requires
-    change-requires
-    change-requires-2
+    carry-out-atoms-requires
+    carry-out-atoms-requires-2
     same-length
     same-length-2
     returns)

@@ -4,7 +4,7 @@ use Rattle.plan.proofs.effects.mark.Tie as tie
 use Prim.Native.Nat.{_+_, _≤_}
 use native.Mathlib.Omega.{arith}
 use mathlib.Core.Path.{_≡_, _∙_}
-use Rattle.plan.proofs.Marking.{Going, starts, first-markable, markable-here, passes, hands-on, finished}
+use Rattle.plan.proofs.Marking.{Going, starts, still-markable, markable-here, passes, hands-on, finished}
 
 abbrev Inv-loop : tie.InvT-loop
 Inv-loop effects root variables scratch₀ at left₀ scratch left =
@@ -32,19 +32,19 @@ slice-read-if1 : tie.Need-slice-read-if1 Inv-loop μ-loop
 slice-read-if1 c = omega (arith, c .before .before .before .before .before .before .before .before .before .pre .marks, c .before .before .loop .inv .1 .same, c .before .before .before .before .before .begin-marks .ensures .same)
 
 hand-on-requires : tie.Need-hand-on-requires Inv-loop μ-loop
-hand-on-requires c κs = markable-here (first-markable (c .before .before .before .before .before .before .before .before .before .before .before .pre) (c .before .before .before .before .before .before .before .begin-marks .ensures)) (omega arith) (c .before .before .before .before .loop .inv .0) (c .before .before .before .before .loop .inv .1)
+hand-on-requires c κs = markable-here (still-markable (c .before .before .before .before .before .before .before .before .before .before .before .pre) (c .before .before .before .before .before .before .before .begin-marks .ensures .same)) (omega arith) (c .before .before .before .before .loop .inv .0) (c .before .before .before .before .loop .inv .1)
 
 loop-less : tie.Need-loop-less Inv-loop μ-loop
 loop-less c = omega arith
 
 loop-again : tie.Need-loop-again Inv-loop μ-loop
-loop-again c = (omega arith, hands-on (first-markable (c .before .before .before .before .before .before .before .before .before .before .before .before .before .before .pre) (c .before .before .before .before .before .before .before .before .before .before .begin-marks .ensures)) (omega arith) (c .before .before .before .before .before .before .before .loop .inv .0) (c .before .before .before .before .before .before .before .loop .inv .1) (c .before .before .hand-on .last .1 .1 .1 .0) (c .before .before .before .before .if1 .taken) (c .before .before .hand-on .ensures))
+loop-again c = (omega arith, hands-on (still-markable (c .before .before .before .before .before .before .before .before .before .before .before .before .before .before .pre) (c .before .before .before .before .before .before .before .before .before .before .begin-marks .ensures .same)) (omega arith) (c .before .before .before .before .before .before .before .loop .inv .0) (c .before .before .before .before .before .before .before .loop .inv .1) (c .before .before .hand-on .last .1 .1 .1 .0) (c .before .before .before .before .if1 .taken) (c .before .before .hand-on .ensures))
 
 loop-less-2 : tie.Need-loop-less-2 Inv-loop μ-loop
 loop-less-2 c = omega arith
 
 loop-again-2 : tie.Need-loop-again-2 Inv-loop μ-loop
-loop-again-2 c = (omega arith, passes (first-markable (c .before .before .before .before .before .before .before .before .before .before .pre) (c .before .before .before .before .before .before .begin-marks .ensures)) (omega arith) (c .before .before .before .loop .inv .0) (c .before .before .before .loop .inv .1) (c .if1 .left))
+loop-again-2 c = (omega arith, passes (still-markable (c .before .before .before .before .before .before .before .before .before .before .pre) (c .before .before .before .before .before .before .begin-marks .ensures .same)) (omega arith) (c .before .before .before .loop .inv .0) (c .before .before .before .loop .inv .1) (c .if1 .left))
 
 same-length : tie.Need-same-length Inv-loop μ-loop
 same-length c = c .before .loop .inv .1 .same ∙ c .before .before .before .before .begin-marks .ensures .same

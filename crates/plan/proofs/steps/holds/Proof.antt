@@ -2,7 +2,11 @@
 use borrow.Author.Needs.{needs}
 use Rattle.plan.proofs.steps.holds.Statement.{statement}
 use Rattle.plan.proofs.steps.holds.Tie as tie
-use Rattle.task.proofs.Values.{value-told}
+use native.Mathlib.Omega.{arith}
+use Rattle.task.proofs.Values.{values-none, value-told}
+
+add-evaluate : tie.Need-add-evaluate
+add-evaluate c = search needs
 
 evaluate-requires : tie.Need-evaluate-requires
 evaluate-requires c κs = search needs
@@ -14,7 +18,9 @@ same-length : tie.Need-same-length
 same-length c = search needs
 
 returns : tie.Need-returns
-returns c = (value-told (c .before .before .before .evaluate .ensures) (c .before .before .before .before .before .before .before .before .args .formula) (c .before .before .before .before .before .before .before .before .pre .1), c .before .before .before .evaluate .ensures)
+returns c = let v = (c .before .before .before .evaluate .ensures .known) (values-none _ _ _) in
+    (value-told v (c .before .before .before .before .before .before .before .before .args .formula) (omega arith), v)
 
 pub holds-spec : {M : Type 1} → statement M
-holds-spec = tie.close (tie.spec evaluate-requires slice-read-result same-length returns)
+holds-spec =
+    tie.close (tie.spec add-evaluate evaluate-requires slice-read-result same-length returns)
