@@ -18,23 +18,26 @@ use Rattle.formula_builder.specs.Index.{key-of, head-of, head-word, link
 use Rattle.formula_builder.proofs.Found.{row-found, row-none}
 use Rattle.formula_builder.proofs.Stored.{length-three, three-other, three-before, three-at, upto-same, upto-more}
 
--- the hash times the heads' number
+-- the hash times the heads' number; and a head
 pub hash-small : (most key : ℕ) → 0 < most → key * 2654435769 % 4294967296 * most < 4294967296 * most
 hash-small most key h = mul-lt-mul-of-pos-right (omega arith) h
 
-pub head-small : (most key : ℕ) → 0 < most → head-of most key < most
+head-small : (most key : ℕ) → 0 < most → head-of most key < most
 unfolding head-of
 head-small most key h = omega (arith, hash-small most key h)
 
--- An empty table.
-module _ {most : ℕ} {t : List ℕ} (e : Empty most t) where
-  pub none-indexed : Indexed most 0 t
-  none-indexed =
-      record {
-        trees = record { within = λ w i _ q. absurd (omega (arith, e .blank w)); later = λ i b j _ _ q. absurd (omega (arith, e .blank (3 * most + 2 * i + b))) };
-        reached = λ i k. absurd (not-suc-le-zero k);
-        apart = λ i j _ k. absurd (not-suc-le-zero k);
-      }
+-- an empty table
+none-indexed : {most : ℕ} {t : List ℕ} → Empty most t → Indexed most 0 t
+none-indexed {most} e =
+    record {
+      trees =
+          record {
+            within = λ w i _ q. absurd (omega (arith, e .blank w));
+            later = λ i b j _ _ q. absurd (omega (arith, e .blank (3 * most + 2 * i + b)));
+          };
+      reached = λ i k. absurd (not-suc-le-zero k);
+      apart = λ i j _ k. absurd (not-suc-le-zero k);
+    }
 
 pub searchable :
     {most n : ℕ} {t : List ℕ} → 0 < most → most ≤ 4096 → 6 * most ≤ length t → n ≤ most → Indexed most n t → Searchable most t
@@ -48,11 +51,17 @@ searchable some limit room few x =
 
 -- a walk in the index stays there, and comes to a head or to a link of one of the n rows
 module _ {most n : ℕ} {t : List ℕ} (x : Trees most n t) (p : ℕ) where
-  pub leads-low : (w bits : ℕ) → Leads most t p w bits → 3 * most ≤ w → 3 * most ≤ p
+  leads-low : (w bits : ℕ) → Leads most t p w bits → 3 * most ≤ w → 3 * most ≤ p
   leads-low w bits (here _ _ e) h = omega arith
   leads-low w bits (onward _ _ i e l) h = leads-low (link-word most i bits) (bits / 2) l (omega arith)
 
-  pub leads-own : (w bits : ℕ) → Leads most t p w bits → 3 * most ≤ w → (w < 5 * most → w < 3 * most + 2 * n) → p < 5 * most → p < 3 * most + 2 * n
+  leads-own :
+      (w bits : ℕ)
+      → Leads most t p w bits
+      → 3 * most ≤ w
+      → (w < 5 * most → w < 3 * most + 2 * n)
+      → p < 5 * most
+      → p < 3 * most + 2 * n
   leads-own w bits (here _ _ e) h own k = omega (arith, own (omega arith))
   leads-own w bits (onward _ _ i e l) h own k =
       leads-own (link-word most i bits) (bits / 2) l (omega arith) (λ _. omega (arith, x .within w i h e)) k
@@ -75,7 +84,7 @@ module _ (most n : ℕ) (t : List ℕ) (r : Row) (p : ℕ) (few : n < most) (roo
   before : (k : ℕ) → k < n → row-at (appended t n r p) k ≡ row-at t k
   before k h = row-kept k (omega arith) ∙ three-before t n r k h
 
-  pub at-end : row-at (appended t n r p) n ≡ r
+  at-end : row-at (appended t n r p) n ≡ r
   at-end = row-kept n (omega arith) ∙ three-at t n r (omega arith)
 
   pub appended-rows : upto (n + 1) (row-at (appended t n r p)) ≡ upto n (row-at t) ++ (r ∷ [])
