@@ -13,9 +13,8 @@ use Rattle.normal_form.proofs.Padded.{three}
 use Rattle.formula_builder.specs.declared.Words.{Words}
 use Rattle.formula_builder.specs.declared.Frame.{Frame}
 use Rattle.formula_builder.specs.declared.Step.{Step}
-use Rattle.formula_builder.specs.Index.{begun as first-two}
+use Rattle.formula_builder.specs.Index.{FirstTwo}
 use Rattle.formula_builder.specs.Held.{Store, store, row-of, held, Within}
-use Rattle.formula_builder.proofs.Indexing.{length-begun, begun-rows, begun-indexed}
 use Rattle.formula_builder.proofs.Steps.{within-before}
 use Rattle.images.specs.Images.{image-at, memo-place, Images, Asks}
 use Rattle.images.proofs.Memos.{steady-image-at}
@@ -47,25 +46,29 @@ no-beginning frame table h e =
       over = λ _ w. omega (arith, w .rows);
     })
 
-pub beginning : (frame : Frame) (table : List ℕ) → Fresh frame table → 2 ≤ frame .rows → Begun frame (first-two table) begun
-beginning frame table b room =
+pub beginning :
+    (frame : Frame) (table : List ℕ) {after : List ℕ}
+    → Fresh frame table
+    → 2 ≤ frame .rows
+    → FirstTwo (frame .rows) after
+    → Begun frame after begun
+beginning frame table {after} b two f =
     record { none = refl; no-records = refl; done = λ _. started; over = λ q _. true≢false (sym q) }
   where
-    stand : (originals : List ℕ) → start ≡ held (size-at begun) (store (first-two table) originals)
-    stand originals =
-        unfold held start in
-        (λ i. record { rows = sym (begun-rows table (b .room)) i; twins = [] })
+    stand : (originals : List ℕ) → start ≡ held (size-at begun) (store after originals)
+    stand originals = unfold held start in (λ i. record { rows = sym (f .rows) i; twins = [] })
 
-    started : Started frame (first-two table) begun
+    started : Started frame after begun
     started =
         record {
           state = stand;
           rows =
               record {
-                within = room;
-                room = omega (arith, b .room, length-begun table (b .room));
+                within = two;
+                some = omega arith;
                 limit = b .limit;
-                index = begun-indexed table (b .room) (b .blank);
+                room = f .room;
+                index = f .index;
               };
           two = omega arith;
           twins = refl;

@@ -32,7 +32,7 @@ pub fn begin(frame: Frame, table: &mut [u16]) -> Progress
     if frame.rows < 2 {
         return no_room(0);
     }
-    first_rows(table);
+    first_rows(table, frame.rows);
     Progress {
         rows: 2,
         twins: 0,

@@ -180,7 +180,7 @@ module _ (l : Lent) (rows twins effects : ℕ) (x : Tables) (b : Lends l rows tw
 
           -- what copying the rows asks
           pub rows-there : 3 * r .rows ≤ length (mid .table)
-          rows-there = omega (arith, rows-small, ready .rows .room)
+          rows-there = omega (arith, ready .rows .within, ready .rows .room)
 
           pub rows-fit : 3 * r .rows ≤ length (x .formulas)
           rows-fit = omega (arith, ready .rows .within, b .rows-space)

@@ -174,16 +174,16 @@ module _ (l : Lent) (rows twins : ℕ) (passes : refusal l ≡ 0) where
     pub starts :
         {spans : List ℕ}
         → Spans (frame-of (l .head) rows twins) (l .effects) spans
-        → Starts l rows twins effects x spans (replicate 20480 0) (replicate 6912 0)
+        → Starts l rows twins effects x spans (replicate 24576 0) (replicate 6912 0)
     starts s =
         record {
           begins = b;
           spanned = s;
           fresh =
               record {
-                room = omega (arith, length-replicate {A = ℕ} 20480 0);
+                room = omega (arith, b .lends .rows-limit, length-replicate {A = ℕ} 24576 0);
                 limit = b .lends .rows-limit;
-                blank = zero-at 20480;
+                blank = zero-at 24576;
               };
           space = omega (arith, length-replicate {A = ℕ} 6912 0);
         }

@@ -7,7 +7,7 @@ use task::Head;
 ghost use Rattle.task.specs.Table.{lent};
 ghost use Rattle.filling.specs.Fills.{tables, Begins, Fills};
 
-// The first has the words of 4,096 rows, a link for each, and the heads of 4,096 chains: 40 KiB, cleared. The second has three words for
+// The first has the words of 4,096 rows, two links for each, and 4,096 heads: 48 KiB, cleared. The second has three words for
 // each of 256 operators and 2,048 changes: 13.5 KiB, cleared. The third has two for each of 4,096 effects: 16 KiB, cleared.
 pub fn fill(
     head: Head,
@@ -29,7 +29,7 @@ pub fn fill(
     requires { ⌜ Begins (lent head (now initial) (now twins) (now formulas) (now effects) (now operators)) rows most room (tables (now values) (now originals) (now table) (now out) (now written) (now scratch)) ⌝ }
     ensures { λ r. ⌜ Fills (lent head (now (initial .entry)) (now (twins .entry)) (now (formulas .entry)) (now (effects .entry)) (now (operators .entry))) (tables (now (values .entry)) (now (originals .entry)) (now (table .entry)) (now (out .entry)) (now (written .entry)) (now (scratch .entry))) (tables (now (values .exit)) (now (originals .exit)) (now (table .exit)) (now (out .exit)) (now (written .exit)) (now (scratch .exit))) r ⌝ }
 {
-    let mut built = [0u16; 20480];
+    let mut built = [0u16; 24576];
     let mut records = [0u16; 6912];
     let mut spans = [0u16; 8192];
     let frame = Frame {

@@ -3,7 +3,7 @@ use Prim.Native.Nat.{ℕ, suc, _≤_, _<_}
 use native.Mathlib.Nat.{not-suc-le-zero}
 use native.Mathlib.Omega.{arith}
 use mathlib.Core.Path.{_≡_, refl, sym, ap, _∙_}
-use mathlib.Core.Bool.{Bool, true, false, cond, and-false, true≢false}
+use mathlib.Core.Bool.{Bool, true, false, cond}
 use mathlib.Core.List.{List, [], _∷_, _++_}
 use lib.ListN.{length, getD, take}
 use lib.Seq.{length-take-le, getD-take}
@@ -13,8 +13,7 @@ use Rattle.task.specs.Bounded.{upto}
 use Rattle.task.specs.Table.{Row}
 use Rattle.task.proofs.Bounded.{length-upto, getD-upto}
 use Rattle.normal_form.specs.Builder.{place, kept, same-row}
-use Rattle.normal_form.proofs.Growth.{same-row-itself}
-use Rattle.normal_form.proofs.Place.{Placed, found, added, placed, place-first, place-none}
+use Rattle.normal_form.proofs.Place.{place-first, place-none}
 
 module _ {A : Type 0} (same : A → A → Bool) (x : A) where
   pub place-bound : (l : List A) → place same x l ≤ length l
@@ -78,18 +77,6 @@ module _ (r d : Row) (n : ℕ) (g : ℕ → Row) where
 
   pub row-none : ((j : ℕ) → j < n → same-row (g j) r ≡ false) → n ≡ place same-row r (upto n g)
   row-none = scan-none same-row r d (upto n g) n g (length-upto n g) (λ j h. getD-upto n g j d h)
-
--- not there: none is the row
-pub row-missing :
-    (r : Row) (n : ℕ) (g : ℕ → Row) → n ≤ place same-row r (upto n g) → (i : ℕ) → i < n → g i ≡ r → ⊥
-row-missing r n g h i k e = go (placed same-row r (upto n g))
-  where
-    it-is : same-row (getD (upto n g) i r) r ≡ true
-    it-is = ap (λ (t : Row). same-row t r) (getD-upto n g i r k ∙ e) ∙ same-row-itself r
-
-    go : Placed same-row r (upto n g) → ⊥
-    go (found b _) = omega (arith, length-upto n g)
-    go (added _ _ f) = true≢false (sym it-is ∙ f r i (omega (arith, length-upto n g)))
 
 module _ (v w : ℕ) (o : List ℕ) (room : w ≤ length o) where
   pub twin-found :

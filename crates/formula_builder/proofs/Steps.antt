@@ -1,9 +1,8 @@
 -- Steps of the code are steps of the definitions. Assumes nothing.
-use Prim.Native.Nat.{ℕ, zero, suc, _+_, _*_, _≤_, _<_}
-use native.Mathlib.Numerals.{add-one}
+use Prim.Native.Nat.{ℕ, suc, _+_, _≤_, _<_}
 use native.Mathlib.Omega.{arith}
 use mathlib.Core.Path.{_≡_, refl, sym, ap, ap₂, _∙_}
-use mathlib.Core.Bool.{Bool, true, false, cond, false≢true, true≢false}
+use mathlib.Core.Bool.{true, false, true≢false}
 use mathlib.Core.List.{List, [], _∷_, _++_}
 use lib.ListN.{length, getD, take, set, length-append, length-set}
 use lib.Seq.{length-take-le}
@@ -13,16 +12,16 @@ use Rattle.task.specs.Table.{Row, row-at}
 use Rattle.task.proofs.Bounded.{length-upto}
 use Rattle.normal_form.specs.Builder.{St, Got, Build, give, bind, place, kept, same-row, row, twin, variable-row, twin-row, Polarity, plain, negated, falsity, truth, join-kind, choice, joined, join}
 use Rattle.normal_form.specs.Growth.{Prefix, Grows, Steady}
-use Rattle.normal_form.proofs.Growth.{kept-prefix, same-row-itself, eqb-itself, steady-variable-row}
+use Rattle.normal_form.proofs.Growth.{steady-variable-row}
 use borrow.Author.Tests.{eq-eqb, ne-eqb}
 use Rattle.formula_builder.specs.declared.Frame.{Frame}
 use Rattle.formula_builder.specs.declared.Size.{Size}
 use Rattle.formula_builder.specs.declared.Step.{Step}
-use Rattle.formula_builder.specs.Index.{appended}
+use Rattle.formula_builder.specs.Index.{Searchable, Found, appended}
 use Rattle.formula_builder.specs.Held.{Store, store, held, size-of, done-step, RowsReady, Ready, Within, Done, Builds}
-use Rattle.formula_builder.proofs.Found.{place-bound, row-missing, kept-found, kept-none}
+use Rattle.formula_builder.proofs.Found.{place-bound, kept-found, kept-none}
 use Rattle.formula_builder.proofs.Stored.{one-more, one-past}
-use Rattle.formula_builder.proofs.Indexing.{length-appended, appended-rows, appended-indexed}
+use Rattle.formula_builder.proofs.Indexing.{searchable, length-appended, appended-rows, appended-indexed, found-below, found-place, missing-place}
 
 abbrev pub full-step : Size → Step
 full-step at = record { rows = at .rows; twins = at .twins; row = 0; full = true }
@@ -117,73 +116,78 @@ unfolding give
 builds-give x ready h =
     builds-done refl (record { value = refl; state = refl; ready = ready; below = h; grew = omega arith })
 
--- A row: i is where it stands.
-module _ (frame : Frame) (at : Size) (table o : List ℕ) (ready : Ready frame at (store table o)) (r : Row) (i : ℕ) (e : i ≡ place same-row r (upto (at .rows) (row-at table))) where
-  pub row-stands : i < at .rows → Builds (row r) frame at (store table o) (store table o) (done-step at i)
+pub rows-searchable : {frame : Frame} {stand : ℕ} {table : List ℕ} → RowsReady frame stand table → Searchable (frame .rows) table
+rows-searchable ready = searchable (ready .some) (ready .limit) (ready .room) (ready .within) (ready .index)
+
+-- A row: p is the word where the walk for it ends.
+module _ (frame : Frame) (at : Size) (table o : List ℕ) (ready : Ready frame at (store table o)) (r : Row) (p : ℕ) (f : Found (frame .rows) table r p) where
+  pub row-stands : (i : ℕ) → getD table p 0 ≡ suc i → Builds (row r) frame at (store table o) (store table o) (done-step at i)
   unfolding row held
-  row-stands h =
+  row-stands i e =
       let l = upto (at .rows) (row-at table) in
+      let h = found-below (ready .rows .index) f i e in
+      let its = found-place (ready .rows .index) f i e in
       let found : kept same-row r l ≡ l =
-      kept-found same-row r l (omega (arith, length-upto (at .rows) (row-at table))) in
+      kept-found same-row r l (omega (arith, length-upto (at .rows) (row-at table), h, its)) in
       builds-done refl
       (record {
-        value = sym e;
+        value = sym its;
         state = λ j. record { rows = found j; twins = take (at .twins) o };
         ready = ready;
         below = h;
         grew = omega arith;
       })
 
-  added : at .rows ≤ i → kept same-row r (upto (at .rows) (row-at table)) ≡ upto (at .rows) (row-at table) ++ (r ∷ [])
-  added h =
-      kept-none same-row r (upto (at .rows) (row-at table)) (omega (arith, length-upto (at .rows) (row-at table)))
+  module _ (free : getD table p 0 ≡ 0) where
+    its-place : at .rows ≡ place same-row r (upto (at .rows) (row-at table))
+    its-place = missing-place (ready .rows .index) f free
 
-  pub row-full :
-      at .rows ≤ i → at .rows ≡ frame .rows → Builds (row r) frame at (store table o) (store table o) (full-step at)
-  unfolding row held
-  row-full h full =
-      let l = upto (at .rows) (row-at table) in
-      builds-over refl (λ w.
-      omega
-      (arith, w .rows, ap (λ (x : List Row). length x) (added h), length-append l (r ∷ []), length-upto (at .rows) (row-at table)))
+    added : kept same-row r (upto (at .rows) (row-at table)) ≡ upto (at .rows) (row-at table) ++ (r ∷ [])
+    added =
+        kept-none same-row r (upto (at .rows) (row-at table)) (omega (arith, length-upto (at .rows) (row-at table), its-place))
 
-  pub row-appended :
-      at .rows ≤ i
-      → (at .rows ≡ frame .rows → ⊥)
-      → Builds (row r) frame at (store table o) (store (appended table (at .rows) r) o)
-      (record { rows = at .rows + 1; twins = at .twins; row = at .rows; full = false })
-  unfolding row held
-  row-appended h room =
-      let l = upto (at .rows) (row-at table) in
-      let rows-ready = ready .rows in
-      let few : at .rows < 4096 = omega arith in
-      let whole : kept same-row r l ≡ upto (at .rows + 1) (row-at (appended table (at .rows) r)) =
-      added h ∙ sym (appended-rows table (at .rows) r few (rows-ready .room)) in
-      let bound = place-bound same-row r l in
-      builds-done refl
-      (record {
-        value = omega (arith, bound, length-upto (at .rows) (row-at table));
-        state = λ j. record { rows = whole j; twins = take (at .twins) o };
-        ready =
-            record {
-              rows =
-                  record {
-                    within = omega arith;
-                    room = omega (arith, length-appended table (at .rows) r few (rows-ready .room));
-                    limit = omega arith;
-                    index =
-                        appended-indexed table (at .rows) r few (rows-ready .room) (rows-ready .index)
-                        (row-missing r (at .rows) (row-at table) (omega arith));
-                  };
-              two = omega (arith, ready .two);
-              twins = ready .twins;
-              originals = ready .originals;
-              variables = ready .variables;
-              past-twins = ready .past-twins;
-            };
-        below = omega arith;
-        grew = omega arith;
-      })
+    pub row-full : at .rows ≡ frame .rows → Builds (row r) frame at (store table o) (store table o) (full-step at)
+    unfolding row held
+    row-full full =
+        let l = upto (at .rows) (row-at table) in
+        builds-over refl (λ w.
+        omega
+        (arith, w .rows, ap (λ (x : List Row). length x) added, length-append l (r ∷ []), length-upto (at .rows) (row-at table)))
+
+    pub row-appended :
+        (at .rows ≡ frame .rows → ⊥)
+        → Builds (row r) frame at (store table o) (store (appended table (at .rows) r p) o)
+        (record { rows = at .rows + 1; twins = at .twins; row = at .rows; full = false })
+    unfolding row held
+    row-appended room =
+        let l = upto (at .rows) (row-at table) in
+        let x = ready .rows in
+        let few : at .rows < frame .rows = omega arith in
+        let whole : kept same-row r l ≡ upto (at .rows + 1) (row-at (appended table (at .rows) r p)) =
+        added ∙ sym (appended-rows (frame .rows) (at .rows) table r p few (x .room) f) in
+        builds-done refl
+        (record {
+          value = sym its-place;
+          state = λ j. record { rows = whole j; twins = take (at .twins) o };
+          ready =
+              record {
+                rows =
+                    record {
+                      within = omega arith;
+                      some = x .some;
+                      limit = x .limit;
+                      room = omega (arith, x .room, length-appended (frame .rows) (at .rows) table r p few (x .room) f);
+                      index = appended-indexed (frame .rows) (at .rows) table r p few (x .room) f free (x .index);
+                    };
+                two = omega (arith, ready .two);
+                twins = ready .twins;
+                originals = ready .originals;
+                variables = ready .variables;
+                past-twins = ready .past-twins;
+              };
+          below = omega arith;
+          grew = omega arith;
+        })
 
 abbrev pub one-twin : Size → Size
 one-twin at = record { rows = at .rows; twins = at .twins + 1 }

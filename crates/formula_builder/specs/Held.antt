@@ -40,12 +40,13 @@ size-of r = record { rows = r .rows; twins = r .twins }
 abbrev pub done-step : Size → ℕ → Step
 done-step at x = record { rows = at .rows; twins = at .twins; row = x; full = false }
 
--- The table has room for 4,096 rows and their index, what stands is within the frame, and the index finds it.
+-- The table has room for the frame's rows and their index, what stands is within the frame, and the index finds it.
 pub record RowsReady (frame : Frame) (stand : ℕ) (table : List ℕ) : Type 0 where
   pub within : stand ≤ frame .rows
-  pub room : 20480 ≤ length table
+  pub some : 0 < frame .rows
   pub limit : frame .rows ≤ 4096
-  pub index : Indexed stand table
+  pub room : 6 * frame .rows ≤ length table
+  pub index : Indexed (frame .rows) stand table
 
 pub record JoinReady (frame : Frame) (at : Size) (table : List ℕ) (a b : ℕ) : Type 0 where
   pub rows : RowsReady frame (at .rows) table

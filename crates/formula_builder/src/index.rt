@@ -1,25 +1,30 @@
-// The index of the rows: 4,096 chains, by a hash of the row.
+// The index of the rows: trees under heads that a hash of the row chooses.
 use crate::Words;
 ghost use mathlib.Core.Path.{_≡_};
-ghost use Prim.Native.Nat.{_+_, _≤_, _<_};
-ghost use lib.ListN.{length};
-ghost use Rattle.formula_builder.specs.Index.{chain-of, linked};
+ghost use Prim.Native.Nat.{_+_, _*_, _≤_, _<_};
+ghost use Rattle.formula_builder.specs.Index.{key-of, head-of, link-word};
 ghost use Rattle.formula_builder.specs.Held.{row-of};
 
-// The chain of a row. Constant time.
-pub fn chain(r: Words) -> usize
-    ensures { λ h. ⌜ (h ≡ chain-of (row-of r)) × (h < 4096) ⌝ }
+// The key of a row. Kinds are below 8, rows and variables below 4,096: so a key has 27 bits, and rows that differ have keys that differ. Constant time.
+pub fn key(r: Words) -> usize
+    ensures { λ k. ⌜ (k ≡ key-of (row-of r)) × (k < 536870912) ⌝ }
 {
-    let key = ((r.b as usize) * 4096 + (r.a as usize)) * 8 + (r.kind as usize);
-    key * 2654435769 / 1048576 % 4096
+    ((r.kind as usize) % 8 * 4096 + (r.b as usize)) * 4096 + (r.a as usize)
 }
 
-// Puts row n in front of chain h. Constant time.
-pub fn put_first(table: &mut [u16], n: usize, h: usize)
-    requires { ⌜ (n < 4096) × (h < 4096) × (20480 ≤ length (now table)) ⌝ }
-    ensures { λ _. ⌜ now (table .exit) ≡ linked (now (table .entry)) n h ⌝ }
+// The word of a key's head, with room for so many rows. Constant time, and no division by their number.
+pub fn head_word(most: usize, key: usize) -> usize
+    requires { ⌜ (0 < most) × (most ≤ 4096) × (key < 536870912) ⌝ }
+    ensures { λ p. ⌜ (p ≡ 5 * most + head-of most key) × (p < 6 * most) ⌝ }
 {
-    let k = 16384 + h;
-    table[12288 + n] = table[k];
-    table[k] = (n + 1) as u16;
+    let hash = key * 2654435769 % 4294967296;
+    5 * most + hash * most / 4294967296
+}
+
+// The word of the link of row i that the lowest of these bits says.
+pub fn link_word(most: usize, i: usize, bits: usize) -> usize
+    requires { ⌜ (most ≤ 4096) × (i < most) ⌝ }
+    ensures { λ p. ⌜ p ≡ link-word most i bits ⌝ }
+{
+    3 * most + 2 * i + bits % 2
 }

@@ -3,16 +3,16 @@ use crate::Frame;
 use crate::Size;
 use crate::Step;
 use crate::Words;
-use crate::index::chain;
-use crate::index::put_first;
+use crate::index::head_word;
+use crate::index::key;
+use crate::index::link_word;
 ghost use mathlib.Core.Path.{_≡_};
 ghost use mathlib.Core.List.{List};
 ghost use Prim.Native.Nat.{ℕ, _+_, _*_, _≤_, _<_};
-ghost use lib.ListN.{length, set};
-ghost use Rattle.task.specs.Bounded.{upto};
+ghost use lib.ListN.{length};
 ghost use Rattle.task.specs.Table.{row-at};
-ghost use Rattle.normal_form.specs.Builder.{place, same-row, row as row-built, variable-row};
-ghost use Rattle.formula_builder.specs.Index.{Searchable, three, appended, begun};
+ghost use Rattle.normal_form.specs.Builder.{same-row, row as row-built, variable-row};
+ghost use Rattle.formula_builder.specs.Index.{Searchable, Found, three, appended, Empty, FirstTwo};
 ghost use Rattle.formula_builder.specs.Held.{row-of, store, RowsReady, Ready, Builds};
 
 // Row i of a table.
@@ -43,22 +43,25 @@ fn same(table: &[u16], i: usize, r: Words) -> bool
     t.b == r.b
 }
 
-// Where the row with these words stands among n rows, no two of which are the same; n if it is not there. Compares the rows of one chain,
-// 1 or 2 as a rule and n at the worst.
-fn find_row(table: &[u16], n: usize, r: Words) -> usize
-    requires { ⌜ Searchable n (now table) ⌝ }
-    ensures { λ i. ⌜ i ≡ place same-row (row-of r) (upto n (row-at (now (table .entry)))) ⌝ }
+// The word that names the row with these words; if no row has them, the word, now 0, that is to name it. The row that is compared after d
+// others has the first d bits of this one's key, of 27: so 28 are compared at the most whatever the task (cost alone, not proved), and 1 or 2 as a rule.
+fn find_word(table: &[u16], most: usize, r: Words) -> usize
+    requires { ⌜ Searchable most (now table) ⌝ }
+    ensures { λ p. ⌜ Found most (now (table .entry)) (row-of r) p ⌝ }
 {
-    let h = chain(r);
-    let mut s = table[16384 + h] as usize;
+    let mut bits = key(r);
+    let mut p = head_word(most, bits);
+    let mut s = table[p] as usize;
     while s > 0 {
         let i = s - 1;
         if same(table, i, r) {
-            return i;
+            return p;
         }
-        s = table[12288 + i] as usize;
+        p = link_word(most, i, bits);
+        bits = bits / 2;
+        s = table[p] as usize;
     }
-    n
+    p
 }
 
 // Stores a row behind n rows.
@@ -72,39 +75,34 @@ fn store_row(table: &mut [u16], n: usize, r: Words)
     table[k + 2] = r.b;
 }
 
-// Stores a row behind n rows, and in the index. Constant time.
-fn append_row(table: &mut [u16], n: usize, r: Words)
-    requires { ⌜ (n < 4096) × (20480 ≤ length (now table)) ⌝ }
-    ensures { λ _. ⌜ now (table .exit) ≡ appended (now (table .entry)) n (row-of r) ⌝ }
+// Stores a row behind n rows, and names it in word p. Constant time.
+fn append_row(table: &mut [u16], n: usize, r: Words, p: usize)
+    requires { ⌜ (n < 4096) × (3 * n + 3 ≤ length (now table)) × (p < length (now table)) ⌝ }
+    ensures { λ _. ⌜ now (table .exit) ≡ appended (now (table .entry)) n (row-of r) p ⌝ }
 {
     store_row(table, n, r);
-    let h = chain(r);
-    put_first(table, n, h);
+    table[p] = (n + 1) as u16;
 }
 
 // False and true, the first two rows.
-pub fn first_rows(table: &mut [u16])
-    requires { ⌜ 20480 ≤ length (now table) ⌝ }
-    ensures { λ _. ⌜ now (table .exit) ≡ begun (now (table .entry)) ⌝ }
+pub fn first_rows(table: &mut [u16], most: usize)
+    requires { ⌜ Empty most (now table) ⌝ }
+    ensures { λ _. ⌜ FirstTwo most (now (table .exit)) ⌝ }
 {
-    append_row(
-        table,
-        0,
-        Words {
-            kind: 0,
-            a: 0,
-            b: 0,
-        },
-    );
-    append_row(
-        table,
-        1,
-        Words {
-            kind: 1,
-            a: 0,
-            b: 0,
-        },
-    );
+    let f = Words {
+        kind: 0,
+        a: 0,
+        b: 0,
+    };
+    let p = find_word(table, most, f);
+    append_row(table, 0, f, p);
+    let t = Words {
+        kind: 1,
+        a: 0,
+        b: 0,
+    };
+    let q = find_word(table, most, t);
+    append_row(table, 1, t, q);
 }
 
 // The row with these words: the one that stands, or appended. Costs what finding it does.
@@ -113,12 +111,13 @@ pub fn row(table: &mut [u16], frame: Frame, at: Size, r: Words) -> Step
     ensures { λ s. ⌜ ((o : List ℕ) → Ready frame at (store (now (table .entry)) o) → Builds (row-built (row-of r)) frame at (store (now (table .entry)) o) (store (now (table .exit)) o) s) ⌝ }
 {
     let n = at.rows;
-    let i = find_row(table, n, r);
-    if i < n {
+    let p = find_word(table, frame.rows, r);
+    let s = table[p];
+    if s > 0 {
         return Step {
             rows: n,
             twins: at.twins,
-            row: i as u16,
+            row: s - 1,
             full: false,
         };
     }
@@ -130,7 +129,7 @@ pub fn row(table: &mut [u16], frame: Frame, at: Size, r: Words) -> Step
             full: true,
         };
     }
-    append_row(table, n, r);
+    append_row(table, n, r, p);
     Step {
         rows: n + 1,
         twins: at.twins,

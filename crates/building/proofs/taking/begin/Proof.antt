@@ -25,7 +25,7 @@ same-length c = search needs
 
 -- src/taking.rt:28:1
 returns-2 : tie.Need-returns-2
-returns-2 c = rw (c .before .before .first-rows .ensures) (beginning (c .before .before .before .before .before .before .before .args .frame) (c .before .before .before .before .before .before .before .args .table .now) (c .before .before .before .before .before .before .before .pre) (c .before .before .before .before .if1 .left))
+returns-2 c = beginning (c .before .before .before .before .before .before .before .args .frame) (c .before .before .before .before .before .before .before .args .table .now) (c .before .before .before .before .before .before .before .pre) (c .before .before .before .before .if1 .left) (c .before .before .first-rows .ensures)
 
 pub begin-spec : {M : Type 1} → statement M
 begin-spec =
