@@ -1,4 +1,4 @@
-//! Rows that stand in one chain of the library's index. The hash is the
+//! Rows that stand below one head of the library's index. The hash is the
 //! library's (crates/formula_builder/src/index.rt): if it changes, these
 //! tasks are as good as random ones.
 
@@ -7,16 +7,17 @@ use saqwillo_tests::task::*;
 
 use super::families::{atoms, Size};
 
-fn chain(kind: u16, a: u16, b: u16) -> u64 {
+fn head(kind: u16, a: u16, b: u16) -> u64 {
     let [kind, a, b] = [kind, a, b].map(u64::from);
-    ((b * 4096 + a) * 8 + kind) * 2_654_435_769 / 1_048_576 % 4096
+    let key = (kind * 4096 + b) * 4096 + a;
+    key * 2_654_435_769 % (1 << 32) * 4096 >> 32
 }
 
-/// The chain that is made long.
+/// The head below which most rows stand.
 const WANTED: u64 = 1234;
 
-/// A join of the row before with one from `first` on, in the wanted chain
-/// and not among those that stand; else any that does not stand.
+/// A join of the row before with one from `first` on, below the wanted
+/// head and not among those that stand; else any that does not stand.
 fn next_row(rows: &[[u16; 3]], first: u16) -> [u16; 3] {
     let last = rows.len() as u16 - 1;
     let joins = |x: u16| {
@@ -28,7 +29,7 @@ fn next_row(rows: &[[u16; 3]], first: u16) -> [u16; 3] {
     };
     // the row before is new, so no row with it stands
     let mut all = (first..=last).rev().flat_map(joins);
-    let wanted = all.find(|&[kind, a, b]| chain(kind, a, b) == WANTED);
+    let wanted = all.find(|&[kind, a, b]| head(kind, a, b) == WANTED);
     wanted.unwrap_or([formula::AND, first, last])
 }
 
