@@ -1,61 +1,35 @@
 -- Walking over the variables of an operator. Assumes nothing.
-use Prim.Native.Nat.{ℕ, zero, suc, _+_, _*_, _≤_, _<_}
+use Prim.Native.Nat.{ℕ, _+_, _≤_, _<_}
 use native.Mathlib.Omega.{arith}
 use native.Mathlib.Numerals.{add-one}
-use mathlib.Core.Path.{_≡_, refl, sym, ap, ap₂, _∙_}
-use mathlib.Core.Bool.{Bool, true, false, cond, true≢false}
+use mathlib.Core.Path.{_≡_, refl, sym, ap, _∙_}
+use mathlib.Core.Bool.{Bool, true, false, true≢false}
 use mathlib.Core.List.{List, [], _∷_, _++_}
 use lib.ListN.{length, getD}
-use Rattle.normal_form.specs.Builder.{St, Got, Build, give, bind, each, plain}
-use Rattle.normal_form.specs.Growth.{Grows, Steady}
-use Rattle.task.specs.Semantics.{Effect}
+use Rattle.normal_form.specs.Builder.{St, give, bind, each, plain}
 use Rattle.normal_form.proofs.ShapeSizes.{each-grows}
-use Rattle.normal_form.specs.Operators.{Changes, deletes-of, changes-of}
-use Rattle.normal_form.proofs.Growth.{grows-refl, grows-trans, steady-each}
+use Rattle.normal_form.specs.Operators.{Changes, changes-of}
+use Rattle.normal_form.proofs.Growth.{steady-each}
 use Rattle.normal_form.proofs.Steady.{steady-changes}
 use Rattle.formula_builder.specs.declared.Frame.{Frame}
 use Rattle.formula_builder.specs.declared.Size.{Size}
 use Rattle.formula_builder.specs.declared.Step.{Step}
-use Rattle.formula_builder.specs.Held.{Store, held, size-of, Ready, Within}
+use Rattle.formula_builder.specs.Held.{Store, held, size-of}
 use Rattle.formula_builder.proofs.Steps.{within-before}
-use Rattle.images.specs.Images.{image-at, Memo, Images, Asks}
-use Rattle.conditions.specs.Conditions.{effect-tree, condition-at}
-use Rattle.changes.specs.Stands.{Stands, StandsAt, Reached, Reaches, Makes, made}
-use Rattle.changes.proofs.Standing.{stands-next, makes-row}
-use Rattle.touched.specs.Touched.{Untouched, LooksAt, Marks}
+use Rattle.images.specs.Images.{image-at, Images, Asks}
+use Rattle.conditions.specs.Conditions.{effect-tree}
+use Rattle.changes.specs.Stands.{Stands, StandsAt, Reaches, Makes, size-after, made}
+use Rattle.changes.proofs.Standing.{stands-next}
+use Rattle.touched.specs.Touched.{Untouched, Marks}
 use Rattle.changes.specs.declared.Change.{Change}
-use Rattle.records.specs.Recorded.{Recorded}
-use Rattle.records.proofs.Keeping.{recorded-none, recorded-more}
+use Rattle.records.specs.Recorded.{Keeps, Opens, Recorded}
+use Rattle.records.proofs.Keeping.{recorded-none, recorded-few, recorded-more}
 use Rattle.operators.specs.declared.Tally.{Tally}
-use Rattle.operators.specs.Operator.{all-changes, operator-built, WalksVariable, WalksAll, BuildsOperator, size-behind, Walked, OperatorWalked}
-
-folded :
-    (n v : ℕ) (tree : Effect)
-    → bind (give 0)
-    (λ a. bind (give 0) (λ d. bind (deletes-of n tree v a d) (λ k. give {A = Changes} (record { variable = v; adds = a; deletes = k }))))
-    ≡ give {A = Changes} (record { variable = v; adds = 0; deletes = 0 })
-unfolding bind give deletes-of
-folded n v tree = refl
-
--- a variable that is not touched changes nothing
-untouched-changes :
-    (frame : Frame) (formulas effects : List ℕ) (v e : ℕ)
-    → Untouched frame formulas effects v e
-    → changes-of (frame .variables) (effect-tree frame formulas effects e) v ≡ give (record { variable = v; adds = 0; deletes = 0 })
-unfolding changes-of condition-at
-untouched-changes frame formulas effects v e u =
-    let n = frame .variables in
-    let tree = effect-tree frame formulas effects e in
-    let set-idle = u .idle (record { clear = false; variable = v; negated = false }) refl in
-    let clear-idle = u .idle (record { clear = true; variable = v; negated = false }) refl in
-    ap₂
-    (λ (a d : Build ℕ).
-    bind a (λ a. bind d (λ d. bind (deletes-of n tree v a d) (λ k. give {A = Changes} (record { variable = v; adds = a; deletes = k })))))
-    set-idle clear-idle
-    ∙ folded n v tree
+use Rattle.operators.specs.Operator.{all-changes, operator-built, NextTouched, WalksAll, BuildsOperator, size-behind, Walked, OperatorWalked}
+use Rattle.operators.proofs.Passing.{stretch-passed, reaches-alike, recorded-alike}
 
 -- nothing is built
-pub makes-give :
+makes-give :
     {A : Type 0} {frame : Frame} {formulas effects : List ℕ} {at : Size} {s : Store} {scratch : List ℕ} (x : A)
     → Stands frame formulas effects at s scratch
     → Makes (give x) frame formulas at s s scratch scratch false at x
@@ -71,22 +45,13 @@ makes-give x a =
       value = λ _. refl;
     }
 
-pub passed-over :
-    {spans : List ℕ} (frame : Frame) (formulas effects : List ℕ) (at : Size) (s : Store) (scratch : List ℕ) (e v : ℕ)
-    → StandsAt frame formulas effects spans at s scratch e
-    → Untouched frame formulas effects v e
-    → Makes (changes-of (frame .variables) (effect-tree frame formulas effects e) v) frame formulas at s s scratch scratch false at
-    (record { variable = v; adds = 0; deletes = 0 })
-passed-over frame formulas effects at s scratch e v a u =
-    rw (untouched-changes frame formulas effects v e u) (makes-give _ (a .stands))
-
 as-recorded :
     {cs ds : List Changes} {from to : ℕ} {l n : List ℕ} → cs ≡ ds → Recorded ds from l n to → Recorded cs from l n to
 as-recorded e r = rw e r
 
 -- The loop over the variables.
 module _ (frame : Frame) (formulas effects : List ℕ) (e : ℕ) where
-  pub changes-none :
+  changes-none :
       {at : Size} {s : Store} {scratch : List ℕ}
       → Stands frame formulas effects at s scratch
       → Reaches (all-changes frame formulas effects e 0) frame formulas at s s scratch scratch false at
@@ -94,14 +59,14 @@ module _ (frame : Frame) (formulas effects : List ℕ) (e : ℕ) where
   changes-none a = makes-give [] a .reaches
 
   -- none is recorded
-  pub none-recorded :
+  none-recorded :
       (at : Size) (s : Store) (from : ℕ) (l : List ℕ)
       → Recorded (all-changes frame formulas effects e 0 (held at s) .value) from l l from
   unfolding all-changes each give
   none-recorded at s from l = recorded-none from l
 
   module _ {at : Size} {before mid : Store} {s1 s2 : List ℕ} {here : Size} (v : ℕ) (x : Reaches (all-changes frame formulas effects e v) frame formulas at before mid s1 s2 false here) where
-    pub changes-more :
+    changes-more :
         {after : Store} {s3 : List ℕ} {full : Bool} {next : Size}
         → Reaches (changes-of (frame .variables) (effect-tree frame formulas effects e) v) frame formulas here mid after s2 s3 full next
         → Reaches (all-changes frame formulas effects e (v + 1)) frame formulas at before after s1 s3 full next
@@ -118,7 +83,7 @@ module _ (frame : Frame) (formulas effects : List ℕ) (e : ℕ) where
           rest = λ j h. y .rest j h ∙ x .rest j h;
         })
 
-    pub more-recorded :
+    more-recorded :
         {after : Store} {s3 : List ℕ} {full : Bool} {next : Size} {from k to : ℕ} {l m n : List ℕ} (c : Change)
         → Recorded (all-changes frame formulas effects e v (held at before) .value) from l m k
         → Makes (changes-of (frame .variables) (effect-tree frame formulas effects e) v) frame formulas here mid after s2 s3 full next (made v c)
@@ -134,7 +99,7 @@ module _ (frame : Frame) (formulas effects : List ℕ) (e : ℕ) where
         rw (add-one v) (as-recorded same (recorded-more r z))
 
   -- no room for a part is no room for all
-  pub changes-stop :
+  changes-stop :
       {at : Size} {before after : Store} {s1 s2 : List ℕ} {next last : Size} (v n : ℕ)
       → v ≤ n
       → Reaches (all-changes frame formulas effects e v) frame formulas at before after s1 s2 true next
@@ -152,13 +117,109 @@ module _ (frame : Frame) (formulas effects : List ℕ) (e : ℕ) where
         rest = x .rest;
       }
 
-  pub all-walked :
+  all-walked :
       {at : Size} {before after : Store} {s1 s2 : List ℕ} {from : ℕ} {l m : List ℕ} (r : Tally) (v n : ℕ)
       → v ≡ n
       → Reaches (all-changes frame formulas effects e v) frame formulas at before after s1 s2 (r .full) (size-behind r)
       → Recorded (all-changes frame formulas effects e v (held at before) .value) from l m (r .records)
       → Walked (all-changes frame formulas effects e n) frame formulas at before after s1 s2 from l m r
   all-walked r v n same x y = rw (sym same) (record { reaches = x; recorded = λ _. y })
+
+-- The loop's invariant: the changes of the variables below v are built and recorded.
+pub record Walking (frame : Frame) (formulas effects : List ℕ) (e : ℕ) (at : Size) (before mid : Store) (s1 s2 : List ℕ) (from : ℕ) (l m : List ℕ) (here : Size) (k v : ℕ) : Type 0 where
+  pub below : v ≤ frame .variables
+  pub reaches : Reaches (all-changes frame formulas effects e v) frame formulas at before mid s1 s2 false here
+  pub recorded : Recorded (all-changes frame formulas effects e v (held at before) .value) from l m k
+  pub few : k ≤ from + v
+
+module _ {frame : Frame} {formulas effects spans touched : List ℕ} {e : ℕ} {at : Size} {before : Store} {s1 : List ℕ} (a : WalksAll frame formulas effects spans touched at before s1 e) where
+  -- on to the next variable that is touched
+  walking-on :
+      {mid : Store} {s2 : List ℕ} {from : ℕ} {l m : List ℕ} {here : Size} {k v next : ℕ}
+      → Walking frame formulas effects e at before mid s1 s2 from l m here k v
+      → NextTouched touched v (frame .variables) next
+      → Walking frame formulas effects e at before mid s1 s2 from l m here k next
+  walking-on {v = v} {next = next} w n =
+      let same =
+      stretch-passed frame formulas effects e v next (n .above) (λ j p q. a .passed j (n .passed j p q)) in
+      record {
+        below = n .below;
+        reaches = reaches-alike same (w .reaches);
+        recorded = recorded-alike same (held at before) (w .recorded);
+        few = omega (arith, w .few, n .above);
+      }
+
+  pub walking-begins :
+      {from : ℕ} {l : List ℕ} {next : ℕ}
+      → NextTouched touched 0 (frame .variables) next
+      → Walking frame formulas effects e at before before s1 s1 from l l at from next
+  walking-begins {from} {l} n =
+      walking-on
+      (record {
+        below = omega arith;
+        reaches = changes-none frame formulas effects e (a .stands .stands);
+        recorded = none-recorded frame formulas effects e at before from l;
+        few = omega arith;
+      })
+      n
+
+  module _ {mid : Store} {s2 : List ℕ} {from : ℕ} {l m : List ℕ} {here : Size} {k v : ℕ} (w : Walking frame formulas effects e at before mid s1 s2 from l m here k v) where
+    -- what the change of variable v asks, and what recording it asks
+    pub walking-asks : length s2 ≡ length s1 → StandsAt frame formulas effects spans here mid s2 e
+    walking-asks long =
+        record {
+          stands = stands-next (a .stands .stands) (w .reaches) refl long;
+          spanned = a .stands .spanned;
+          effect = a .stands .effect;
+        }
+
+    pub walking-keeps : Opens from l → length m ≡ length l → Keeps k m
+    walking-keeps o long =
+        record {
+          room = omega (arith, o .room, long);
+          limit = omega (arith, o .limit, w .few, w .below, a .stands .stands .ready .variables);
+        }
+
+    module _ {after : Store} {s3 : List ℕ} (c : Change) (y : Makes (changes-of (frame .variables) (effect-tree frame formulas effects e) v) frame formulas here mid after s2 s3 (c .full) (size-after c) (made v c)) where
+      pub walking-stops :
+          {n : List ℕ} {r : Tally}
+          → v < frame .variables
+          → c .full ≡ true
+          → r .full ≡ true
+          → Walked (all-changes frame formulas effects e (frame .variables)) frame formulas at before after s1 s3 from l n r
+      walking-stops h q full =
+          record {
+            reaches =
+                rw full
+                (changes-stop frame formulas effects e (v + 1) (frame .variables) (omega arith)
+                (rw q at (changes-more frame formulas effects e v (w .reaches) (y .reaches))));
+            recorded = λ z. absurd (true≢false (sym full ∙ z));
+          }
+
+      pub walking-more :
+          {n : List ℕ} {to next : ℕ}
+          → c .full ≡ false
+          → Recorded (made v c ∷ []) k m n to
+          → NextTouched touched (v + 1) (frame .variables) next
+          → Walking frame formulas effects e at before after s1 s3 from l n (size-after c) to next
+      walking-more q z n =
+          walking-on
+          (record {
+            below = omega (arith, n .above, n .below);
+            reaches = rw q at (changes-more frame formulas effects e v (w .reaches) (y .reaches));
+            recorded = more-recorded frame formulas effects e v (w .reaches) c (w .recorded) y q z;
+            few = omega (arith, recorded-few z, w .few);
+          })
+          n
+
+    pub walking-ends :
+        {r : Tally}
+        → frame .variables ≤ v
+        → r ≡ record { rows = here .rows; twins = here .twins; row = 0; records = k; full = false }
+        → Walked (all-changes frame formulas effects e (frame .variables)) frame formulas at before mid s1 s2 from l m r
+    walking-ends h is =
+        rw is
+        (all-walked frame formulas effects e _ v (frame .variables) (omega (arith, w .below)) (w .reaches) (w .recorded))
 
 -- The precondition, then all changes.
 module _ (frame : Frame) (formulas effects : List ℕ) (p e : ℕ) {at : Size} {before mid : Store} {s1 s2 : List ℕ} {f : Step} (x : Images (image-at frame formulas plain p) frame formulas at before mid s1 s2 f) where

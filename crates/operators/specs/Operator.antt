@@ -1,7 +1,7 @@
 -- What building one operator asks and gives.
 use Prim.Native.Nat.{ℕ, _≤_, _<_}
 use mathlib.Core.Path.{_≡_}
-use mathlib.Core.Bool.{Bool, false}
+use mathlib.Core.Bool.{false}
 use mathlib.Core.List.{List}
 use lib.ListN.{length, getD}
 use Rattle.normal_form.specs.Builder.{Build, bind, each, plain}
@@ -26,9 +26,12 @@ unfoldable pub operator-built : Frame → List ℕ → List ℕ → ℕ → ℕ 
 operator-built frame formulas effects p e =
     bind (image-at frame formulas plain p) (λ f. all-changes frame formulas effects e (frame .variables))
 
-pub record WalksVariable (walked : Bool) (frame : Frame) (formulas effects spans : List ℕ) (at : Size) (s : Store) (scratch : List ℕ) (e v : ℕ) : Type 0 where
-  pub stands : StandsAt frame formulas effects spans at s scratch e
-  pub passed : walked ≡ false → Untouched frame formulas effects v e
+-- The first touched variable from one on, below n; n if there is none.
+pub record NextTouched (touched : List ℕ) (from n next : ℕ) : Type 0 where
+  pub above : from ≤ next
+  pub below : next ≤ n
+  pub passed : (v : ℕ) → from ≤ v → v < next → getD touched v 0 ≡ 0
+  pub stopped : next < n → getD touched next 0 ≡ 0 → ⊥
 
 pub record WalksAll (frame : Frame) (formulas effects spans touched : List ℕ) (at : Size) (s : Store) (scratch : List ℕ) (e : ℕ) : Type 0 where
   pub stands : StandsAt frame formulas effects spans at s scratch e

@@ -3,7 +3,6 @@ mod operator;
 mod walk;
 
 pub use operator::build_operator;
-pub use walk::change_if;
 
 // So many rows and twins stand, the row of the precondition, and so many changes are recorded; or that there was no room for rows or twins.
 pub struct Tally {

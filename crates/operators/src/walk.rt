@@ -1,59 +1,29 @@
 // The changes of all variables, upwards.
 use crate::Tally;
-use changes::Change;
 use changes::change_of;
 use formula_builder::Frame;
 use formula_builder::Size;
 use records::keep_change;
 use rule_writer::Changes;
-ghost use mathlib.Core.Path.{_≡_};
-ghost use Prim.Native.Nat.{ℕ, _≤_};
+ghost use Prim.Native.Nat.{_≤_};
 ghost use lib.ListN.{length};
-ghost use Rattle.normal_form.specs.Operators.{changes-of};
 ghost use Rattle.formula_builder.specs.Held.{store};
-ghost use Rattle.conditions.specs.Conditions.{effect-tree};
-ghost use Rattle.changes.specs.Stands.{Makes, size-after, made};
 ghost use Rattle.records.specs.Recorded.{Opens};
-ghost use Rattle.operators.specs.Operator.{WalksVariable, WalksAll, Walked, all-changes};
+ghost use Rattle.operators.specs.Operator.{NextTouched, WalksAll, Walked, all-changes};
 
-// What effect e does to variable v; nothing, if the effect does not touch it.
-pub fn change_if(
-    walked: bool,
-    formulas: &[u16],
-    effects: &[u16],
-    spans: &[u16],
-    e: usize,
-    v: u16,
-    frame: Frame,
-    at: Size,
-    table: &mut [u16],
-    originals: &mut [u16],
-    scratch: &mut [u16],
-) -> Change
-    requires { ⌜ WalksVariable walked frame (now formulas) (now effects) (now spans) at (store (now table) (now originals)) (now scratch) e v ⌝ }
-    ensures { λ r. ⌜ Makes (changes-of (frame .variables) (effect-tree frame (now (formulas .entry)) (now (effects .entry)) e) v) frame (now (formulas .entry)) at (store (now (table .entry)) (now (originals .entry))) (store (now (table .exit)) (now (originals .exit))) (now (scratch .entry)) (now (scratch .exit)) (r .full) (size-after r) (made v r) ⌝ }
+// The first variable from one on, below n, that is marked as touched; n if there is none. A step for each that is passed over.
+fn next_touched(touched: &[u8], from: usize, n: usize) -> usize
+    requires { ⌜ (from ≤ n) × (n ≤ length (now touched)) ⌝ }
+    ensures { λ r. ⌜ NextTouched (now (touched .entry)) from n r ⌝ }
 {
-    if walked {
-        return change_of(
-            formulas,
-            effects,
-            spans,
-            e,
-            v,
-            frame,
-            at,
-            table,
-            originals,
-            scratch,
-        );
+    let mut v = from;
+    while v < n {
+        if touched[v] != 0 {
+            return v;
+        }
+        v += 1;
     }
-    Change {
-        rows: at.rows,
-        twins: at.twins,
-        adds: 0,
-        deletes: 0,
-        full: false,
-    }
+    n
 }
 
 // The changes of all variables are built, and recorded behind those that are; variables that the effect does not touch are passed over.
@@ -78,15 +48,14 @@ pub fn build_changes(
     let mut rows = at.rows;
     let mut twins = at.twins;
     let mut k = from;
-    let mut v = 0;
+    let mut v = next_touched(touched, 0, n);
     while v < n {
         let here = Size {
             rows: rows,
             twins: twins,
         };
         let variable = v as u16;
-        let c = change_if(
-            touched[v] != 0,
+        let c = change_of(
             formulas,
             effects,
             spans,
@@ -118,7 +87,7 @@ pub fn build_changes(
                 deletes: c.deletes,
             },
         );
-        v += 1;
+        v = next_touched(touched, v + 1, n);
     }
     Tally {
         rows: rows,
