@@ -84,6 +84,21 @@ pub record Spans (frame : Frame) (effects spans : List ℕ) : Type 0 where
       → outside spans v e ≡ true
       → Untouched frame formulas effects v e
 
+-- the column of effect row e, 0 for none
+unfoldable pub column : Frame → List ℕ → ℕ → ℕ
+column frame notes e = getD notes (2 * frame .effects + e) 0
+
+-- Each row has a word for its column, and no two rows have the same.
+pub record Columns (frame : Frame) (notes : List ℕ) : Type 0 where
+  pub words : 3 * frame .effects ≤ length notes
+  pub apart :
+      (d e : ℕ)
+      → d < frame .effects
+      → e < frame .effects
+      → 0 < column frame notes e
+      → column frame notes d ≡ column frame notes e
+      → d ≡ e
+
 pub record Asks (frame : Frame) (formulas effects spans : List ℕ) (t : Target) (at : Size) (before : Store) (scratch : List ℕ) (e : ℕ) : Type 0 where
   pub source : Source frame formulas scratch
   pub effect-source : EffectSource frame effects scratch
