@@ -31,14 +31,16 @@ source frame effects spans a =
       down = a .down;
     }
 
--- Row i with the words w.
-module _ (frame : Frame) (effects spans : List ℕ) (i : ℕ) (a : FindsSpan frame effects spans i) (w : Words) (q : row-of w ≡ row-at effects i) where
+-- The rows that row i names, by its words w.
+module _ (frame : Frame) (effects spans : List ℕ) (a : FindsSpans frame effects spans) (i : ℕ) (h : i < frame .effects) (w : Words) (q : row-of w ≡ row-at effects i) where
   pub both-lower : w .kind ≡ 3 → (w .a < i) × (w .b < i)
-  both-lower k = both-within frame [] effects (memo frame) (source frame effects spans (a .finds)) i (a .effect) w q 0 k
+  both-lower k = both-within frame [] effects (memo frame) (source frame effects spans a) i h w q 0 k
 
   pub under-lower : w .kind ≡ 4 → w .b < i
-  under-lower k = under-within frame [] effects (memo frame) (source frame effects spans (a .finds)) i (a .effect) w q 0 k
+  under-lower k = under-within frame [] effects (memo frame) (source frame effects spans a) i h w q 0 k
 
+-- Row i with the words w.
+module _ (frame : Frame) (effects spans : List ℕ) (i : ℕ) (a : FindsSpan frame effects spans i) (w : Words) (q : row-of w ≡ row-at effects i) where
   pub span-both :
       (r : Span)
       → w .kind ≡ 3
@@ -47,7 +49,7 @@ module _ (frame : Frame) (effects spans : List ℕ) (i : ℕ) (a : FindsSpan fra
   span-both r k c =
       record {
         alone = λ formulas v h.
-            let low = both-lower k in
+            let low = both-lower frame effects spans (a .finds) i (a .effect) w q k in
             idle-both frame formulas effects (memo frame) (source frame effects spans (a .finds)) i (a .effect) w q v k
             (a .found (w .a) (low .0) .alone formulas v (λ x y. h (omega (arith, c .0 .least)) (omega (arith, c .0 .greatest))))
             (a .found (w .b) (low .1) .alone formulas v (λ x y. h (omega (arith, c .1 .least)) (omega (arith, c .1 .greatest))));
@@ -58,7 +60,7 @@ module _ (frame : Frame) (effects spans : List ℕ) (i : ℕ) (a : FindsSpan fra
       record {
         alone = λ formulas v h.
             idle-under frame formulas effects (memo frame) (source frame effects spans (a .finds)) i (a .effect) w q v k
-            (a .found (w .b) (under-lower k) .alone formulas v h);
+            (a .found (w .b) (under-lower frame effects spans (a .finds) i (a .effect) w q k) .alone formulas v h);
       }
 
   pub span-empty : (s : Span) → w .kind ≡ 0 → SpanOf frame effects i s
