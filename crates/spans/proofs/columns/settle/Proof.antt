@@ -7,7 +7,6 @@ use Rattle.formula_builder.proofs.read_row.Reads as read-row-reads
 use Rattle.spans.proofs.columns.hand_on.Reads as hand-on-reads
 use Rattle.spans.proofs.columns.is_worth.Reads as is-worth-reads
 use native.Mathlib.Omega.{arith}
-use Prim.Native.Nat.{_+_}
 use Rattle.spans.proofs.Settling.{hands-on, settled-by}
 
 -- src/columns.rt:81:9
@@ -60,7 +59,7 @@ same-length c = search needs
 
 -- src/columns.rt:87:9
 returns : tie.Need-returns
-returns c = settled-by (c .before .before .before .before .before .before .before .before .before .before .before .args .frame) (c .before .before .before .before .before .before .before .before .before .before .before .args .i) (c .before .before .before .before .before .before .before .before .before .before .before .args .last) (c .before .before .before .before .before .before .before .before .before .before .before .args .last + 1) (c .before .before .before .before .before .before .before .before .before .before .before .args .last + 1) (c .before .before .before .before .before .before .before .before .before .before .before .args .notes .now) (c .before .before .before .before .hand-on .last .1 .1 .1 .1 .0) (omega (arith, c .before .before .before .before .before .before .before .before .before .before .before .pre .room, c .before .before .before .before .before .before .before .before .before .before .before .pre .effect, c .before .before .before .before .hand-on .kept .1 .1 .1 .1 .0)) (c .before .before .before .before .hand-on .ensures) (omega arith) (omega arith) (omega arith) (λ p. omega arith)
+returns c = settled-by (c .before .before .before .before .before .before .before .before .before .before .before .args .frame) (c .before .before .before .before .before .before .before .before .before .before .before .args .i) (c .before .before .before .before .before .before .before .before .before .before .before .args .last) _ _ (c .before .before .before .before .before .before .before .before .before .before .before .args .notes .now) (c .before .before .before .before .hand-on .last .1 .1 .1 .1 .0) (omega (arith, c .before .before .before .before .before .before .before .before .before .before .before .pre .room, c .before .before .before .before .before .before .before .before .before .before .before .pre .effect, c .before .before .before .before .hand-on .kept .1 .1 .1 .1 .0)) (c .before .before .before .before .hand-on .ensures) (omega arith) (omega arith) (omega arith) (λ p. omega arith)
 
 -- src/columns.rt:89:5
 mul-notes-2 : tie.Need-mul-notes-2
@@ -76,7 +75,7 @@ same-length-2 c = search needs
 
 -- src/columns.rt:77:1
 returns-2 : tie.Need-returns-2
-returns-2 c = settled-by (c .before .before .before .before .before .before .before .before .before .before .before .args .frame) (c .before .before .before .before .before .before .before .before .before .before .before .args .i) (c .before .before .before .before .before .before .before .before .before .before .before .args .last) 0 (c .before .before .before .before .before .before .before .before .before .before .before .args .last) (c .before .before .before .before .before .before .before .before .before .before .before .args .notes .now) (c .before .before .before .before .hand-on .last .1 .1 .1 .1 .0) (omega (arith, c .before .before .before .before .before .before .before .before .before .before .before .pre .room, c .before .before .before .before .before .before .before .before .before .before .before .pre .effect, c .before .before .before .before .hand-on .kept .1 .1 .1 .1 .0)) (c .before .before .before .before .hand-on .ensures) (omega arith) (omega arith) (omega arith) (λ p. absurd (omega arith))
+returns-2 c = settled-by (c .before .before .before .before .before .before .before .before .before .before .before .args .frame) (c .before .before .before .before .before .before .before .before .before .before .before .args .i) (c .before .before .before .before .before .before .before .before .before .before .before .args .last) _ _ (c .before .before .before .before .before .before .before .before .before .before .before .args .notes .now) (c .before .before .before .before .hand-on .last .1 .1 .1 .1 .0) (omega (arith, c .before .before .before .before .before .before .before .before .before .before .before .pre .room, c .before .before .before .before .before .before .before .before .before .before .before .pre .effect, c .before .before .before .before .hand-on .kept .1 .1 .1 .1 .0)) (c .before .before .before .before .hand-on .ensures) (omega arith) (omega arith) (omega arith) (λ p. absurd (omega arith))
 
 pub settle-spec : {M : Type 1} → statement M
 settle-spec =
