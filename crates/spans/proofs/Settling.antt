@@ -3,6 +3,7 @@ use Prim.Native.Nat.{ℕ, _+_, _*_, _≤_, _<_}
 use native.Mathlib.Omega.{arith}
 use native.Mathlib.Decide.{decLt}
 use mathlib.Core.Path.{_≡_, refl, sym, ap, _∙_}
+use mathlib.Core.Bool.{true}
 use mathlib.Core.List.{List}
 use lib.ListN.{length, getD, set, length-set}
 use lib.Seq.{getD-set-same, getD-set-other}
@@ -10,7 +11,7 @@ use Rattle.task.specs.Table.{Row, row-at}
 use Rattle.formula_builder.specs.declared.Words.{Words}
 use Rattle.formula_builder.specs.declared.Frame.{Frame}
 use Rattle.formula_builder.specs.Held.{row-of}
-use Rattle.conditions.specs.Conditions.{column, Columns}
+use Rattle.conditions.specs.Conditions.{column, Columns, outside, Spans}
 use Rattle.spans.specs.Columns.{Elsewhere, Meets, HandsOn, FindsRoots, FindsColumns, Settles, Settled, FoundColumns}
 use Rattle.spans.proofs.Finds.{both-lower, under-lower}
 
@@ -226,3 +227,20 @@ settling-all n a long w x =
       };
       elsewhere = elsewhere-then (omega arith) (omega arith) w (x .elsewhere);
     }
+
+-- and the spans stay
+pub spans-stay :
+    (frame : Frame) (effects notes notes' : List ℕ)
+    → length notes' ≡ length notes
+    → Elsewhere frame (frame .effects) notes notes'
+    → Spans frame effects notes
+    → Spans frame effects notes'
+unfolding outside
+spans-stay frame effects notes notes' long x s =
+    record {
+      words = omega (arith, s .words);
+      alone = λ formulas v e b o. s .alone formulas v e b (same v e b o);
+    }
+  where
+    same : (v e : ℕ) → e < frame .effects → outside notes' v e ≡ true → outside notes v e ≡ true
+    same v e b o = rw (x .before (2 * e) (omega arith), x .before (2 * e + 1) (omega arith)) at o
