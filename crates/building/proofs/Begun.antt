@@ -18,7 +18,8 @@ use Rattle.formula_builder.specs.Held.{Store, store, row-of, held, Within}
 use Rattle.formula_builder.proofs.Steps.{within-before}
 use Rattle.images.specs.Images.{image-at, memo-place, Images, Asks}
 use Rattle.images.proofs.Memos.{steady-image-at}
-use Rattle.changes.proofs.Standing.{stands-next, makes-row}
+use Rattle.changes.specs.Stands.{Leaves}
+use Rattle.changes.proofs.Standing.{stands-next, makes-row, leaves-full}
 use Rattle.records.specs.Recorded.{Opens, Recorded}
 use Rattle.operators.specs.declared.Tally.{Tally}
 use Rattle.operators.specs.Operator.{operator-built, operators-built, operator-here, BuildsOperator, OperatorWalked}
@@ -33,6 +34,13 @@ begun = record { rows = 2; twins = 0; operators = 0; records = 0; full = false }
 -- no room, so many operators taken
 abbrev pub stopped : ℕ → Progress
 stopped n = record { rows = 0; twins = 0; operators = n; records = 0; full = true }
+
+-- the notes are of no use without room
+pub leaves-stopped :
+    {frame : Frame} {formulas effects notes : List ℕ} {s : Store} {r : Progress} {n : ℕ}
+    → r ≡ stopped n
+    → Leaves (r .full) frame formulas effects notes (size-at r) s
+leaves-stopped e = rw e leaves-full
 
 -- there is no room for false and true
 pub no-beginning : (frame : Frame) (table : List ℕ) {p : Progress} → frame .rows < 2 → p ≡ stopped 0 → Begun frame table p
@@ -112,7 +120,7 @@ module _ (frame : Frame) (formulas effects operators : List ℕ) where
         over = λ q w _. g .over q (rw (none-taken (p .operators) (g .none)) at w);
       }
 
-  module _ {spans : List ℕ} {s : Store} {scratch records : List ℕ} {p : Progress} (t : Takes frame formulas effects spans operators s scratch records p) where
+  module _ {notes : List ℕ} {s : Store} {scratch records : List ℕ} {p : Progress} (t : Takes frame formulas effects notes operators s scratch records p) where
     -- without room it stays so
     pub took-full : {r : Progress} → p .full ≡ true → r ≡ stopped (p .operators + 1) → Took frame formulas effects operators s scratch records p r
     took-full q e =
@@ -133,11 +141,11 @@ module _ (frame : Frame) (formulas effects operators : List ℕ) where
       stood : Stood (operators-built frame formulas effects operators (p .operators) start .st) frame formulas effects (size-at p) s scratch
       stood = t .taken .done q
 
-      pub asks-operator : BuildsOperator frame formulas effects spans (size-at p) s scratch (w .kind) (w .a)
+      pub asks-operator : BuildsOperator frame formulas effects notes (size-at p) s scratch (w .kind) (w .a)
       asks-operator =
           record {
             stands =
-                record { stands = stood .stands; spanned = t .spanned; effect = omega (arith, ap (λ (r : Row). r .a) words, t .effect) };
+                record { stands = stood .stands; noted = t .leaves .noted q; effect = omega (arith, ap (λ (r : Row). r .a) words, t .effect) };
             formula = omega (arith, ap (λ (r : Row). r .kind) words, t .precondition);
           }
 

@@ -12,8 +12,8 @@ use Rattle.formula_builder.specs.declared.Size.{Size}
 use Rattle.formula_builder.specs.declared.Step.{Step}
 use Rattle.formula_builder.specs.Held.{Store, store, held, size-of, RowsReady, Within}
 use Rattle.images.specs.Images.{image-at, Source}
-use Rattle.conditions.specs.Conditions.{EffectSource, Spans}
-use Rattle.changes.specs.Stands.{Stands}
+use Rattle.conditions.specs.Conditions.{EffectSource}
+use Rattle.changes.specs.Stands.{Stands, Leaves}
 use Rattle.records.specs.Recorded.{acting, changes-from}
 use Rattle.operators.specs.Operator.{operator-here, operators-built}
 use Rattle.building.specs.declared.Progress.{Progress}
@@ -100,10 +100,10 @@ pub record Taken (frame : Frame) (formulas effects operators : List ℕ) (s : St
       → many frame formulas effects operators (p .operators) ≤ 2048
       → ⊥
 
--- There is a next operator.
-pub record Takes (frame : Frame) (formulas effects spans operators : List ℕ) (s : Store) (scratch records : List ℕ) (p : Progress) : Type 0 where
+-- There is a next operator, and the notes are right unless there is no room.
+pub record Takes (frame : Frame) (formulas effects notes operators : List ℕ) (s : Store) (scratch records : List ℕ) (p : Progress) : Type 0 where
   pub taken : Taken frame formulas effects operators s scratch records p
-  pub spanned : Spans frame effects spans
+  pub leaves : Leaves (p .full) frame formulas effects notes (size-at p) s
   pub words : 3 * p .operators + 3 ≤ length operators
   pub limit : p .operators < 256
   pub room : 6912 ≤ length records

@@ -9,7 +9,8 @@ use rule_writer::store;
 ghost use mathlib.Core.Path.{_≡_};
 ghost use mathlib.Core.Bool.{true};
 ghost use Rattle.formula_builder.specs.Held.{store};
-ghost use Rattle.building.specs.Taken.{Fresh, Begun, Takes, Took};
+ghost use Rattle.changes.specs.Stands.{Leaves};
+ghost use Rattle.building.specs.Taken.{size-at, Fresh, Begun, Takes, Took};
 
 // No room, so many operators taken.
 fn no_room(taken: usize) -> Progress
@@ -43,11 +44,12 @@ pub fn begin(frame: Frame, table: &mut [u16]) -> Progress
 }
 
 // The next operator: its precondition, then what it does to each variable that it touches, which is recorded for the rules. Without room
-// nothing more is built. Costs what build_operator does: a walk over the effect for each variable touched, and the index finds each row.
+// nothing more is built. Costs what build_operator does: a walk over the effect for each variable touched, not below rows whose condition is kept,
+// and the index finds each row.
 pub fn take_operator(
     formulas: &[u16],
     effects: &[u16],
-    spans: &[u16],
+    notes: &mut [u16],
     operators: &[u16],
     frame: Frame,
     at: Progress,
@@ -56,8 +58,8 @@ pub fn take_operator(
     scratch: &mut [u16],
     records: &mut [u16],
 ) -> Progress
-    requires { ⌜ Takes frame (now formulas) (now effects) (now spans) (now operators) (store (now table) (now originals)) (now scratch) (now records) at ⌝ }
-    ensures { λ r. ⌜ Took frame (now (formulas .entry)) (now (effects .entry)) (now (operators .entry)) (store (now (table .exit)) (now (originals .exit))) (now (scratch .exit)) (now (records .exit)) at r ⌝ }
+    requires { ⌜ Takes frame (now formulas) (now effects) (now notes) (now operators) (store (now table) (now originals)) (now scratch) (now records) at ⌝ }
+    ensures { λ r. ⌜ Took frame (now (formulas .entry)) (now (effects .entry)) (now (operators .entry)) (store (now (table .exit)) (now (originals .exit))) (now (scratch .exit)) (now (records .exit)) at r × Leaves (r .full) frame (now (formulas .entry)) (now (effects .entry)) (now (notes .exit)) (size-at r) (store (now (table .exit)) (now (originals .exit))) ⌝ }
 {
     let next = at.operators + 1;
     if at.full {
@@ -67,7 +69,7 @@ pub fn take_operator(
     let r = build_operator(
         formulas,
         effects,
-        spans,
+        notes,
         w.kind as usize,
         w.a as usize,
         frame,

@@ -22,12 +22,13 @@ use Rattle.formula_builder.specs.declared.Step.{Step}
 use Rattle.formula_builder.specs.Held.{Store, held, size-of, done-step, JoinReady, Ready, Within, Builds}
 use Rattle.formula_builder.proofs.Steps.{builds-give, within-before}
 use Rattle.images.specs.Images.{Memo, Images}
-use Rattle.images.proofs.Memos.{images-as, images-leaf, images-bind, images-stop}
+use Rattle.images.proofs.Memos.{done-grows, images-as, images-leaf, images-bind, images-stop}
 use Rattle.conditions.specs.declared.Target.{Target}
-use Rattle.conditions.specs.Conditions.{effect-tree, condition-at, EffectMemo, Asks, Conditions}
+use Rattle.conditions.specs.Conditions.{effect-tree, condition-at, EffectMemo, Noted, Asks, Conditions}
+use Rattle.conditions.proofs.Notes.{noted-grows}
 use Rattle.conditions.proofs.Memos.{memo-kept}
 use Rattle.changes.specs.declared.Change.{Change}
-use Rattle.changes.specs.Stands.{Cleared, Stands, StandsAt, Deletes, Reached, Reaches, Makes, size-after, made}
+use Rattle.changes.specs.Stands.{Cleared, Stands, StandsAt, Deletes, Leaves, Reached, Reaches, Makes, size-after, made}
 
 -- A loop that clears words, at word k.
 pub cleared-none : (from : ℕ) (l : List ℕ) → Cleared from from l l
@@ -54,15 +55,15 @@ cleared-more {from} {k} {before} {l} h room c =
 
 -- an empty memo of effects is right for every target
 pub asks-fresh :
-    {frame : Frame} {formulas effects spans : List ℕ} {at : Size} {s : Store} {scratch : List ℕ} {e : ℕ} (t : Target)
-    → StandsAt frame formulas effects spans at s scratch e
-    → Asks frame formulas effects spans t at s scratch e
+    {frame : Frame} {formulas effects notes : List ℕ} {at : Size} {s : Store} {scratch : List ℕ} {e : ℕ} (t : Target)
+    → StandsAt frame formulas effects notes at s scratch e
+    → Asks frame formulas effects notes t at s scratch e
 asks-fresh {frame} t a =
     record {
       source = a .stands .source;
       effect-source = a .stands .effect-source;
-      spanned = a .spanned;
       ready = a .stands .ready;
+      noted = a .noted;
       memo = a .stands .memo;
       effect-memo =
           record {
@@ -74,9 +75,9 @@ asks-fresh {frame} t a =
 
 -- the memo of effects is cleared behind a condition
 pub images-fresh :
-    {m : Build ℕ} {frame : Frame} {formulas effects spans : List ℕ} {t : Target} {e : ℕ} {at : Size} {before after : Store} {s1 s2 s3 : List ℕ} {r : Step}
-    → StandsAt frame formulas effects spans at before s1 e
-    → Conditions m frame formulas effects t e at before after s1 s2 r
+    {m : Build ℕ} {frame : Frame} {formulas effects notes notes' : List ℕ} {t : Target} {e : ℕ} {at : Size} {before after : Store} {s1 s2 s3 : List ℕ} {r : Step}
+    → StandsAt frame formulas effects notes at before s1 e
+    → Conditions m frame formulas effects notes' t e at before after s1 s2 r
     → Cleared (2 * frame .formulas) (2 * frame .formulas + e + 1) s2 s3
     → Images m frame formulas at before after s1 s3 r
 images-fresh {frame = frame} {e = e} {s1 = s1} {s3 = s3} a x c =
@@ -194,17 +195,36 @@ makes-as {frame = frame} {formulas = formulas} {at = at} {before = before} {afte
 
 -- where the next step for the same effect stands
 pub stands-at-next :
-    {m : Build ℕ} {frame : Frame} {formulas effects spans : List ℕ} {at : Size} {before after : Store} {s1 s2 : List ℕ} {r : Step} {e : ℕ}
-    → StandsAt frame formulas effects spans at before s1 e
-    → Images m frame formulas at before after s1 s2 r
+    {m : Build ℕ} {frame : Frame} {formulas effects notes notes' : List ℕ} {at : Size} {before after : Store} {s1 s2 : List ℕ} {r : Step} {e : ℕ}
+    → StandsAt frame formulas effects notes at before s1 e
+    → Images m frame formulas at before after s1 s2 r × Leaves (r .full) frame formulas effects notes' (size-of r) after
     → r .full ≡ false
     → length s2 ≡ length s1
-    → StandsAt frame formulas effects spans (size-of r) after s2 e
+    → StandsAt frame formulas effects notes' (size-of r) after s2 e
 stands-at-next a x q long =
-    record { stands = stands-next (a .stands) (makes-row x .reaches) q long; spanned = a .spanned; effect = a .effect }
+    record { stands = stands-next (a .stands) (makes-row (x .0) .reaches) q long; noted = x .1 .noted q; effect = a .effect }
+
+-- The notes, when nothing was built, when there was no room, and after one more step.
+pub leaves-same :
+    {full : Bool} {frame : Frame} {formulas effects notes : List ℕ} {at : Size} {s : Store}
+    → Noted frame formulas effects notes (held at s)
+    → Leaves full frame formulas effects notes at s
+leaves-same n = record { noted = λ q. n }
+
+pub leaves-full :
+    {frame : Frame} {formulas effects notes : List ℕ} {at : Size} {s : Store} → Leaves true frame formulas effects notes at s
+leaves-full = record { noted = λ q. absurd (true≢false q) }
+
+pub leaves-step :
+    {m : Build ℕ} {frame : Frame} {formulas effects notes : List ℕ} {at : Size} {before after : Store} {r : Step}
+    → Steady m
+    → Noted frame formulas effects notes (held at before)
+    → Builds m frame at before after r
+    → Leaves (r .full) frame formulas effects notes (size-of r) after
+leaves-step steady n b = record { noted = λ q. noted-grows (done-grows steady (b .done q)) n }
 
 -- D, freed of conflict with A.
-module _ {spans : List ℕ} (frame : Frame) (formulas effects : List ℕ) (at : Size) (before : Store) (scratch : List ℕ) (e v a d : ℕ) (s : Deletes frame formulas effects spans at before scratch e d) where
+module _ {notes : List ℕ} (frame : Frame) (formulas effects : List ℕ) (at : Size) (before : Store) (scratch : List ℕ) (e v a d : ℕ) (s : Deletes frame formulas effects notes at before scratch e d) where
   tree : Effect
   tree = effect-tree frame formulas effects e
 

@@ -10,7 +10,7 @@ use Rattle.formula_builder.specs.declared.Frame.{Frame}
 use Rattle.formula_builder.specs.declared.Size.{Size}
 use Rattle.formula_builder.specs.Held.{Store, held, Ready, Within}
 use Rattle.images.specs.Images.{Memo, Source}
-use Rattle.conditions.specs.Conditions.{EffectSource, Spans}
+use Rattle.conditions.specs.Conditions.{EffectSource, Noted}
 use Rattle.changes.specs.declared.Change.{Change}
 
 -- The words from one up to another are 0, and all others as before.
@@ -27,14 +27,19 @@ pub record Stands (frame : Frame) (formulas effects : List ℕ) (at : Size) (s :
   pub memo : Memo frame formulas scratch (held at s)
   pub clean : (j : ℕ) → 2 * frame .formulas ≤ j → getD scratch j 0 ≡ 0
 
-pub record StandsAt (frame : Frame) (formulas effects spans : List ℕ) (at : Size) (s : Store) (scratch : List ℕ) (e : ℕ) : Type 0 where
+-- It stands there with notes, before effect e.
+pub record StandsAt (frame : Frame) (formulas effects notes : List ℕ) (at : Size) (s : Store) (scratch : List ℕ) (e : ℕ) : Type 0 where
   pub stands : Stands frame formulas effects at s scratch
-  pub spanned : Spans frame effects spans
+  pub noted : Noted frame formulas effects notes (held at s)
   pub effect : e < frame .effects
 
-pub record Deletes (frame : Frame) (formulas effects spans : List ℕ) (at : Size) (s : Store) (scratch : List ℕ) (e d : ℕ) : Type 0 where
-  pub stands : StandsAt frame formulas effects spans at s scratch e
+pub record Deletes (frame : Frame) (formulas effects notes : List ℕ) (at : Size) (s : Store) (scratch : List ℕ) (e d : ℕ) : Type 0 where
+  pub stands : StandsAt frame formulas effects notes at s scratch e
   pub row : d < at .rows
+
+-- A step leaves notes that are right, unless there was no room.
+pub record Leaves (full : Bool) (frame : Frame) (formulas effects notes : List ℕ) (at : Size) (s : Store) : Type 0 where
+  pub noted : full ≡ false → Noted frame formulas effects notes (held at s)
 
 -- The state that a definition gives: the tables hold it, with the memo of images.
 pub record Reached (t : St) (frame : Frame) (formulas : List ℕ) (at : Size) (after : Store) (scratch : List ℕ) : Type 0 where

@@ -7,16 +7,16 @@ use formula_builder::Step;
 use formula_builder::join;
 use formula_builder::standing;
 ghost use Rattle.normal_form.specs.Operators.{deletes-of};
-ghost use Rattle.formula_builder.specs.Held.{store};
+ghost use Rattle.formula_builder.specs.Held.{store, size-of};
 ghost use Rattle.images.specs.Images.{Images};
 ghost use Rattle.conditions.specs.Conditions.{effect-tree};
-ghost use Rattle.changes.specs.Stands.{Deletes};
+ghost use Rattle.changes.specs.Stands.{Deletes, Leaves};
 
 // D, freed of conflict with A: if neither is row 0, D and N, with N the negated condition of set v.
 pub fn deletes(
     formulas: &[u16],
     effects: &[u16],
-    spans: &[u16],
+    notes: &mut [u16],
     e: usize,
     v: u16,
     a: u16,
@@ -27,8 +27,8 @@ pub fn deletes(
     originals: &mut [u16],
     scratch: &mut [u16],
 ) -> Step
-    requires { ⌜ Deletes frame (now formulas) (now effects) (now spans) at (store (now table) (now originals)) (now scratch) e d ⌝ }
-    ensures { λ r. ⌜ Images (deletes-of (frame .variables) (effect-tree frame (now (formulas .entry)) (now (effects .entry)) e) v a d) frame (now (formulas .entry)) at (store (now (table .entry)) (now (originals .entry))) (store (now (table .exit)) (now (originals .exit))) (now (scratch .entry)) (now (scratch .exit)) r ⌝ }
+    requires { ⌜ Deletes frame (now formulas) (now effects) (now notes) at (store (now table) (now originals)) (now scratch) e d ⌝ }
+    ensures { λ r. ⌜ Images (deletes-of (frame .variables) (effect-tree frame (now (formulas .entry)) (now (effects .entry)) e) v a d) frame (now (formulas .entry)) at (store (now (table .entry)) (now (originals .entry))) (store (now (table .exit)) (now (originals .exit))) (now (scratch .entry)) (now (scratch .exit)) r × Leaves (r .full) frame (now (formulas .entry)) (now (effects .entry)) (now (notes .exit)) (size-of r) (store (now (table .exit)) (now (originals .exit))) ⌝ }
 {
     if a == 0 {
         return standing(at, d);
@@ -44,7 +44,7 @@ pub fn deletes(
     let n = condition_of(
         formulas,
         effects,
-        spans,
+        notes,
         e,
         t,
         frame,

@@ -6,10 +6,10 @@ use formula_builder::Size;
 use formula_builder::Step;
 ghost use Prim.Native.Nat.{ℕ, _≤_, _<_};
 ghost use lib.ListN.{length};
-ghost use Rattle.formula_builder.specs.Held.{store};
+ghost use Rattle.formula_builder.specs.Held.{store, size-of};
 ghost use Rattle.images.specs.Images.{Images};
 ghost use Rattle.conditions.specs.Conditions.{condition-at};
-ghost use Rattle.changes.specs.Stands.{Cleared, StandsAt};
+ghost use Rattle.changes.specs.Stands.{Cleared, StandsAt, Leaves};
 
 // Sets the words from one up to another to 0.
 pub fn clear(scratch: &mut [u16], from: usize, to: usize)
@@ -27,7 +27,7 @@ pub fn clear(scratch: &mut [u16], from: usize, to: usize)
 pub fn condition_of(
     formulas: &[u16],
     effects: &[u16],
-    spans: &[u16],
+    notes: &mut [u16],
     e: usize,
     t: Target,
     frame: Frame,
@@ -36,13 +36,13 @@ pub fn condition_of(
     originals: &mut [u16],
     scratch: &mut [u16],
 ) -> Step
-    requires { ⌜ StandsAt frame (now formulas) (now effects) (now spans) at (store (now table) (now originals)) (now scratch) e ⌝ }
-    ensures { λ r. ⌜ Images (condition-at frame (now (formulas .entry)) (now (effects .entry)) t e) frame (now (formulas .entry)) at (store (now (table .entry)) (now (originals .entry))) (store (now (table .exit)) (now (originals .exit))) (now (scratch .entry)) (now (scratch .exit)) r ⌝ }
+    requires { ⌜ StandsAt frame (now formulas) (now effects) (now notes) at (store (now table) (now originals)) (now scratch) e ⌝ }
+    ensures { λ r. ⌜ Images (condition-at frame (now (formulas .entry)) (now (effects .entry)) t e) frame (now (formulas .entry)) at (store (now (table .entry)) (now (originals .entry))) (store (now (table .exit)) (now (originals .exit))) (now (scratch .entry)) (now (scratch .exit)) r × Leaves (r .full) frame (now (formulas .entry)) (now (effects .entry)) (now (notes .exit)) (size-of r) (store (now (table .exit)) (now (originals .exit))) ⌝ }
 {
     let r = condition(
         formulas,
         effects,
-        spans,
+        notes,
         e,
         t,
         frame,

@@ -8,13 +8,13 @@ use formula_builder::Size;
 ghost use Rattle.normal_form.specs.Operators.{changes-of};
 ghost use Rattle.formula_builder.specs.Held.{store};
 ghost use Rattle.conditions.specs.Conditions.{effect-tree};
-ghost use Rattle.changes.specs.Stands.{StandsAt, Makes, size-after, made};
+ghost use Rattle.changes.specs.Stands.{StandsAt, Makes, Leaves, size-after, made};
 
 // What effect e does to variable v: all of A, then all of D, then N.
 pub fn change_of(
     formulas: &[u16],
     effects: &[u16],
-    spans: &[u16],
+    notes: &mut [u16],
     e: usize,
     v: u16,
     frame: Frame,
@@ -23,8 +23,8 @@ pub fn change_of(
     originals: &mut [u16],
     scratch: &mut [u16],
 ) -> Change
-    requires { ⌜ StandsAt frame (now formulas) (now effects) (now spans) at (store (now table) (now originals)) (now scratch) e ⌝ }
-    ensures { λ r. ⌜ Makes (changes-of (frame .variables) (effect-tree frame (now (formulas .entry)) (now (effects .entry)) e) v) frame (now (formulas .entry)) at (store (now (table .entry)) (now (originals .entry))) (store (now (table .exit)) (now (originals .exit))) (now (scratch .entry)) (now (scratch .exit)) (r .full) (size-after r) (made v r) ⌝ }
+    requires { ⌜ StandsAt frame (now formulas) (now effects) (now notes) at (store (now table) (now originals)) (now scratch) e ⌝ }
+    ensures { λ r. ⌜ Makes (changes-of (frame .variables) (effect-tree frame (now (formulas .entry)) (now (effects .entry)) e) v) frame (now (formulas .entry)) at (store (now (table .entry)) (now (originals .entry))) (store (now (table .exit)) (now (originals .exit))) (now (scratch .entry)) (now (scratch .exit)) (r .full) (size-after r) (made v r) × Leaves (r .full) frame (now (formulas .entry)) (now (effects .entry)) (now (notes .exit)) (size-after r) (store (now (table .exit)) (now (originals .exit))) ⌝ }
 {
     let set = Target {
         clear: false,
@@ -34,7 +34,7 @@ pub fn change_of(
     let a = condition_of(
         formulas,
         effects,
-        spans,
+        notes,
         e,
         set,
         frame,
@@ -64,7 +64,7 @@ pub fn change_of(
     let d = condition_of(
         formulas,
         effects,
-        spans,
+        notes,
         e,
         unset,
         frame,
@@ -89,7 +89,7 @@ pub fn change_of(
     let k = deletes(
         formulas,
         effects,
-        spans,
+        notes,
         e,
         v,
         a.row,

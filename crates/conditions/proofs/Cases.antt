@@ -38,20 +38,20 @@ side-not false = refl
 
 -- The variable lies outside row e's span.
 pub case-outside :
-    {spans : List ℕ} (frame : Frame) (formulas effects : List ℕ) (t : Target) (at : Size) (before : Store) (scratch : List ℕ) (e : ℕ)
-    → Asks frame formulas effects spans t at before scratch e
-    → true ≡ outside spans (t .variable) e
-    → Conditions (condition-at frame formulas effects t e) frame formulas effects t e at before before scratch scratch
+    {notes : List ℕ} (frame : Frame) (formulas effects : List ℕ) (t : Target) (at : Size) (before : Store) (scratch : List ℕ) (e : ℕ)
+    → Asks frame formulas effects notes t at before scratch e
+    → true ≡ outside notes (t .variable) e
+    → Conditions (condition-at frame formulas effects t e) frame formulas effects notes t e at before before scratch scratch
     (done-step at (falsity (side (t .negated))))
 case-outside frame formulas effects t at before scratch e a h =
     let x = falsity (side (t .negated)) in
-    conditions-as (a .spanned .alone formulas (t .variable) e (a .effect) (sym h) .idle t refl)
-    (conditions-leaf (steady-give x) (a .memo) (a .effect-memo)
+    conditions-as (a .noted .spanned .alone formulas (t .variable) e (a .effect) (sym h) .idle t refl)
+    (conditions-leaf (steady-give x) (a .noted) (a .memo) (a .effect-memo)
     (builds-give x (a .ready) (omega (arith, falsity-small (side (t .negated)), a .ready .two))))
 
 -- Row e with the words w.
-module _ {spans : List ℕ} (frame : Frame) (formulas effects : List ℕ) (t : Target) (at : Size) (before : Store) (scratch : List ℕ) (e : ℕ) (a : Asks frame formulas effects spans t at before scratch e) (w : Words) (q : row-of w ≡ row-at effects e) where
-  pub asks-row : (k : ℕ) → w .kind ≡ k → AsksRow k frame formulas effects spans t at before scratch e
+module _ {notes : List ℕ} (frame : Frame) (formulas effects : List ℕ) (t : Target) (at : Size) (before : Store) (scratch : List ℕ) (e : ℕ) (a : Asks frame formulas effects notes t at before scratch e) (w : Words) (q : row-of w ≡ row-at effects e) where
+  pub asks-row : (k : ℕ) → w .kind ≡ k → AsksRow k frame formulas effects notes t at before scratch e
   asks-row k h = record { asks = a; is-kind = ap (λ (r : Row). r .kind) (sym q) ∙ h }
 
   module _ (three : w .kind ≡ 3 → ⊥) (four : w .kind ≡ 4 → ⊥) where
@@ -73,26 +73,26 @@ module _ {spans : List ℕ} (frame : Frame) (formulas effects : List ℕ) (t : T
 
     pub case-acts :
         true ≡ acts (atom-of t) (effect-kind (w .kind)) (w .a)
-        → Conditions (condition-at frame formulas effects t e) frame formulas effects t e at before before scratch scratch
+        → Conditions (condition-at frame formulas effects t e) frame formulas effects notes t e at before before scratch scratch
         (done-step at (truth (side (t .negated))))
     case-acts h =
         let x = truth (side (t .negated)) in
         conditions-as (constant true h)
-        (conditions-leaf (steady-give x) (a .memo) (a .effect-memo)
+        (conditions-leaf (steady-give x) (a .noted) (a .memo) (a .effect-memo)
         (builds-give x (a .ready) (omega (arith, truth-small (side (t .negated)), a .ready .two))))
 
     pub case-idle :
         false ≡ acts (atom-of t) (effect-kind (w .kind)) (w .a)
-        → Conditions (condition-at frame formulas effects t e) frame formulas effects t e at before before scratch scratch
+        → Conditions (condition-at frame formulas effects t e) frame formulas effects notes t e at before before scratch scratch
         (done-step at (falsity (side (t .negated))))
     case-idle h =
         let x = falsity (side (t .negated)) in
         conditions-as (constant false h)
-        (conditions-leaf (steady-give x) (a .memo) (a .effect-memo)
+        (conditions-leaf (steady-give x) (a .noted) (a .memo) (a .effect-memo)
         (builds-give x (a .ready) (omega (arith, falsity-small (side (t .negated)), a .ready .two))))
 
 -- Both effects that row e names.
-module _ {spans : List ℕ} (frame : Frame) (formulas effects : List ℕ) (t : Target) (at : Size) (before : Store) (scratch : List ℕ) (e : ℕ) (a : AsksRow 3 frame formulas effects spans t at before scratch e) (w : Words) (q : row-of w ≡ row-at effects e) where
+module _ {notes : List ℕ} (frame : Frame) (formulas effects : List ℕ) (t : Target) (at : Size) (before : Store) (scratch : List ℕ) (e : ℕ) (a : AsksRow 3 frame formulas effects notes t at before scratch e) (w : Words) (q : row-of w ≡ row-at effects e) where
   lower : (row-at effects e .a < e) × (row-at effects e .b < e)
   lower = both-lower frame formulas effects scratch (a .asks .effect-source) e (a .asks .effect) (a .is-kind)
 
@@ -111,15 +111,15 @@ module _ {spans : List ℕ} (frame : Frame) (formulas effects : List ℕ) (t : T
 
 -- what a step asks of a lower effect
 pub asks-lower :
-    {frame : Frame} {formulas effects spans : List ℕ} {t : Target} {at : Size} {before : Store} {scratch : List ℕ} {e : ℕ} (d : ℕ)
-    → Asks frame formulas effects spans t at before scratch e
+    {frame : Frame} {formulas effects notes : List ℕ} {t : Target} {at : Size} {before : Store} {scratch : List ℕ} {e : ℕ} (d : ℕ)
+    → Asks frame formulas effects notes t at before scratch e
     → d < e
-    → Asks frame formulas effects spans t at before scratch d
+    → Asks frame formulas effects notes t at before scratch d
 asks-lower d a h =
     record {
       source = a .source;
       effect-source = a .effect-source;
-      spanned = a .spanned;
+      noted = a .noted;
       ready = a .ready;
       memo = a .memo;
       effect-memo = a .effect-memo;
@@ -127,7 +127,7 @@ asks-lower d a h =
     }
 
 -- The effect that row e names, under its formula.
-module _ {spans : List ℕ} (frame : Frame) (formulas effects : List ℕ) (t : Target) (at : Size) (before : Store) (scratch : List ℕ) (e : ℕ) (a : AsksRow 4 frame formulas effects spans t at before scratch e) (w : Words) (q : row-of w ≡ row-at effects e) where
+module _ {notes : List ℕ} (frame : Frame) (formulas effects : List ℕ) (t : Target) (at : Size) (before : Store) (scratch : List ℕ) (e : ℕ) (a : AsksRow 4 frame formulas effects notes t at before scratch e) (w : Words) (q : row-of w ≡ row-at effects e) where
   inner : (row-at effects e .a < frame .formulas) × (row-at effects e .b < e)
   inner = under-lower frame formulas effects scratch (a .asks .effect-source) e (a .asks .effect) (a .is-kind)
 
@@ -165,23 +165,23 @@ module _ {spans : List ℕ} (frame : Frame) (formulas effects : List ℕ) (t : T
   unfolding guard guarded image-at
   joins c h = rw (ne-eqb c (falsity (side (t .negated))) h)
 
-  module _ {mid : Store} {s2 : List ℕ} {c : Step} (x : Conditions (condition-at frame formulas effects t (w .b)) frame formulas effects t e at before mid scratch s2 c) where
+  module _ {notes' : List ℕ} {mid : Store} {s2 : List ℕ} {c : Step} (x : Conditions (condition-at frame formulas effects t (w .b)) frame formulas effects notes' t e at before mid scratch s2 c) where
     pub inner-full :
         c .full ≡ true
-        → Conditions (condition-at frame formulas effects t e) frame formulas effects t e at before mid scratch s2 c
+        → Conditions (condition-at frame formulas effects t e) frame formulas effects notes' t e at before mid scratch s2 c
     inner-full g = conditions-as under-read (conditions-stop guard steady-guard x g)
 
     module _ (g : c .full ≡ false) where
       pub inner-folded :
           c .row ≡ falsity (side (t .negated))
-          → Conditions (condition-at frame formulas effects t e) frame formulas effects t e at before mid scratch s2 c
+          → Conditions (condition-at frame formulas effects t e) frame formulas effects notes' t e at before mid scratch s2 c
       unfolding give
       inner-folded h =
           let d = x .builds .done g in
           conditions-as under-read
           (conditions-bind guard x g
           (conditions-as (folds (c .row) h)
-          (conditions-leaf (steady-give (c .row)) (x .memo g) (x .effect-memo g)
+          (conditions-leaf (steady-give (c .row)) (x .noted g) (x .memo g) (x .effect-memo g)
           (builds-done g (record { value = refl; state = refl; ready = d .ready; below = d .below; grew = omega arith })))))
 
       pub asks-formula :
@@ -202,12 +202,12 @@ module _ {spans : List ℕ} (frame : Frame) (formulas effects : List ℕ) (t : T
           }
 
       module _ (h : c .row ≡ falsity (side (t .negated)) → ⊥) {after : Store} {s3 : List ℕ} {f : Step} (y : Images (image-at frame formulas (side (t .negated)) (w .a)) frame formulas (size-of c) mid after s2 s3 f) where
-        built : Conditions (image-at frame formulas (side (t .negated)) (w .a)) frame formulas effects t e (size-of c) mid after s2 s3 f
-        built = conditions-of-images (steady-image-at frame formulas (side (t .negated)) (w .a)) (x .effect-memo g) y
+        built : Conditions (image-at frame formulas (side (t .negated)) (w .a)) frame formulas effects notes' t e (size-of c) mid after s2 s3 f
+        built = conditions-of-images (steady-image-at frame formulas (side (t .negated)) (w .a)) (x .noted g) (x .effect-memo g) y
 
         pub formula-full :
             f .full ≡ true
-            → Conditions (condition-at frame formulas effects t e) frame formulas effects t e at before after scratch s3 f
+            → Conditions (condition-at frame formulas effects t e) frame formulas effects notes' t e at before after scratch s3 f
         formula-full k =
             conditions-as under-read
             (conditions-bind guard x g
@@ -229,10 +229,10 @@ module _ {spans : List ℕ} (frame : Frame) (formulas effects : List ℕ) (t : T
             {last : Store} {z : Step}
             → f .full ≡ false
             → Builds (join (side (t .negated)) (f .row) (c .row)) frame (size-of f) after last z
-            → Conditions (condition-at frame formulas effects t e) frame formulas effects t e at before last scratch s3 z
+            → Conditions (condition-at frame formulas effects t e) frame formulas effects notes' t e at before last scratch s3 z
         under-done k b =
             conditions-as under-read
             (conditions-bind guard x g
             (conditions-as (joins (c .row) h)
             (conditions-bind (λ z. join (side (t .negated)) z (c .row)) built k
-            (conditions-leaf (steady-join (side (t .negated)) (f .row) (c .row)) (y .memo k) (built .effect-memo k) b))))
+            (conditions-leaf (steady-join (side (t .negated)) (f .row) (c .row)) (built .noted k) (y .memo k) (built .effect-memo k) b))))

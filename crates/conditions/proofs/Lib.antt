@@ -1,5 +1,6 @@
 pub mod Atoms
 pub mod Rows
 pub mod Alone
+pub mod Notes
 pub mod Memos
 pub mod Cases

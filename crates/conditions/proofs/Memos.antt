@@ -13,7 +13,6 @@ use Rattle.task.proofs.Bounded.{length-upto}
 use Rattle.normal_form.specs.Builder.{St, Got, Build, give, bind, join, pair, Polarity, falsity}
 use Rattle.normal_form.specs.Growth.{Grows, Steady}
 use Rattle.normal_form.proofs.Growth.{steady-bind, steady-join}
-use Rattle.normal_form.proofs.Steady.{steady-condition}
 use Rattle.formula_builder.specs.declared.Frame.{Frame}
 use Rattle.formula_builder.specs.declared.Size.{Size}
 use Rattle.formula_builder.specs.declared.Step.{Step}
@@ -22,13 +21,8 @@ use Rattle.formula_builder.proofs.Steps.{builds-done, builds-as, builds-bind, b
 use Rattle.images.specs.Images.{Known, Memo, noted, memo-place, Source, Images}
 use Rattle.images.proofs.Memos.{known-grows, memo-grows, done-grows, done-known, place-within}
 use Rattle.conditions.specs.declared.Target.{Target}
-use Rattle.conditions.specs.Conditions.{atom-of, effect-tree, condition-at, EffectMemo, EffectSource, Asks, Conditions}
-
-pub steady-condition-at :
-    (frame : Frame) (formulas effects : List ℕ) (t : Target) (e : ℕ) → Steady (condition-at frame formulas effects t e)
-unfolding condition-at
-steady-condition-at frame formulas effects t e =
-    steady-condition (frame .variables) (side (t .negated)) (atom-of t) (effect-tree frame formulas effects e)
+use Rattle.conditions.specs.Conditions.{condition-at, EffectMemo, EffectSource, Noted, Keeps, Asks, Conditions}
+use Rattle.conditions.proofs.Notes.{steady-condition-at, noted-grows}
 
 -- the memo stays right while the state grows and its words stay
 pub effect-memo-grows :
@@ -81,24 +75,25 @@ pub memo-kept :
 memo-kept {frame} {scratch = scratch} {scratch' = scratch'} same m =
     record { known = λ p i r h w. m .known p i r h (sym (same (memo-place frame p i) (place-within frame p i h)) ∙ w) }
 
-module _ {m : Build ℕ} {frame : Frame} {formulas effects : List ℕ} {t : Target} {e : ℕ} {at : Size} {before after : Store} {s1 s2 : List ℕ} {r : Step} where
+module _ {m : Build ℕ} {frame : Frame} {formulas effects notes : List ℕ} {t : Target} {e : ℕ} {at : Size} {before after : Store} {s1 s2 : List ℕ} {r : Step} where
   pub conditions-as :
       {m' : Build ℕ}
       → m ≡ m'
-      → Conditions m' frame formulas effects t e at before after s1 s2 r
-      → Conditions m frame formulas effects t e at before after s1 s2 r
+      → Conditions m' frame formulas effects notes t e at before after s1 s2 r
+      → Conditions m frame formulas effects notes t e at before after s1 s2 r
   conditions-as q x =
-      record { builds = builds-as q (x .builds); memo = x .memo; effect-memo = x .effect-memo; rest = x .rest }
+      record { builds = builds-as q (x .builds); noted = x .noted; memo = x .memo; effect-memo = x .effect-memo; rest = x .rest }
 
   -- a lower effect leaves what lies behind a higher one
   pub conditions-wider :
       {d : ℕ}
       → d ≤ e
-      → Conditions m frame formulas effects t d at before after s1 s2 r
-      → Conditions m frame formulas effects t e at before after s1 s2 r
+      → Conditions m frame formulas effects notes t d at before after s1 s2 r
+      → Conditions m frame formulas effects notes t e at before after s1 s2 r
   conditions-wider h x =
       record {
         builds = x .builds;
+        noted = x .noted;
         memo = x .memo;
         effect-memo = x .effect-memo;
         rest = λ j g. x .rest j (omega arith);
@@ -106,13 +101,13 @@ module _ {m : Build ℕ} {frame : Frame} {formulas effects : List ℕ} {t : Targ
 
   -- the next step finds all that it asks
   pub asks-next :
-      {spans : List ℕ} {d : ℕ} (j : ℕ)
-      → Asks frame formulas effects spans t at before s1 d
-      → Conditions m frame formulas effects t e at before after s1 s2 r
+      {notes₀ : List ℕ} {d : ℕ} (j : ℕ)
+      → Asks frame formulas effects notes₀ t at before s1 d
+      → Conditions m frame formulas effects notes t e at before after s1 s2 r
       → r .full ≡ false
       → length s2 ≡ length s1
       → j < frame .effects
-      → Asks frame formulas effects spans t (size-of r) after s2 j
+      → Asks frame formulas effects notes t (size-of r) after s2 j
   asks-next j a x q long h =
       record {
         source =
@@ -129,83 +124,89 @@ module _ {m : Build ℕ} {frame : Frame} {formulas effects : List ℕ} {t : Targ
               limit = a .effect-source .limit;
               down = a .effect-source .down;
             };
-        spanned = a .spanned;
         ready = x .builds .done q .ready;
+        noted = x .noted q;
         memo = x .memo q;
         effect-memo = x .effect-memo q;
         effect = h;
       }
 
--- a step that leaves the effects' memo
+-- a step that leaves the effects' memo and the notes
 pub conditions-of-images :
-    {m : Build ℕ} {frame : Frame} {formulas effects : List ℕ} {t : Target} {e : ℕ} {at : Size} {before after : Store} {s1 s2 : List ℕ} {r : Step}
+    {m : Build ℕ} {frame : Frame} {formulas effects notes : List ℕ} {t : Target} {e : ℕ} {at : Size} {before after : Store} {s1 s2 : List ℕ} {r : Step}
     → Steady m
+    → Noted frame formulas effects notes (held at before)
     → EffectMemo frame formulas effects t s1 (held at before)
     → Images m frame formulas at before after s1 s2 r
-    → Conditions m frame formulas effects t e at before after s1 s2 r
-conditions-of-images {e = e} steady memo x =
+    → Conditions m frame formulas effects notes t e at before after s1 s2 r
+conditions-of-images {e = e} steady noted memo x =
     record {
       builds = x .builds;
+      noted = λ q. noted-grows (done-grows steady (x .builds .done q)) noted;
       memo = x .memo;
       effect-memo = λ q. effect-memo-grows (done-grows steady (x .builds .done q)) (x .rest) memo;
       rest = λ j h. x .rest j (omega arith);
     }
 
--- a step that leaves both
+-- a step that leaves all
 pub conditions-leaf :
-    {m : Build ℕ} {frame : Frame} {formulas effects : List ℕ} {t : Target} {e : ℕ} {at : Size} {before after : Store} {scratch : List ℕ} {r : Step}
+    {m : Build ℕ} {frame : Frame} {formulas effects notes : List ℕ} {t : Target} {e : ℕ} {at : Size} {before after : Store} {scratch : List ℕ} {r : Step}
     → Steady m
+    → Noted frame formulas effects notes (held at before)
     → Memo frame formulas scratch (held at before)
     → EffectMemo frame formulas effects t scratch (held at before)
     → Builds m frame at before after r
-    → Conditions m frame formulas effects t e at before after scratch scratch r
-conditions-leaf steady memo effect-memo b =
+    → Conditions m frame formulas effects notes t e at before after scratch scratch r
+conditions-leaf steady noted memo effect-memo b =
     record {
       builds = b;
+      noted = λ q. noted-grows (done-grows steady (b .done q)) noted;
       memo = λ q. memo-grows (done-grows steady (b .done q)) memo;
       effect-memo = λ q. effect-memo-grows (done-grows steady (b .done q)) (λ j h. refl) effect-memo;
       rest = λ j h. refl;
     }
 
 pub conditions-bind :
-    {m : Build ℕ} {frame : Frame} {formulas effects : List ℕ} {t : Target} {e : ℕ} {at : Size} {before mid after : Store} {s1 s2 s3 : List ℕ} {l r : Step}
+    {m : Build ℕ} {frame : Frame} {formulas effects notes notes' : List ℕ} {t : Target} {e : ℕ} {at : Size} {before mid after : Store} {s1 s2 s3 : List ℕ} {l r : Step}
     (f : ℕ → Build ℕ)
-    → Conditions m frame formulas effects t e at before mid s1 s2 l
+    → Conditions m frame formulas effects notes t e at before mid s1 s2 l
     → l .full ≡ false
-    → Conditions (f (l .row)) frame formulas effects t e (size-of l) mid after s2 s3 r
-    → Conditions (bind m f) frame formulas effects t e at before after s1 s3 r
+    → Conditions (f (l .row)) frame formulas effects notes' t e (size-of l) mid after s2 s3 r
+    → Conditions (bind m f) frame formulas effects notes' t e at before after s1 s3 r
 conditions-bind f x q y =
     record {
       builds = builds-bind f (x .builds) q (y .builds);
+      noted = y .noted;
       memo = y .memo;
       effect-memo = y .effect-memo;
       rest = λ j h. y .rest j h ∙ x .rest j h;
     }
 
 pub conditions-stop :
-    {m : Build ℕ} {frame : Frame} {formulas effects : List ℕ} {t : Target} {e : ℕ} {at : Size} {before after : Store} {s1 s2 : List ℕ} {l : Step}
+    {m : Build ℕ} {frame : Frame} {formulas effects notes : List ℕ} {t : Target} {e : ℕ} {at : Size} {before after : Store} {s1 s2 : List ℕ} {l : Step}
     (f : ℕ → Build ℕ)
     → ((x : ℕ) → Steady (f x))
-    → Conditions m frame formulas effects t e at before after s1 s2 l
+    → Conditions m frame formulas effects notes t e at before after s1 s2 l
     → l .full ≡ true
-    → Conditions (bind m f) frame formulas effects t e at before after s1 s2 l
+    → Conditions (bind m f) frame formulas effects notes t e at before after s1 s2 l
 conditions-stop f steady x q =
     record {
       builds = builds-stop f steady (x .builds) q;
+      noted = λ g. absurd (true≢false (sym q ∙ g));
       memo = λ g. absurd (true≢false (sym q ∙ g));
       effect-memo = λ g. absurd (true≢false (sym q ∙ g));
       rest = x .rest;
     }
 
 -- Left, right, then the join.
-module _ {left right : Build ℕ} {frame : Frame} {formulas effects : List ℕ} {t : Target} {e : ℕ} {at : Size} {before mid : Store} {s1 s2 : List ℕ} {l : Step} (p : Polarity) (steady : Steady right) (x : Conditions left frame formulas effects t e at before mid s1 s2 l) where
-  pub pair-left-full : l .full ≡ true → Conditions (pair p left right) frame formulas effects t e at before mid s1 s2 l
+module _ {left right : Build ℕ} {frame : Frame} {formulas effects notes : List ℕ} {t : Target} {e : ℕ} {at : Size} {before mid : Store} {s1 s2 : List ℕ} {l : Step} (p : Polarity) (steady : Steady right) (x : Conditions left frame formulas effects notes t e at before mid s1 s2 l) where
+  pub pair-left-full : l .full ≡ true → Conditions (pair p left right) frame formulas effects notes t e at before mid s1 s2 l
   unfolding pair
   pair-left-full q =
       conditions-stop (λ a. bind right (λ b. join p a b)) (λ a. steady-bind steady (λ b. steady-join p a b)) x q
 
-  module _ {after : Store} {s3 : List ℕ} {r : Step} (q : l .full ≡ false) (y : Conditions right frame formulas effects t e (size-of l) mid after s2 s3 r) where
-    pub pair-right-full : r .full ≡ true → Conditions (pair p left right) frame formulas effects t e at before after s1 s3 r
+  module _ {notes' : List ℕ} {after : Store} {s3 : List ℕ} {r : Step} (q : l .full ≡ false) (y : Conditions right frame formulas effects notes' t e (size-of l) mid after s2 s3 r) where
+    pub pair-right-full : r .full ≡ true → Conditions (pair p left right) frame formulas effects notes' t e at before after s1 s3 r
     unfolding pair
     pair-right-full g =
         conditions-bind (λ a. bind right (λ b. join p a b)) x q
@@ -215,24 +216,22 @@ module _ {left right : Build ℕ} {frame : Frame} {formulas effects : List ℕ} 
         {last : Store} {z : Step}
         → r .full ≡ false
         → Builds (join p (l .row) (r .row)) frame (size-of r) after last z
-        → Conditions (pair p left right) frame formulas effects t e at before last s1 s3 z
+        → Conditions (pair p left right) frame formulas effects notes' t e at before last s1 s3 z
     unfolding pair
     pair-done g b =
         conditions-bind (λ a. bind right (λ b. join p a b)) x q
         (conditions-bind (λ b. join p (l .row) b) y g
-        (conditions-leaf (steady-join p (l .row) (r .row)) (y .memo g) (y .effect-memo g) b))
+        (conditions-leaf (steady-join p (l .row) (r .row)) (y .noted g) (y .memo g) (y .effect-memo g) b))
 
--- The memo has effect e.
+-- The row of effect e's condition is known.
 pub conditions-known :
-    {spans : List ℕ} (frame : Frame) (formulas effects : List ℕ) (t : Target) (at : Size) (before : Store) (scratch : List ℕ) (e w : ℕ)
-    → Asks frame formulas effects spans t at before scratch e
-    → getD scratch (2 * frame .formulas + e) 0 ≡ w
-    → 0 < w
-    → Conditions (condition-at frame formulas effects t e) frame formulas effects t e at before before scratch scratch (done-step at (w - 1))
+    {notes : List ℕ} (frame : Frame) (formulas effects : List ℕ) (t : Target) (at : Size) (before : Store) (scratch : List ℕ) (e r : ℕ)
+    → Asks frame formulas effects notes t at before scratch e
+    → Known (condition-at frame formulas effects t e) (held at before) r
+    → Conditions (condition-at frame formulas effects t e) frame formulas effects notes t e at before before scratch scratch (done-step at r)
 unfolding held
-conditions-known frame formulas effects t at before scratch e w a q h =
-    let k = a .effect-memo .known e (w - 1) (a .effect) (omega arith) in
-    let b : w - 1 < length (upto (at .rows) (row-at (before .table))) = k .below in
+conditions-known frame formulas effects t at before scratch e r a k =
+    let b : r < length (upto (at .rows) (row-at (before .table))) = k .below in
     record {
       builds =
           builds-done refl
@@ -243,30 +242,44 @@ conditions-known frame formulas effects t at before scratch e w a q h =
             below = rw (length-upto (at .rows) (row-at (before .table))) at b;
             grew = omega arith;
           });
+      noted = λ _. a .noted;
       memo = λ _. a .memo;
       effect-memo = λ _. a .effect-memo;
       rest = λ j g. refl;
     }
 
--- Effect e's condition was built and is noted.
+-- The memo has it.
+pub memo-known :
+    {notes : List ℕ} (frame : Frame) (formulas effects : List ℕ) (t : Target) (at : Size) (before : Store) (scratch : List ℕ) (e : ℕ)
+    → Asks frame formulas effects notes t at before scratch e
+    → 0 < getD scratch (2 * frame .formulas + e) 0
+    → Known (condition-at frame formulas effects t e) (held at before) (getD scratch (2 * frame .formulas + e) 0 - 1)
+memo-known frame formulas effects t at before scratch e a h =
+    a .effect-memo .known e (getD scratch (2 * frame .formulas + e) 0 - 1) (a .effect) (omega arith)
+
+-- Effect e's condition was built: the memo and the notes get it.
 pub conditions-noted :
-    (frame : Frame) (formulas effects : List ℕ) (t : Target) (at : Size) (before after : Store) (scratch scratch' : List ℕ) (e : ℕ) (r : Step)
+    {notes notes' : List ℕ} (frame : Frame) (formulas effects : List ℕ) (t : Target) (at : Size) (before after : Store) (scratch scratch' : List ℕ) (e : ℕ) (r : Step)
     → e < frame .effects
     → 2 * frame .formulas + e < length scratch'
-    → Conditions (condition-at frame formulas effects t e) frame formulas effects t e at before after scratch scratch' r
-    → Conditions (condition-at frame formulas effects t e) frame formulas effects t e at before after scratch (noted scratch' (2 * frame .formulas + e) r) r
-conditions-noted frame formulas effects t at before after scratch scratch' e r h room x =
+    → Conditions (condition-at frame formulas effects t e) frame formulas effects notes t e at before after scratch scratch' r
+    → Keeps frame notes notes' t e r
+    → Conditions (condition-at frame formulas effects t e) frame formulas effects notes' t e at before after scratch (noted scratch' (2 * frame .formulas + e) r) r
+conditions-noted frame formulas effects t at before after scratch scratch' e r h room x keeps =
     record {
       builds = x .builds;
+      noted = λ q. keeps .noted formulas effects (held (size-of r) after) (known q) (x .noted q);
       memo = λ q. rw q (memo q);
       effect-memo = λ q. rw q (effect-memo q);
       rest = λ j g. rest (r .full) j g ∙ x .rest j g;
     }
   where
+    known : r .full ≡ false → Known (condition-at frame formulas effects t e) (held (size-of r) after) (r .row)
+    known q = done-known (steady-condition-at frame formulas effects t e) (x .builds .done q)
+
     effect-memo : r .full ≡ false → EffectMemo frame formulas effects t (set scratch' (2 * frame .formulas + e) (r .row + 1)) (held (size-of r) after)
     effect-memo q =
-        effect-memo-noted frame formulas effects t scratch' (held (size-of r) after) e (r .row) h room
-        (done-known (steady-condition-at frame formulas effects t e) (x .builds .done q)) (x .effect-memo q)
+        effect-memo-noted frame formulas effects t scratch' (held (size-of r) after) e (r .row) h room (known q) (x .effect-memo q)
 
     memo : r .full ≡ false → Memo frame formulas (set scratch' (2 * frame .formulas + e) (r .row + 1)) (held (size-of r) after)
     memo q =

@@ -1,7 +1,7 @@
--- What the memo of effect conditions holds, and what the code that builds them asks and answers.
-use Prim.Native.Nat.{ℕ, _+_, _*_, _≤_, _<_}
+-- What the memo of effect conditions and the notes hold, and what the code that builds conditions asks and answers.
+use Prim.Native.Nat.{ℕ, _+_, _-_, _*_, _≤_, _<_}
 use mathlib.Core.Path.{_≡_}
-use mathlib.Core.Bool.{Bool, true, false, _||_}
+use mathlib.Core.Bool.{Bool, true, false, cond, _||_}
 use mathlib.Core.List.{List}
 use lib.Dec.{ltb}
 use lib.ListN.{length, getD}
@@ -84,23 +84,92 @@ pub record Spans (frame : Frame) (effects spans : List ℕ) : Type 0 where
       → outside spans v e ≡ true
       → Untouched frame formulas effects v e
 
-pub record Asks (frame : Frame) (formulas effects spans : List ℕ) (t : Target) (at : Size) (before : Store) (scratch : List ℕ) (e : ℕ) : Type 0 where
+-- the column of effect row e, 0 for none: behind the spans
+unfoldable pub column : Frame → List ℕ → ℕ → ℕ
+column frame notes e = getD notes (2 * frame .effects + e) 0
+
+-- where the condition of target t is kept in column c: behind the columns, two words for each variable
+unfoldable pub kept-place : Frame → ℕ → Target → ℕ
+kept-place frame c t =
+    3 * frame .effects + (c * (2 * frame .variables) + (2 * t .variable + cond (t .clear) 1 0))
+
+-- Each row has a word for its column, and no two rows have the same.
+pub record Columns (frame : Frame) (notes : List ℕ) : Type 0 where
+  pub words : 3 * frame .effects ≤ length notes
+  pub apart :
+      (d e : ℕ)
+      → d < frame .effects
+      → e < frame .effects
+      → 0 < column frame notes e
+      → column frame notes d ≡ column frame notes e
+      → d ≡ e
+
+-- Each condition that is kept, for whatever operator, is the row that building gives now, plus 1.
+pub record Kept (frame : Frame) (formulas effects notes : List ℕ) (s : St) : Type 0 where
+  pub known :
+      (t : Target) (e r : ℕ)
+      → e < frame .effects
+      → t .variable < frame .variables
+      → t .negated ≡ false
+      → 0 < column frame notes e
+      → getD notes (kept-place frame (column frame notes e) t) 0 ≡ r + 1
+      → Known (condition-at frame formulas effects t e) s r
+
+-- The notes: spans, columns, and the conditions that are kept.
+pub record Noted (frame : Frame) (formulas effects notes : List ℕ) (s : St) : Type 0 where
+  pub spanned : Spans frame effects notes
+  pub columns : Columns frame notes
+  pub kept : Kept frame formulas effects notes s
+
+-- What looking into row e's column asks.
+pub record Looks (frame : Frame) (notes : List ℕ) (e : ℕ) : Type 0 where
+  pub words : 3 * frame .effects ≤ length notes
+  pub limit : frame .effects ≤ 4096
+  pub variables : frame .variables ≤ 512
+  pub effect : e < frame .effects
+
+-- The condition of target t and row e is kept in word k.
+pub record KeptAt (frame : Frame) (notes : List ℕ) (t : Target) (e k : ℕ) : Type 0 where
+  pub plain : t .negated ≡ false
+  pub variable : t .variable < frame .variables
+  pub has-column : 0 < column frame notes e
+  pub place : k ≡ kept-place frame (column frame notes e) t
+  pub within : k < length notes
+
+-- Word w is 0, or what the notes keep of target t and row e.
+pub record Recalls (frame : Frame) (notes : List ℕ) (t : Target) (e w : ℕ) : Type 0 where
+  pub known :
+      (formulas effects : List ℕ) (s : St)
+      → Noted frame formulas effects notes s
+      → 0 < w
+      → Known (condition-at frame formulas effects t e) s (w - 1)
+
+-- The notes stay right if row r is known as the condition of target t and row e.
+pub record Keeps (frame : Frame) (notes notes' : List ℕ) (t : Target) (e : ℕ) (r : Step) : Type 0 where
+  pub noted :
+      (formulas effects : List ℕ) (s : St)
+      → Known (condition-at frame formulas effects t e) s (r .row)
+      → Noted frame formulas effects notes s
+      → Noted frame formulas effects notes' s
+
+pub record Asks (frame : Frame) (formulas effects notes : List ℕ) (t : Target) (at : Size) (before : Store) (scratch : List ℕ) (e : ℕ) : Type 0 where
   pub source : Source frame formulas scratch
   pub effect-source : EffectSource frame effects scratch
-  pub spanned : Spans frame effects spans
   pub ready : Ready frame at before
+  pub noted : Noted frame formulas effects notes (held at before)
   pub memo : Memo frame formulas scratch (held at before)
   pub effect-memo : EffectMemo frame formulas effects t scratch (held at before)
   pub effect : e < frame .effects
 
 -- for a row of one kind
-pub record AsksRow (kind : ℕ) (frame : Frame) (formulas effects spans : List ℕ) (t : Target) (at : Size) (before : Store) (scratch : List ℕ) (e : ℕ) : Type 0 where
-  pub asks : Asks frame formulas effects spans t at before scratch e
+pub record AsksRow (kind : ℕ) (frame : Frame) (formulas effects notes : List ℕ) (t : Target) (at : Size) (before : Store) (scratch : List ℕ) (e : ℕ) : Type 0 where
+  pub asks : Asks frame formulas effects notes t at before scratch e
   pub is-kind : row-at effects e .kind ≡ kind
 
--- A step with both memos: what lies behind effect e's word stays as it is.
-pub record Conditions (m : Build ℕ) (frame : Frame) (formulas effects : List ℕ) (t : Target) (e : ℕ) (at : Size) (before after : Store) (scratch scratch' : List ℕ) (r : Step) : Type 0 where
+-- A step with both memos and the notes: what lies behind effect e's word stays as it is.
+pub record Conditions (m : Build ℕ) (frame : Frame) (formulas effects notes' : List ℕ) (t : Target) (e : ℕ) (at : Size) (before after : Store) (scratch scratch' : List ℕ) (r : Step) : Type 0 where
   pub builds : Builds m frame at before after r
+  pub noted : r .full ≡ false → Noted frame formulas effects notes' (held (size-of r) after)
   pub memo : r .full ≡ false → Memo frame formulas scratch' (held (size-of r) after)
   pub effect-memo : r .full ≡ false → EffectMemo frame formulas effects t scratch' (held (size-of r) after)
   pub rest : (j : ℕ) → 2 * frame .formulas + e < j → getD scratch' j 0 ≡ getD scratch j 0

@@ -1,5 +1,7 @@
 // The condition of an effect: the builder recurses to lower-numbered effect rows. Each row is built at most once for a target.
 use crate::Target;
+use crate::kept::keep;
+use crate::kept::recall;
 use crate::touch::is_outside;
 use crate::touch::touches;
 use formula_builder::Frame;
@@ -15,11 +17,11 @@ use images::sided;
 ghost use Rattle.formula_builder.specs.Held.{store};
 ghost use Rattle.conditions.specs.Conditions.{Asks, AsksRow, Conditions, condition-at};
 
-// The condition of effect e: rows are visited only where the variable lies in their span.
+// The condition of effect e: rows are visited only where the variable lies in their span, and not below one whose condition is kept.
 pub fn condition(
     formulas: &[u16],
     effects: &[u16],
-    spans: &[u16],
+    notes: &mut [u16],
     e: usize,
     t: Target,
     frame: Frame,
@@ -28,10 +30,10 @@ pub fn condition(
     originals: &mut [u16],
     scratch: &mut [u16],
 ) -> Step
-    requires { ⌜ Asks frame (now formulas) (now effects) (now spans) t at (store (now table) (now originals)) (now scratch) e ⌝ }
-    ensures { λ r. ⌜ Conditions (condition-at frame (now (formulas .entry)) (now (effects .entry)) t e) frame (now (formulas .entry)) (now (effects .entry)) t e at (store (now (table .entry)) (now (originals .entry))) (store (now (table .exit)) (now (originals .exit))) (now (scratch .entry)) (now (scratch .exit)) r ⌝ }
+    requires { ⌜ Asks frame (now formulas) (now effects) (now notes) t at (store (now table) (now originals)) (now scratch) e ⌝ }
+    ensures { λ r. ⌜ Conditions (condition-at frame (now (formulas .entry)) (now (effects .entry)) t e) frame (now (formulas .entry)) (now (effects .entry)) (now (notes .exit)) t e at (store (now (table .entry)) (now (originals .entry))) (store (now (table .exit)) (now (originals .exit))) (now (scratch .entry)) (now (scratch .exit)) r ⌝ }
 {
-    if is_outside(spans, t.variable, e) {
+    if is_outside(notes, t.variable, e) {
         return standing(at, falsity(t.negated));
     }
     let k = 2 * frame.formulas + e;
@@ -39,10 +41,14 @@ pub fn condition(
     if 0 < known {
         return standing(at, known - 1);
     }
+    let kept = recall(notes, frame, t, e);
+    if 0 < kept {
+        return standing(at, kept - 1);
+    }
     let r = condition_of_row(
         formulas,
         effects,
-        spans,
+        notes,
         e,
         t,
         frame,
@@ -52,14 +58,15 @@ pub fn condition(
         scratch,
     );
     note(scratch, k, r);
+    keep(notes, frame, t, e, r);
     r
 }
 
-// The condition of effect e, which the memo has not, by its kind.
+// The condition of effect e, which neither memo nor notes have, by its kind.
 fn condition_of_row(
     formulas: &[u16],
     effects: &[u16],
-    spans: &[u16],
+    notes: &mut [u16],
     e: usize,
     t: Target,
     frame: Frame,
@@ -68,15 +75,15 @@ fn condition_of_row(
     originals: &mut [u16],
     scratch: &mut [u16],
 ) -> Step
-    requires { ⌜ Asks frame (now formulas) (now effects) (now spans) t at (store (now table) (now originals)) (now scratch) e ⌝ }
-    ensures { λ r. ⌜ Conditions (condition-at frame (now (formulas .entry)) (now (effects .entry)) t e) frame (now (formulas .entry)) (now (effects .entry)) t e at (store (now (table .entry)) (now (originals .entry))) (store (now (table .exit)) (now (originals .exit))) (now (scratch .entry)) (now (scratch .exit)) r ⌝ }
+    requires { ⌜ Asks frame (now formulas) (now effects) (now notes) t at (store (now table) (now originals)) (now scratch) e ⌝ }
+    ensures { λ r. ⌜ Conditions (condition-at frame (now (formulas .entry)) (now (effects .entry)) t e) frame (now (formulas .entry)) (now (effects .entry)) (now (notes .exit)) t e at (store (now (table .entry)) (now (originals .entry))) (store (now (table .exit)) (now (originals .exit))) (now (scratch .entry)) (now (scratch .exit)) r ⌝ }
 {
     let w = read_row(effects, e);
     if w.kind == 3 {
         return both(
             formulas,
             effects,
-            spans,
+            notes,
             e,
             t,
             frame,
@@ -90,7 +97,7 @@ fn condition_of_row(
         return under(
             formulas,
             effects,
-            spans,
+            notes,
             e,
             t,
             frame,
@@ -110,7 +117,7 @@ fn condition_of_row(
 fn both(
     formulas: &[u16],
     effects: &[u16],
-    spans: &[u16],
+    notes: &mut [u16],
     e: usize,
     t: Target,
     frame: Frame,
@@ -119,14 +126,14 @@ fn both(
     originals: &mut [u16],
     scratch: &mut [u16],
 ) -> Step
-    requires { ⌜ AsksRow 3 frame (now formulas) (now effects) (now spans) t at (store (now table) (now originals)) (now scratch) e ⌝ }
-    ensures { λ r. ⌜ Conditions (condition-at frame (now (formulas .entry)) (now (effects .entry)) t e) frame (now (formulas .entry)) (now (effects .entry)) t e at (store (now (table .entry)) (now (originals .entry))) (store (now (table .exit)) (now (originals .exit))) (now (scratch .entry)) (now (scratch .exit)) r ⌝ }
+    requires { ⌜ AsksRow 3 frame (now formulas) (now effects) (now notes) t at (store (now table) (now originals)) (now scratch) e ⌝ }
+    ensures { λ r. ⌜ Conditions (condition-at frame (now (formulas .entry)) (now (effects .entry)) t e) frame (now (formulas .entry)) (now (effects .entry)) (now (notes .exit)) t e at (store (now (table .entry)) (now (originals .entry))) (store (now (table .exit)) (now (originals .exit))) (now (scratch .entry)) (now (scratch .exit)) r ⌝ }
 {
     let w = read_row(effects, e);
     let l = condition(
         formulas,
         effects,
-        spans,
+        notes,
         w.a as usize,
         t,
         frame,
@@ -145,7 +152,7 @@ fn both(
     let r = condition(
         formulas,
         effects,
-        spans,
+        notes,
         w.b as usize,
         t,
         frame,
@@ -174,7 +181,7 @@ fn both(
 fn under(
     formulas: &[u16],
     effects: &[u16],
-    spans: &[u16],
+    notes: &mut [u16],
     e: usize,
     t: Target,
     frame: Frame,
@@ -183,14 +190,14 @@ fn under(
     originals: &mut [u16],
     scratch: &mut [u16],
 ) -> Step
-    requires { ⌜ AsksRow 4 frame (now formulas) (now effects) (now spans) t at (store (now table) (now originals)) (now scratch) e ⌝ }
-    ensures { λ r. ⌜ Conditions (condition-at frame (now (formulas .entry)) (now (effects .entry)) t e) frame (now (formulas .entry)) (now (effects .entry)) t e at (store (now (table .entry)) (now (originals .entry))) (store (now (table .exit)) (now (originals .exit))) (now (scratch .entry)) (now (scratch .exit)) r ⌝ }
+    requires { ⌜ AsksRow 4 frame (now formulas) (now effects) (now notes) t at (store (now table) (now originals)) (now scratch) e ⌝ }
+    ensures { λ r. ⌜ Conditions (condition-at frame (now (formulas .entry)) (now (effects .entry)) t e) frame (now (formulas .entry)) (now (effects .entry)) (now (notes .exit)) t e at (store (now (table .entry)) (now (originals .entry))) (store (now (table .exit)) (now (originals .exit))) (now (scratch .entry)) (now (scratch .exit)) r ⌝ }
 {
     let w = read_row(effects, e);
     let c = condition(
         formulas,
         effects,
-        spans,
+        notes,
         w.b as usize,
         t,
         frame,

@@ -1,5 +1,5 @@
 -- A source that passes, as the code's passes see it. Assumes nothing.
-use Prim.Native.Nat.{ℕ, zero, suc, _+_, _≤_, _<_}
+use Prim.Native.Nat.{ℕ, zero, suc, _+_, _*_, _≤_, _<_}
 use native.Mathlib.Omega.{arith}
 use mathlib.Core.Path.{_≡_, refl, sym, ap, ap₂, _∙_}
 use mathlib.Core.List.{List, [], _∷_, _++_}
@@ -13,22 +13,26 @@ use Rattle.task.specs.Run.{operator-of}
 use Rattle.task.proofs.Held.{length-initial, length-formulas, length-effects, length-operators, operator-held}
 use Rattle.task.proofs.Kept.{kept-rules}
 use Rattle.task.proofs.Trees.{EffectsDown, rules-formulas, rules-effects}
-use Rattle.normal_form.specs.Builder.{start, plain}
+use Rattle.normal_form.specs.Builder.{St, start, plain}
 use Rattle.normal_form.specs.Assembly.{Assembled, assemble, unassembled}
 use Rattle.normal_form.specs.Finished.{built, assembled, finished}
 use Rattle.normal_form.specs.Compiled.{padded}
 use Rattle.formula_builder.specs.declared.Frame.{Frame}
 use Rattle.images.specs.Images.{source-rows}
-use Rattle.conditions.specs.Conditions.{effect-rows, Spans}
+use Rattle.conditions.specs.Conditions.{effect-rows, Noted}
+use Rattle.conditions.proofs.Notes.{noted-blank}
 use Rattle.formula_builder.specs.Held.{store}
-use Rattle.spans.specs.Found.{FindsSpans}
+use Rattle.spans.specs.Found.{FindsSpans, FoundSpans}
+use Rattle.spans.specs.Columns.{FindsColumns, FoundColumns}
+use Rattle.spans.proofs.Settling.{spans-stay}
 use Rattle.building.specs.declared.Progress.{Progress}
-use Rattle.building.specs.Taken.{many, AllKept, whole-built, Zeros, Fresh, Begun, Blank, Taken, Takes}
+use Rattle.changes.specs.Stands.{Leaves}
+use Rattle.building.specs.Taken.{size-at, many, AllKept, whole-built, Zeros, Fresh, Begun, Blank, Taken, Takes}
 use Rattle.building.proofs.Begun.{taken-none}
 use Rattle.building.proofs.Parts.{made-here, same-state, same-value, same-operators-made}
 use Rattle.assembling.specs.Assembles.{assembled-in}
 use Rattle.filling.specs.declared.Passes.{Passes}
-use Rattle.filling.specs.Fills.{Tables, room-of, frame-of, Begins, Starts, Ends, Fills}
+use Rattle.filling.specs.Fills.{Tables, room-of, frame-of, Begins, Owns, Starts, Ends, Fills}
 use Rattle.filling.proofs.Recalled.{recalled, made-more}
 
 zero-at : (n j : ℕ) → _≡_ {A = ℕ} (getD (replicate n 0) j 0) 0
@@ -158,27 +162,17 @@ module _ (l : Lent) (rows twins : ℕ) (passes : refusal l ≡ 0) where
   effects-down : EffectsDown (l .head .variables) (l .head .formulas) (effect-rows (frame-of (l .head) rows twins) (l .effects))
   effects-down = rw its-effects at (rw (length-formulas l) at (rw its-variables at (rules-effects t source)))
 
-  -- the spans are found in a table of their own
-  pub finds : FindsSpans (frame-of (l .head) rows twins) (l .effects) (replicate 8192 0)
-  finds =
-      record {
-        words = long .effects;
-        limit = effects-limit;
-        down = effects-down;
-        room = omega (arith, effects-limit, length-replicate {A = ℕ} 8192 0);
-      }
-
   -- What the parts ask.
-  module _ (effects : ℕ) (x : Tables) (b : Begins l rows twins effects x) where
-    -- with a table of 0 in which rows are built, and one for records
-    pub starts :
-        {spans : List ℕ}
-        → Spans (frame-of (l .head) rows twins) (l .effects) spans
-        → Starts l rows twins effects x spans (replicate 24576 0) (replicate 6912 0)
-    starts s =
+  module _ (effects : ℕ) (x : Tables) where
+    -- with tables of 0 of its own: for notes, for rows and their index, for records
+    pub owns :
+        Begins l rows twins effects x
+        → Owns l rows twins effects x (replicate 274432 0) (replicate 24576 0) (replicate 6912 0)
+    owns b =
         record {
           begins = b;
-          spanned = s;
+          notes-space = omega (arith, effects-limit, length-replicate {A = ℕ} 274432 0);
+          blank-notes = zero-at 274432;
           fresh =
               record {
                 room = omega (arith, b .lends .rows-limit, length-replicate {A = ℕ} 24576 0);
@@ -188,6 +182,55 @@ module _ (l : Lent) (rows twins : ℕ) (passes : refusal l ≡ 0) where
           space = omega (arith, length-replicate {A = ℕ} 6912 0);
         }
 
+    module _ {notes built records : List ℕ} (o : Owns l rows twins effects x notes built records) where
+      pub finds : FindsSpans (frame-of (l .head) rows twins) (l .effects) notes
+      finds =
+          record {
+            words = long .effects;
+            limit = effects-limit;
+            down = effects-down;
+            room = omega (arith, o .notes-space);
+          }
+
+      module _ {spanned : List ℕ} (s : FoundSpans (frame-of (l .head) rows twins) (l .effects) notes spanned) (same : length spanned ≡ length notes) where
+        pub finds-columns : FindsColumns (frame-of (l .head) rows twins) (l .effects) (l .operators) (l .head .operators) spanned
+        finds-columns =
+            record {
+              finds =
+                  record {
+                    words = long .effects;
+                    limit = effects-limit;
+                    down = effects-down;
+                    room = s .spans .words;
+                  };
+              roots =
+                  record {
+                    limit = effects-limit;
+                    room = omega (arith, o .notes-space, same);
+                    operators-limit = omega (arith, source .limits .operators, length-operators l);
+                    words = long .operators;
+                    effect = effect-below;
+                  };
+            }
+
+        -- with the notes of the two passes
+        pub starts :
+            {found : List ℕ}
+            → FoundColumns (frame-of (l .head) rows twins) spanned found
+            → length found ≡ length spanned
+            → Starts l rows twins effects x found built records
+        starts {found} c kept =
+            record {
+              begins = o .begins;
+              noted = λ t.
+                  noted-blank (l .formulas) t (spans-stay frame (l .effects) spanned found kept (c .elsewhere) (s .spans)) (c .columns)
+                  (λ j h.
+                  c .elsewhere .behind j (omega arith) ∙ s .behind j (omega arith) ∙ o .blank-notes j);
+              fresh = o .fresh;
+              space = o .space;
+            }
+
+  module _ (effects : ℕ) (x : Tables) (b : Begins l rows twins effects x) where
     blank-is : Blank (frame-of (l .head) rows twins) (l .formulas) (l .effects) (x .twins) (x .scratch)
     blank-is =
         record {
@@ -218,16 +261,16 @@ module _ (l : Lent) (rows twins : ℕ) (passes : refusal l ≡ 0) where
     first-taken g = taken-none frame (l .formulas) (l .effects) (l .operators) blank-is g
 
   pub next-asks :
-      {spans table originals scratch records : List ℕ} {p : Progress}
-      → Spans (frame-of (l .head) rows twins) (l .effects) spans
+      {notes table originals scratch records : List ℕ} {p : Progress}
+      → Leaves (p .full) (frame-of (l .head) rows twins) (l .formulas) (l .effects) notes (size-at p) (store table originals)
       → p .operators < l .head .operators
       → 6912 ≤ length records
       → Taken (frame-of (l .head) rows twins) (l .formulas) (l .effects) (l .operators) (store table originals) scratch records p
-      → Takes (frame-of (l .head) rows twins) (l .formulas) (l .effects) spans (l .operators) (store table originals) scratch records p
+      → Takes (frame-of (l .head) rows twins) (l .formulas) (l .effects) notes (l .operators) (store table originals) scratch records p
   next-asks {p = p} s h space k =
       record {
         taken = k;
-        spanned = s;
+        leaves = s;
         words = omega (arith, long .operators);
         limit = omega (arith, source .limits .operators, length-operators l);
         room = space;

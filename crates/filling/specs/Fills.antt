@@ -8,14 +8,15 @@ use Rattle.task.specs.declared.Head.{Head}
 use Rattle.task.specs.Table.{Lent, task-of}
 use Rattle.task.specs.Check.{refusal}
 use Rattle.task.specs.Words.{words-of, operator-words, head-of}
+use Rattle.normal_form.specs.Builder.{St}
 use Rattle.normal_form.specs.Finished.{finished}
 use Rattle.normal_form.specs.Compiled.{Room, Fits, padded}
 use Rattle.normal_form.proofs.Over.{Allows}
 use Rattle.formula_builder.specs.declared.Frame.{Frame}
 use Rattle.formula_builder.specs.Held.{store}
-use Rattle.conditions.specs.Conditions.{Spans}
+use Rattle.conditions.specs.Conditions.{Noted}
 use Rattle.building.specs.declared.Progress.{Progress}
-use Rattle.building.specs.Taken.{Fresh, Taken}
+use Rattle.building.specs.Taken.{Zeros, Fresh, Taken}
 use Rattle.filling.specs.declared.Passes.{Passes}
 
 -- the six lent tables
@@ -73,10 +74,19 @@ pub record Begins (l : Lent) (rows twins effects : ℕ) (x : Tables) : Type 0 wh
   pub blank-twins : x .twins ≡ replicate (length (x .twins)) 0
   pub blank-scratch : x .scratch ≡ replicate (length (x .scratch)) 0
 
--- All tables are 0, and the one in which rows are built; the spans of the effect rows are known, and there is room for records.
-pub record Starts (l : Lent) (rows twins effects : ℕ) (x : Tables) (spans built records : List ℕ) : Type 0 where
+-- All tables are 0, and so are the one in which rows are built and the one for notes; there is room for records.
+pub record Owns (l : Lent) (rows twins effects : ℕ) (x : Tables) (notes built records : List ℕ) : Type 0 where
   pub begins : Begins l rows twins effects x
-  pub spanned : Spans (frame-of (l .head) rows twins) (l .effects) spans
+  pub notes-space : 3 * l .head .effects ≤ length notes
+  pub blank-notes : Zeros notes
+  pub fresh : Fresh (frame-of (l .head) rows twins) built
+  pub space : 6912 ≤ length records
+
+-- All tables are 0, and the one in which rows are built; spans and columns of the effect rows are noted, and nothing is kept yet, so that the
+-- notes are right at any state; there is room for records.
+pub record Starts (l : Lent) (rows twins effects : ℕ) (x : Tables) (notes built records : List ℕ) : Type 0 where
+  pub begins : Begins l rows twins effects x
+  pub noted : (s : St) → Noted (frame-of (l .head) rows twins) (l .formulas) (l .effects) notes s
   pub fresh : Fresh (frame-of (l .head) rows twins) built
   pub space : 6912 ≤ length records
 

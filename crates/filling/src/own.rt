@@ -1,14 +1,71 @@
-// Filling, with three tables of its own: one in which rows are built, one of records, one of the spans of effect rows.
+// Filling, with three tables of its own: one in which rows are built, one of records, one of notes on the effect rows.
 use crate::Passes;
 use crate::whole::fill_built;
 use formula_builder::Frame;
+use spans::find_columns;
 use spans::find_spans;
 use task::Head;
 ghost use Rattle.task.specs.Table.{lent};
-ghost use Rattle.filling.specs.Fills.{tables, Begins, Fills};
+ghost use Rattle.filling.specs.Fills.{tables, Begins, Owns, Fills};
+
+// Finds spans and columns, then fills. Costs two passes over the effects and one over the operators, and what filling does.
+fn fill_noted(
+    head: Head,
+    initial: &[u8],
+    twins: &[u16],
+    formulas: &[u16],
+    effects: &[u16],
+    operators: &[u16],
+    rows: usize,
+    most: usize,
+    room: usize,
+    values: &mut [u8],
+    originals: &mut [u16],
+    table: &mut [u16],
+    out: &mut [u16],
+    written: &mut [u16],
+    scratch: &mut [u16],
+    notes: &mut [u16],
+    built: &mut [u16],
+    records: &mut [u16],
+) -> Passes
+    requires { ⌜ Owns (lent head (now initial) (now twins) (now formulas) (now effects) (now operators)) rows most room (tables (now values) (now originals) (now table) (now out) (now written) (now scratch)) (now notes) (now built) (now records) ⌝ }
+    ensures { λ r. ⌜ Fills (lent head (now (initial .entry)) (now (twins .entry)) (now (formulas .entry)) (now (effects .entry)) (now (operators .entry))) (tables (now (values .entry)) (now (originals .entry)) (now (table .entry)) (now (out .entry)) (now (written .entry)) (now (scratch .entry))) (tables (now (values .exit)) (now (originals .exit)) (now (table .exit)) (now (out .exit)) (now (written .exit)) (now (scratch .exit))) r ⌝ }
+{
+    let frame = Frame {
+        variables: head.variables as usize,
+        formulas: head.formulas as usize,
+        effects: head.effects as usize,
+        rows: rows,
+        twins: most,
+    };
+    find_spans(effects, frame, notes);
+    find_columns(effects, operators, head.operators as usize, frame, notes);
+    fill_built(
+        head,
+        initial,
+        twins,
+        formulas,
+        effects,
+        notes,
+        operators,
+        rows,
+        most,
+        room,
+        values,
+        originals,
+        table,
+        out,
+        written,
+        scratch,
+        built,
+        records,
+    )
+}
 
 // The first has the words of 4,096 rows, two links for each, and 4,096 heads: 48 KiB, cleared. The second has three words for
-// each of 256 operators and 2,048 changes: 13.5 KiB, cleared. The third has two for each of 4,096 effects: 16 KiB, cleared.
+// each of 256 operators and 2,048 changes: 13.5 KiB, cleared. The third has three words for each of 4,096 effects, and for each of 256 columns
+// two for each of 512 variables: 536 KiB, cleared; fewer variables have more columns.
 pub fn fill(
     head: Head,
     initial: &[u8],
@@ -31,22 +88,13 @@ pub fn fill(
 {
     let mut built = [0u16; 24576];
     let mut records = [0u16; 6912];
-    let mut spans = [0u16; 8192];
-    let frame = Frame {
-        variables: head.variables as usize,
-        formulas: head.formulas as usize,
-        effects: head.effects as usize,
-        rows: rows,
-        twins: most,
-    };
-    find_spans(effects, frame, &mut spans);
-    fill_built(
+    let mut notes = [0u16; 274432];
+    fill_noted(
         head,
         initial,
         twins,
         formulas,
         effects,
-        &spans,
         operators,
         rows,
         most,
@@ -57,6 +105,7 @@ pub fn fill(
         out,
         written,
         scratch,
+        &mut notes,
         &mut built,
         &mut records,
     )

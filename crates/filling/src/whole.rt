@@ -16,7 +16,7 @@ pub fn fill_built(
     twins: &[u16],
     formulas: &[u16],
     effects: &[u16],
-    spans: &[u16],
+    notes: &mut [u16],
     operators: &[u16],
     rows: usize,
     most: usize,
@@ -30,7 +30,7 @@ pub fn fill_built(
     built: &mut [u16],
     records: &mut [u16],
 ) -> Passes
-    requires { ⌜ Starts (lent head (now initial) (now twins) (now formulas) (now effects) (now operators)) rows most room (tables (now values) (now originals) (now table) (now out) (now written) (now scratch)) (now spans) (now built) (now records) ⌝ }
+    requires { ⌜ Starts (lent head (now initial) (now twins) (now formulas) (now effects) (now operators)) rows most room (tables (now values) (now originals) (now table) (now out) (now written) (now scratch)) (now notes) (now built) (now records) ⌝ }
     ensures { λ r. ⌜ Fills (lent head (now (initial .entry)) (now (twins .entry)) (now (formulas .entry)) (now (effects .entry)) (now (operators .entry))) (tables (now (values .entry)) (now (originals .entry)) (now (table .entry)) (now (out .entry)) (now (written .entry)) (now (scratch .entry))) (tables (now (values .exit)) (now (originals .exit)) (now (table .exit)) (now (out .exit)) (now (written .exit)) (now (scratch .exit))) r ⌝ }
 {
     let frame = Frame {
@@ -46,7 +46,7 @@ pub fn fill_built(
         at = take_operator(
             formulas,
             effects,
-            spans,
+            notes,
             operators,
             frame,
             at,

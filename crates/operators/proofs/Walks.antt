@@ -17,9 +17,10 @@ use Rattle.formula_builder.specs.declared.Step.{Step}
 use Rattle.formula_builder.specs.Held.{Store, held, size-of}
 use Rattle.formula_builder.proofs.Steps.{within-before}
 use Rattle.images.specs.Images.{image-at, Images, Asks}
-use Rattle.conditions.specs.Conditions.{effect-tree}
+use Rattle.images.proofs.Memos.{steady-image-at}
+use Rattle.conditions.specs.Conditions.{effect-tree, Noted}
 use Rattle.changes.specs.Stands.{Stands, StandsAt, Reaches, Makes, size-after, made}
-use Rattle.changes.proofs.Standing.{stands-next}
+use Rattle.changes.proofs.Standing.{stands-next, stands-at-next, leaves-step}
 use Rattle.touched.specs.Touched.{Untouched, Marks}
 use Rattle.changes.specs.declared.Change.{Change}
 use Rattle.records.specs.Recorded.{Keeps, Opens, Recorded}
@@ -132,7 +133,7 @@ pub record Walking (frame : Frame) (formulas effects : List ℕ) (e : ℕ) (at :
   pub recorded : Recorded (all-changes frame formulas effects e v (held at before) .value) from l m k
   pub few : k ≤ from + v
 
-module _ {frame : Frame} {formulas effects spans touched : List ℕ} {e : ℕ} {at : Size} {before : Store} {s1 : List ℕ} (a : WalksAll frame formulas effects spans touched at before s1 e) where
+module _ {frame : Frame} {formulas effects notes touched : List ℕ} {e : ℕ} {at : Size} {before : Store} {s1 : List ℕ} (a : WalksAll frame formulas effects notes touched at before s1 e) where
   -- on to the next variable that is touched
   walking-on :
       {mid : Store} {s2 : List ℕ} {from : ℕ} {l m : List ℕ} {here : Size} {k v next : ℕ}
@@ -165,11 +166,15 @@ module _ {frame : Frame} {formulas effects spans touched : List ℕ} {e : ℕ} {
 
   module _ {mid : Store} {s2 : List ℕ} {from : ℕ} {l m : List ℕ} {here : Size} {k v : ℕ} (w : Walking frame formulas effects e at before mid s1 s2 from l m here k v) where
     -- what the change of variable v asks, and what recording it asks
-    pub walking-asks : length s2 ≡ length s1 → StandsAt frame formulas effects spans here mid s2 e
-    walking-asks long =
+    pub walking-asks :
+        {notes' : List ℕ}
+        → Noted frame formulas effects notes' (held here mid)
+        → length s2 ≡ length s1
+        → StandsAt frame formulas effects notes' here mid s2 e
+    walking-asks noted long =
         record {
           stands = stands-next (a .stands .stands) (w .reaches) refl long;
-          spanned = a .stands .spanned;
+          noted = noted;
           effect = a .stands .effect;
         }
 
@@ -271,8 +276,8 @@ module _ (frame : Frame) (formulas effects : List ℕ) (p e : ℕ) {at : Size} {
 
 -- what the image of the precondition asks
 pub asks-precondition :
-    {frame : Frame} {formulas effects spans : List ℕ} {at : Size} {s : Store} {scratch : List ℕ} {p e : ℕ}
-    → BuildsOperator frame formulas effects spans at s scratch p e
+    {frame : Frame} {formulas effects notes : List ℕ} {at : Size} {s : Store} {scratch : List ℕ} {p e : ℕ}
+    → BuildsOperator frame formulas effects notes at s scratch p e
     → Asks frame formulas at s scratch p
 asks-precondition a =
     record {
@@ -282,10 +287,21 @@ asks-precondition a =
       formula = a .formula;
     }
 
--- and what marking asks after it
+-- where building stands behind it
+pub stands-behind :
+    {frame : Frame} {formulas effects notes : List ℕ} {at : Size} {before after : Store} {s1 s2 : List ℕ} {p e : ℕ} {f : Step}
+    → BuildsOperator frame formulas effects notes at before s1 p e
+    → Images (image-at frame formulas plain p) frame formulas at before after s1 s2 f
+    → f .full ≡ false
+    → length s2 ≡ length s1
+    → StandsAt frame formulas effects notes (size-of f) after s2 e
+stands-behind {frame} {formulas} {p = p} a x q long =
+    stands-at-next (a .stands) (x, leaves-step (steady-image-at frame formulas plain p) (a .stands .noted) (x .builds)) q long
+
+-- and what marking asks there
 pub asks-marks :
-    {frame : Frame} {formulas effects spans : List ℕ} {at : Size} {s : Store} {scratch : List ℕ} {e : ℕ} (touched : List ℕ)
-    → StandsAt frame formulas effects spans at s scratch e
+    {frame : Frame} {formulas effects notes : List ℕ} {at : Size} {s : Store} {scratch : List ℕ} {e : ℕ} (touched : List ℕ)
+    → StandsAt frame formulas effects notes at s scratch e
     → 512 ≤ length touched
     → Marks frame effects scratch touched e
 asks-marks touched a room =
@@ -302,12 +318,12 @@ asks-marks touched a room =
 
 -- what the walk asks after marking, which leaves the scratch as it was
 pub asks-walk :
-    {frame : Frame} {formulas effects spans : List ℕ} {at : Size} {s : Store} {scratch scratch' : List ℕ} {e : ℕ} (touched : List ℕ)
-    → StandsAt frame formulas effects spans at s scratch e
+    {frame : Frame} {formulas effects notes : List ℕ} {at : Size} {s : Store} {scratch scratch' : List ℕ} {e : ℕ} (touched : List ℕ)
+    → StandsAt frame formulas effects notes at s scratch e
     → scratch' ≡ scratch
     → 512 ≤ length touched
     → ((v : ℕ) → getD touched v 0 ≡ 0 → Untouched frame formulas effects v e)
-    → WalksAll frame formulas effects spans touched at s scratch' e
+    → WalksAll frame formulas effects notes touched at s scratch' e
 asks-walk {frame} touched a same room passed =
     rw same (record { stands = a; room = omega (arith, a .stands .ready .variables); passed = passed })
 

@@ -33,13 +33,13 @@ pub record NextTouched (touched : List ℕ) (from n next : ℕ) : Type 0 where
   pub passed : (v : ℕ) → from ≤ v → v < next → getD touched v 0 ≡ 0
   pub stopped : next < n → getD touched next 0 ≡ 0 → ⊥
 
-pub record WalksAll (frame : Frame) (formulas effects spans touched : List ℕ) (at : Size) (s : Store) (scratch : List ℕ) (e : ℕ) : Type 0 where
-  pub stands : StandsAt frame formulas effects spans at s scratch e
+pub record WalksAll (frame : Frame) (formulas effects notes touched : List ℕ) (at : Size) (s : Store) (scratch : List ℕ) (e : ℕ) : Type 0 where
+  pub stands : StandsAt frame formulas effects notes at s scratch e
   pub room : frame .variables ≤ length touched
   pub passed : (v : ℕ) → getD touched v 0 ≡ 0 → Untouched frame formulas effects v e
 
-pub record BuildsOperator (frame : Frame) (formulas effects spans : List ℕ) (at : Size) (s : Store) (scratch : List ℕ) (p e : ℕ) : Type 0 where
-  pub stands : StandsAt frame formulas effects spans at s scratch e
+pub record BuildsOperator (frame : Frame) (formulas effects notes : List ℕ) (at : Size) (s : Store) (scratch : List ℕ) (p e : ℕ) : Type 0 where
+  pub stands : StandsAt frame formulas effects notes at s scratch e
   pub formula : p < frame .formulas
 
 abbrev pub size-behind : Tally → Size

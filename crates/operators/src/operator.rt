@@ -6,14 +6,15 @@ use formula_builder::Size;
 use images::image;
 use touched::touched_by;
 ghost use Rattle.formula_builder.specs.Held.{store};
+ghost use Rattle.changes.specs.Stands.{Leaves};
 ghost use Rattle.records.specs.Recorded.{Opens};
-ghost use Rattle.operators.specs.Operator.{BuildsOperator, operator-built, OperatorWalked};
+ghost use Rattle.operators.specs.Operator.{BuildsOperator, operator-built, OperatorWalked, size-behind};
 
 // Builds the operator with precondition p and effect e, and records its changes behind those that are.
 pub fn build_operator(
     formulas: &[u16],
     effects: &[u16],
-    spans: &[u16],
+    notes: &mut [u16],
     p: usize,
     e: usize,
     frame: Frame,
@@ -24,8 +25,8 @@ pub fn build_operator(
     from: usize,
     records: &mut [u16],
 ) -> Tally
-    requires { ⌜ BuildsOperator frame (now formulas) (now effects) (now spans) at (store (now table) (now originals)) (now scratch) p e × Opens from (now records) ⌝ }
-    ensures { λ r. ⌜ OperatorWalked frame (now (formulas .entry)) (now (effects .entry)) p e at (store (now (table .entry)) (now (originals .entry))) (store (now (table .exit)) (now (originals .exit))) (now (scratch .entry)) (now (scratch .exit)) from (now (records .entry)) (now (records .exit)) r ⌝ }
+    requires { ⌜ BuildsOperator frame (now formulas) (now effects) (now notes) at (store (now table) (now originals)) (now scratch) p e × Opens from (now records) ⌝ }
+    ensures { λ r. ⌜ OperatorWalked frame (now (formulas .entry)) (now (effects .entry)) p e at (store (now (table .entry)) (now (originals .entry))) (store (now (table .exit)) (now (originals .exit))) (now (scratch .entry)) (now (scratch .exit)) from (now (records .entry)) (now (records .exit)) r × Leaves (r .full) frame (now (formulas .entry)) (now (effects .entry)) (now (notes .exit)) (size-behind r) (store (now (table .exit)) (now (originals .exit))) ⌝ }
 {
     let f = image(formulas, p, frame, at, table, originals, scratch);
     if f.full {
@@ -42,7 +43,7 @@ pub fn build_operator(
     let r = build_changes(
         formulas,
         effects,
-        spans,
+        notes,
         e,
         &touched,
         frame,

@@ -8,8 +8,9 @@ use rule_writer::Changes;
 ghost use Prim.Native.Nat.{_≤_};
 ghost use lib.ListN.{length};
 ghost use Rattle.formula_builder.specs.Held.{store};
+ghost use Rattle.changes.specs.Stands.{Leaves};
 ghost use Rattle.records.specs.Recorded.{Opens};
-ghost use Rattle.operators.specs.Operator.{NextTouched, WalksAll, Walked, all-changes};
+ghost use Rattle.operators.specs.Operator.{NextTouched, WalksAll, Walked, all-changes, size-behind};
 
 // The first variable from one on, below n, that is marked as touched; n if there is none. A step for each that is passed over.
 fn next_touched(touched: &[u8], from: usize, n: usize) -> usize
@@ -30,7 +31,7 @@ fn next_touched(touched: &[u8], from: usize, n: usize) -> usize
 pub fn build_changes(
     formulas: &[u16],
     effects: &[u16],
-    spans: &[u16],
+    notes: &mut [u16],
     e: usize,
     touched: &[u8],
     frame: Frame,
@@ -41,8 +42,8 @@ pub fn build_changes(
     from: usize,
     records: &mut [u16],
 ) -> Tally
-    requires { ⌜ WalksAll frame (now formulas) (now effects) (now spans) (now touched) at (store (now table) (now originals)) (now scratch) e × Opens from (now records) ⌝ }
-    ensures { λ r. ⌜ Walked (all-changes frame (now (formulas .entry)) (now (effects .entry)) e (frame .variables)) frame (now (formulas .entry)) at (store (now (table .entry)) (now (originals .entry))) (store (now (table .exit)) (now (originals .exit))) (now (scratch .entry)) (now (scratch .exit)) from (now (records .entry)) (now (records .exit)) r ⌝ }
+    requires { ⌜ WalksAll frame (now formulas) (now effects) (now notes) (now touched) at (store (now table) (now originals)) (now scratch) e × Opens from (now records) ⌝ }
+    ensures { λ r. ⌜ Walked (all-changes frame (now (formulas .entry)) (now (effects .entry)) e (frame .variables)) frame (now (formulas .entry)) at (store (now (table .entry)) (now (originals .entry))) (store (now (table .exit)) (now (originals .exit))) (now (scratch .entry)) (now (scratch .exit)) from (now (records .entry)) (now (records .exit)) r × Leaves (r .full) frame (now (formulas .entry)) (now (effects .entry)) (now (notes .exit)) (size-behind r) (store (now (table .exit)) (now (originals .exit))) ⌝ }
 {
     let n = frame.variables;
     let mut rows = at.rows;
@@ -58,7 +59,7 @@ pub fn build_changes(
         let c = change_of(
             formulas,
             effects,
-            spans,
+            notes,
             e,
             variable,
             frame,

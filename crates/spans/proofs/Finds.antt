@@ -15,7 +15,7 @@ use Rattle.formula_builder.specs.Held.{row-of}
 use Rattle.conditions.specs.Conditions.{EffectSource, outside, Spans}
 use Rattle.conditions.proofs.Alone.{idle-both, idle-under, idle-empty, idle-atom, both-within, under-within}
 use Rattle.spans.specs.declared.Span.{Span}
-use Rattle.spans.specs.Found.{Covers, span-at, SpanOf, FindsSpans, FindsSpan}
+use Rattle.spans.specs.Found.{Covers, span-at, SpanOf, FindsSpans, FindsSpan, FoundSpans}
 
 -- the memo's words do not matter here
 memo : Frame → List ℕ
@@ -31,14 +31,16 @@ source frame effects spans a =
       down = a .down;
     }
 
--- Row i with the words w.
-module _ (frame : Frame) (effects spans : List ℕ) (i : ℕ) (a : FindsSpan frame effects spans i) (w : Words) (q : row-of w ≡ row-at effects i) where
+-- The rows that row i names, by its words w.
+module _ (frame : Frame) (effects spans : List ℕ) (a : FindsSpans frame effects spans) (i : ℕ) (h : i < frame .effects) (w : Words) (q : row-of w ≡ row-at effects i) where
   pub both-lower : w .kind ≡ 3 → (w .a < i) × (w .b < i)
-  both-lower k = both-within frame [] effects (memo frame) (source frame effects spans (a .finds)) i (a .effect) w q 0 k
+  both-lower k = both-within frame [] effects (memo frame) (source frame effects spans a) i h w q 0 k
 
   pub under-lower : w .kind ≡ 4 → w .b < i
-  under-lower k = under-within frame [] effects (memo frame) (source frame effects spans (a .finds)) i (a .effect) w q 0 k
+  under-lower k = under-within frame [] effects (memo frame) (source frame effects spans a) i h w q 0 k
 
+-- Row i with the words w.
+module _ (frame : Frame) (effects spans : List ℕ) (i : ℕ) (a : FindsSpan frame effects spans i) (w : Words) (q : row-of w ≡ row-at effects i) where
   pub span-both :
       (r : Span)
       → w .kind ≡ 3
@@ -47,7 +49,7 @@ module _ (frame : Frame) (effects spans : List ℕ) (i : ℕ) (a : FindsSpan fra
   span-both r k c =
       record {
         alone = λ formulas v h.
-            let low = both-lower k in
+            let low = both-lower frame effects spans (a .finds) i (a .effect) w q k in
             idle-both frame formulas effects (memo frame) (source frame effects spans (a .finds)) i (a .effect) w q v k
             (a .found (w .a) (low .0) .alone formulas v (λ x y. h (omega (arith, c .0 .least)) (omega (arith, c .0 .greatest))))
             (a .found (w .b) (low .1) .alone formulas v (λ x y. h (omega (arith, c .1 .least)) (omega (arith, c .1 .greatest))));
@@ -58,7 +60,7 @@ module _ (frame : Frame) (effects spans : List ℕ) (i : ℕ) (a : FindsSpan fra
       record {
         alone = λ formulas v h.
             idle-under frame formulas effects (memo frame) (source frame effects spans (a .finds)) i (a .effect) w q v k
-            (a .found (w .b) (under-lower k) .alone formulas v h);
+            (a .found (w .b) (under-lower frame effects spans (a .finds) i (a .effect) w q k) .alone formulas v h);
       }
 
   pub span-empty : (s : Span) → w .kind ≡ 0 → SpanOf frame effects i s
@@ -78,18 +80,20 @@ module _ (frame : Frame) (effects spans : List ℕ) (i : ℕ) (a : FindsSpan fra
       }
 
 -- The loop's invariant: the rows below i have their spans.
-pub record Finding (frame : Frame) (effects : List ℕ) (i : ℕ) (spans : List ℕ) : Type 0 where
+pub record Finding (frame : Frame) (effects first : List ℕ) (i : ℕ) (spans : List ℕ) : Type 0 where
   pub bound : i ≤ frame .effects
+  pub behind : (j : ℕ) → 2 * frame .effects ≤ j → getD spans j 0 ≡ getD first j 0
   pub found : (d : ℕ) → d < i → SpanOf frame effects d (span-at spans d)
 
-pub finding-none : (frame : Frame) (effects spans : List ℕ) → Finding frame effects 0 spans
-finding-none frame effects spans = record { bound = omega arith; found = λ d h. absurd (omega arith) }
+pub finding-none : (frame : Frame) (effects spans : List ℕ) → Finding frame effects spans 0 spans
+finding-none frame effects spans =
+    record { bound = omega arith; behind = λ j h. refl; found = λ d h. absurd (omega arith) }
 
 pub finding-asks :
     {frame : Frame} {effects first spans : List ℕ} {i : ℕ}
     → FindsSpans frame effects first
     → length spans ≡ length first
-    → Finding frame effects i spans
+    → Finding frame effects first i spans
     → i < frame .effects
     → FindsSpan frame effects spans i
 finding-asks a long x h =
@@ -107,14 +111,21 @@ abbrev written : List ℕ → ℕ → Span → List ℕ
 written spans i s = set (half spans i s) (2 * i + 1) (s .greatest)
 
 pub finding-more :
-    {frame : Frame} {effects spans : List ℕ} {i : ℕ} (s : Span)
+    {frame : Frame} {effects first spans : List ℕ} {i : ℕ} (s : Span)
     → i < frame .effects
     → 2 * i + 2 ≤ length spans
-    → Finding frame effects i spans
+    → Finding frame effects first i spans
     → SpanOf frame effects i s
-    → Finding frame effects (i + 1) (written spans i s)
-finding-more {frame} {effects} {spans} {i} s h room x o =
-    record { bound = omega arith; found = λ d b. go d b (decLt d i) }
+    → Finding frame effects first (i + 1) (written spans i s)
+finding-more {frame} {effects} {first} {spans} {i} s h room x o =
+    record {
+      bound = omega arith;
+      behind = λ j b.
+          getD-set-other (half spans i s) (2 * i + 1) j (s .greatest) 0 (λ z. omega arith)
+          ∙ getD-set-other spans (2 * i) j (s .least) 0 (λ z. omega arith)
+          ∙ x .behind j b;
+      found = λ d b. go d b (decLt d i);
+    }
   where
     same : (d : ℕ) → d < i → span-at (written spans i s) d ≡ span-at spans d
     same d l =
@@ -144,14 +155,18 @@ pub finding-all :
     {frame : Frame} {effects first spans : List ℕ} {i : ℕ}
     → FindsSpans frame effects first
     → length spans ≡ length first
-    → Finding frame effects i spans
+    → Finding frame effects first i spans
     → frame .effects ≤ i
-    → Spans frame effects spans
+    → FoundSpans frame effects first spans
 unfolding outside
 finding-all {frame} {effects} {first} {spans} {i} a long x h =
     record {
-      words = omega (arith, a .room);
-      alone = λ formulas v e b o. x .found e (omega arith) .alone formulas v (λ l g. inside v e l g o);
+      spans =
+          record {
+            words = omega (arith, a .room);
+            alone = λ formulas v e b o. x .found e (omega arith) .alone formulas v (λ l g. inside v e l g o);
+          };
+      behind = x .behind;
     }
   where
     inside : (v e : ℕ) → getD spans (2 * e) 0 ≤ v → v ≤ getD spans (2 * e + 1) 0 → outside spans v e ≡ true → ⊥

@@ -1,10 +1,11 @@
 -- Spans of effect rows, while they are being found.
 use Prim.Native.Nat.{ℕ, _+_, _*_, _≤_, _<_}
+use mathlib.Core.Path.{_≡_}
 use mathlib.Core.List.{List}
 use lib.ListN.{length, getD}
 use Rattle.task.proofs.Trees.{EffectsDown}
 use Rattle.formula_builder.specs.declared.Frame.{Frame}
-use Rattle.conditions.specs.Conditions.{effect-rows, Untouched}
+use Rattle.conditions.specs.Conditions.{effect-rows, Untouched, Spans}
 use Rattle.spans.specs.declared.Span.{Span}
 
 -- what lies in s lies in r
@@ -34,3 +35,8 @@ pub record FindsSpan (frame : Frame) (effects spans : List ℕ) (i : ℕ) : Type
   pub finds : FindsSpans frame effects spans
   pub effect : i < frame .effects
   pub found : (d : ℕ) → d < i → SpanOf frame effects d (span-at spans d)
+
+-- All rows have theirs, and what lies behind them is as it was.
+pub record FoundSpans (frame : Frame) (effects before after : List ℕ) : Type 0 where
+  pub spans : Spans frame effects after
+  pub behind : (j : ℕ) → 2 * frame .effects ≤ j → getD after j 0 ≡ getD before j 0

@@ -6,8 +6,7 @@ use formula_builder::read_row;
 ghost use mathlib.Core.Path.{_≡_};
 ghost use Prim.Native.Nat.{_+_, _*_, _≤_};
 ghost use lib.ListN.{length};
-ghost use Rattle.conditions.specs.Conditions.{Spans};
-ghost use Rattle.spans.specs.Found.{span-at, SpanOf, FindsSpan, FindsSpans};
+ghost use Rattle.spans.specs.Found.{span-at, SpanOf, FindsSpan, FindsSpans, FoundSpans};
 
 // What stands for row i.
 fn read_span(spans: &[u16], i: usize) -> Span
@@ -47,10 +46,10 @@ fn span_of(effects: &[u16], spans: &[u16], i: usize, frame: Frame) -> Span
     }
 }
 
-// The spans of all rows. As many steps as there are effects.
+// The spans of all rows. The words behind them stay. As many steps as there are effects.
 pub fn find_spans(effects: &[u16], frame: Frame, spans: &mut [u16])
     requires { ⌜ FindsSpans frame (now effects) (now spans) ⌝ }
-    ensures { λ _. ⌜ Spans frame (now (effects .entry)) (now (spans .exit)) ⌝ }
+    ensures { λ _. ⌜ FoundSpans frame (now (effects .entry)) (now (spans .entry)) (now (spans .exit)) ⌝ }
 {
     let n = frame.effects;
     let mut i = 0;

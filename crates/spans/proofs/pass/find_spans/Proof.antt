@@ -10,7 +10,7 @@ use lib.ListN.{length, length-set}
 use Rattle.spans.proofs.Finds.{Finding, finding-none, finding-asks, finding-more, finding-all}
 
 abbrev Inv-loop : tie.InvT-loop
-Inv-loop effects frame spans₀ n i₀ spans i = (length spans ≡ length spans₀) × Finding frame effects i spans
+Inv-loop effects frame spans₀ n i₀ spans i = (length spans ≡ length spans₀) × Finding frame effects spans₀ i spans
 
 abbrev μ-loop : tie.MeasureT-loop
 μ-loop effects frame spans₀ n i₀ spans i = n - i

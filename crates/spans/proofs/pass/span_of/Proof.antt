@@ -19,7 +19,7 @@ cast-read-span c = search needs
 
 -- src/pass.rt:30:23
 read-span-requires : tie.Need-read-span-requires
-read-span-requires c κs = omega (arith, both-lower (c .before .before .before .before .before .before .args .frame) (c .before .before .before .before .before .before .args .effects .now) (c .before .before .before .before .before .before .args .spans .now) (c .before .before .before .before .before .before .args .i) (c .before .before .before .before .before .before .pre) (c .before .before .before .read-row .result) (c .before .before .before .read-row .ensures) (c .before .if1 .taken) .0, c .before .before .before .before .before .before .pre .finds .room, c .before .before .before .before .before .before .pre .effect)
+read-span-requires c κs = omega (arith, both-lower (c .before .before .before .before .before .before .args .frame) (c .before .before .before .before .before .before .args .effects .now) (c .before .before .before .before .before .before .args .spans .now) (c .before .before .before .before .before .before .pre .finds) (c .before .before .before .before .before .before .args .i) (c .before .before .before .before .before .before .pre .effect) (c .before .before .before .read-row .result) (c .before .before .before .read-row .ensures) (c .before .if1 .taken) .0, c .before .before .before .before .before .before .pre .finds .room, c .before .before .before .before .before .before .pre .effect)
 
 -- src/pass.rt:30:72
 cast-read-span-2 : tie.Need-cast-read-span-2
@@ -27,7 +27,7 @@ cast-read-span-2 c = search needs
 
 -- src/pass.rt:30:55
 read-span-requires-2 : tie.Need-read-span-requires-2
-read-span-requires-2 c κs = omega (arith, both-lower (c .before .before .before .before .before .before .before .before .args .frame) (c .before .before .before .before .before .before .before .before .args .effects .now) (c .before .before .before .before .before .before .before .before .args .spans .now) (c .before .before .before .before .before .before .before .before .args .i) (c .before .before .before .before .before .before .before .before .pre) (c .before .before .before .before .before .read-row .result) (c .before .before .before .before .before .read-row .ensures) (c .before .before .before .if1 .taken) .1, c .before .before .before .before .before .before .before .before .pre .finds .room, c .before .before .before .before .before .before .before .before .pre .effect)
+read-span-requires-2 c κs = omega (arith, both-lower (c .before .before .before .before .before .before .before .before .args .frame) (c .before .before .before .before .before .before .before .before .args .effects .now) (c .before .before .before .before .before .before .before .before .args .spans .now) (c .before .before .before .before .before .before .before .before .pre .finds) (c .before .before .before .before .before .before .before .before .args .i) (c .before .before .before .before .before .before .before .before .pre .effect) (c .before .before .before .before .before .read-row .result) (c .before .before .before .before .before .read-row .ensures) (c .before .before .before .if1 .taken) .1, c .before .before .before .before .before .before .before .before .pre .finds .room, c .before .before .before .before .before .before .before .before .pre .effect)
 
 -- src/pass.rt:30:9
 joined-requires : tie.Need-joined-requires
@@ -43,7 +43,7 @@ cast-read-span-3 c = search needs
 
 -- src/pass.rt:33:9
 read-span-requires-3 : tie.Need-read-span-requires-3
-read-span-requires-3 c κs = omega (arith, under-lower (c .before .before .before .before .before .before .before .before .args .frame) (c .before .before .before .before .before .before .before .before .args .effects .now) (c .before .before .before .before .before .before .before .before .args .spans .now) (c .before .before .before .before .before .before .before .before .args .i) (c .before .before .before .before .before .before .before .before .pre) (c .before .before .before .before .before .read-row .result) (c .before .before .before .before .before .read-row .ensures) (c .before .if2 .taken), c .before .before .before .before .before .before .before .before .pre .finds .room, c .before .before .before .before .before .before .before .before .pre .effect)
+read-span-requires-3 c κs = omega (arith, under-lower (c .before .before .before .before .before .before .before .before .args .frame) (c .before .before .before .before .before .before .before .before .args .effects .now) (c .before .before .before .before .before .before .before .before .args .spans .now) (c .before .before .before .before .before .before .before .before .pre .finds) (c .before .before .before .before .before .before .before .before .args .i) (c .before .before .before .before .before .before .before .before .pre .effect) (c .before .before .before .before .before .read-row .result) (c .before .before .before .before .before .read-row .ensures) (c .before .if2 .taken), c .before .before .before .before .before .before .before .before .pre .finds .room, c .before .before .before .before .before .before .before .before .pre .effect)
 
 -- src/pass.rt:33:9
 returns-2 : tie.Need-returns-2

@@ -1,0 +1,281 @@
+-- The notes stay right while the state grows and while conditions are kept in them. Assumes nothing.
+use Prim.Native.Nat.{ℕ, zero, suc, _+_, _-_, _*_, _≤_, _<_}
+use native.Mathlib.Omega.{arith}
+use native.Mathlib.Decide.{ℕ-discrete}
+use native.Mathlib.Nat.{mul-le-mul}
+use mathlib.Core.Path.{_≡_, refl, sym, ap, ap₂, _∙_}
+use mathlib.Core.Bool.{Bool, true, false, cond}
+use mathlib.Core.List.{List}
+use lib.ListN.{length, getD, set, length-set}
+use lib.Seq.{getD-set-same, getD-set-other}
+use mir.Val.{boolByte}
+use Rattle.normal_form.specs.Builder.{St, Build}
+use Rattle.normal_form.specs.Growth.{Grows, Steady}
+use Rattle.normal_form.proofs.Steady.{steady-condition}
+use Rattle.formula_builder.specs.declared.Frame.{Frame}
+use Rattle.formula_builder.specs.declared.Size.{Size}
+use Rattle.formula_builder.specs.declared.Step.{Step}
+use Rattle.formula_builder.specs.Held.{Store, side, Builds}
+use Rattle.images.specs.Images.{Known, noted}
+use Rattle.images.proofs.Memos.{known-grows}
+use Rattle.conditions.specs.declared.Target.{Target}
+use Rattle.conditions.specs.Conditions.{atom-of, effect-tree, condition-at, outside, Spans, column, kept-place, Columns, Kept, Noted, Looks, KeptAt, Recalls, Keeps, Asks}
+
+pub steady-condition-at :
+    (frame : Frame) (formulas effects : List ℕ) (t : Target) (e : ℕ) → Steady (condition-at frame formulas effects t e)
+unfolding condition-at
+steady-condition-at frame formulas effects t e =
+    steady-condition (frame .variables) (side (t .negated)) (atom-of t) (effect-tree frame formulas effects e)
+
+pub noted-grows :
+    {frame : Frame} {formulas effects notes : List ℕ} {s s' : St}
+    → Grows s s'
+    → Noted frame formulas effects notes s
+    → Noted frame formulas effects notes s'
+noted-grows {frame} {formulas} {effects} g n =
+    record {
+      spanned = n .spanned;
+      columns = n .columns;
+      kept =
+          record {
+            known = λ t e r h v p c w. known-grows (steady-condition-at frame formulas effects t e) g (n .kept .known t e r h v p c w);
+          };
+    }
+
+behind : (a b : ℕ) → a ≤ a + b
+behind a b = omega arith
+
+-- no row has a column
+pub columns-blank :
+    (frame : Frame) (notes : List ℕ)
+    → 3 * frame .effects ≤ length notes
+    → ((e : ℕ) → e < frame .effects → getD notes (2 * frame .effects + e) 0 ≡ 0)
+    → Columns frame notes
+unfolding column
+columns-blank frame notes words blank =
+    record { words = words; apart = λ d e g h c q. absurd (omega (arith, blank e h, c)) }
+
+-- nothing is kept
+pub noted-blank :
+    {frame : Frame} {effects notes : List ℕ} (formulas : List ℕ) (s : St)
+    → Spans frame effects notes
+    → Columns frame notes
+    → ((j : ℕ) → 3 * frame .effects ≤ j → getD notes j 0 ≡ 0)
+    → Noted frame formulas effects notes s
+unfolding kept-place
+noted-blank {frame} {effects} {notes} formulas s spanned columns blank =
+    record {
+      spanned = spanned;
+      columns = columns;
+      kept =
+          record {
+            known = λ t e r h v p c w.
+                absurd
+                (impossible r
+                (sym
+                (blank
+                (3 * frame .effects + (column frame notes e * (2 * frame .variables) + (2 * t .variable + cond (t .clear) 1 0)))
+                (behind (3 * frame .effects) _))
+                ∙ w));
+          };
+    }
+  where
+    impossible : (r : ℕ) → 0 ≡ r + 1 → ⊥
+    impossible r q = omega (arith, q)
+
+-- what is looked up or kept asks
+pub looks :
+    {frame : Frame} {formulas effects notes notes' : List ℕ} {t : Target} {at : Size} {before : Store} {scratch : List ℕ} {e : ℕ}
+    → Asks frame formulas effects notes t at before scratch e
+    → length notes' ≡ length notes
+    → Looks frame notes' e
+looks a long =
+    record {
+      words = omega (arith, a .noted .columns .words, long);
+      limit = a .effect-source .limit;
+      variables = omega (arith, a .ready .variables);
+      effect = a .effect;
+    }
+
+-- a row that was built fits a word
+pub small-row :
+    {m : Build ℕ} {frame : Frame} {at : Size} {before after : Store} {r : Step}
+    → Builds m frame at before after r
+    → r .full ≡ false
+    → r .row < 4096
+small-row b q =
+    let d = b .done q in
+    omega (arith, d .below, d .ready .rows .within, d .ready .rows .limit)
+
+-- a place fits a word of the machine
+pub place-small : (c n : ℕ) → c < 65536 → n ≤ 512 → c * (2 * n) ≤ 67107840
+place-small c n h g = mul-le-mul {n₂ = 65535} {m₂ = 1024} (omega arith) (omega arith)
+
+pub byte-small : (b : Bool) → boolByte b ≤ 1
+byte-small true = omega arith
+byte-small false = omega arith
+
+byte-is : (b : Bool) → boolByte b ≡ cond b 1 0
+byte-is true = refl
+byte-is false = refl
+
+pub place-found :
+    (frame : Frame) (notes : List ℕ) (t : Target) (e k : ℕ)
+    → (getD notes (2 * frame .effects + e) 0 ≡ 0 → ⊥)
+    → t .negated ≡ false
+    → t .variable < frame .variables
+    → k
+    ≡ 3 * frame .effects
+    + (getD notes (2 * frame .effects + e) 0 * (2 * frame .variables) + (2 * t .variable + boolByte (t .clear)))
+    → k < length notes
+    → KeptAt frame notes t e k
+unfolding column kept-place
+place-found frame notes t e k c p v q w =
+    record {
+      plain = p;
+      variable = v;
+      has-column = omega (arith, c);
+      place =
+          q
+          ∙ ap
+          (λ x. 3 * frame .effects + (getD notes (2 * frame .effects + e) 0 * (2 * frame .variables) + (2 * t .variable + x)))
+          (byte-is (t .clear));
+      within = w;
+    }
+
+pub place-none : (frame : Frame) (notes : List ℕ) (t : Target) (e : ℕ) → 0 < 0 → KeptAt frame notes t e 0
+place-none frame notes t e h = absurd (omega (arith, h))
+
+-- Two columns have no word in common, nor two atoms in one column.
+quotients : (n c d a b : ℕ) → a < n → b < n → c * n + a ≡ d * n + b → (c ≡ d) × (a ≡ b)
+quotients n zero zero a b g h q = (refl, omega (arith, q))
+quotients n zero (suc d) a b g h q = absurd (omega (arith, q, g))
+quotients n (suc c) zero a b g h q = absurd (omega (arith, q, h))
+quotients n (suc c) (suc d) a b g h q =
+    let x = quotients n c d a b g h (omega (arith, q)) in
+    (ap suc (x .0), x .1)
+
+atoms : (v w : ℕ) (a b : Bool) → 2 * v + cond a 1 0 ≡ 2 * w + cond b 1 0 → (v ≡ w) × (a ≡ b)
+atoms v w true true q = (omega arith, refl)
+atoms v w false false q = (omega arith, refl)
+atoms v w true false q = absurd (omega (arith, q))
+atoms v w false true q = absurd (omega (arith, q))
+
+atom-within : (n v : ℕ) (a : Bool) → v < n → 2 * v + cond a 1 0 < 2 * n
+atom-within n v true h = omega arith
+atom-within n v false h = omega arith
+
+cancel : (a b c : ℕ) → a + b ≡ a + c → b ≡ c
+cancel a b c q = omega (arith, q)
+
+-- One word is kept for one column and one atom.
+places-apart :
+    (frame : Frame) (c d : ℕ) (t u : Target)
+    → t .variable < frame .variables
+    → u .variable < frame .variables
+    → kept-place frame c t ≡ kept-place frame d u
+    → (c ≡ d) × (t .variable ≡ u .variable) × (t .clear ≡ u .clear)
+unfolding kept-place
+places-apart frame c d t u g h q =
+    let x =
+    quotients (2 * frame .variables) c d (2 * t .variable + cond (t .clear) 1 0) (2 * u .variable + cond (u .clear) 1 0)
+    (atom-within (frame .variables) (t .variable) (t .clear) g) (atom-within (frame .variables) (u .variable) (u .clear) h)
+    (cancel (3 * frame .effects) _ _ q) in
+    let y = atoms (t .variable) (u .variable) (t .clear) (u .clear) (x .1) in
+    (x .0, y .0, y .1)
+
+same-condition :
+    (frame : Frame) (formulas effects : List ℕ) (t u : Target) (d e : ℕ)
+    → t .negated ≡ u .negated
+    → t .variable ≡ u .variable
+    → t .clear ≡ u .clear
+    → d ≡ e
+    → condition-at frame formulas effects t d ≡ condition-at frame formulas effects u e
+unfolding condition-at
+same-condition frame formulas effects t u d e n v c q = rw (n, v, c, q)
+
+-- The word of target t and row e.
+module _ {frame : Frame} {notes : List ℕ} {t : Target} {e k : ℕ} (h : e < frame .effects) (p : KeptAt frame notes t e k) where
+  beyond : 3 * frame .effects ≤ k
+  unfolding kept-place
+  beyond = rw (p .place) (behind (3 * frame .effects) (column frame notes e * (2 * frame .variables) + (2 * t .variable + cond (t .clear) 1 0)))
+
+  -- no span and no column is that word
+  earlier : (x j : ℕ) → j < 3 * frame .effects → getD (set notes k x) j 0 ≡ getD notes j 0
+  earlier x j g = getD-set-other notes k j x 0 (λ q. omega (arith, beyond, q, g))
+
+  same-column : (x d : ℕ) → d < frame .effects → column frame (set notes k x) d ≡ column frame notes d
+  unfolding column
+  same-column x d g = earlier x (2 * frame .effects + d) (omega arith)
+
+  same-outside : (x v d : ℕ) → d < frame .effects → outside (set notes k x) v d ≡ outside notes v d
+  unfolding outside
+  same-outside x v d g = rw (earlier x (2 * d) (omega arith), earlier x (2 * d + 1) (omega arith))
+
+  module _ (formulas effects : List ℕ) (s : St) (r : ℕ) (now : Known (condition-at frame formulas effects t e) s r) (n : Noted frame formulas effects notes s) where
+    -- what is read from a word of the notes with r
+    read-back :
+        (u : Target) (d x : ℕ)
+        → d < frame .effects
+        → u .variable < frame .variables
+        → u .negated ≡ false
+        → 0 < column frame notes d
+        → Dec (kept-place frame (column frame notes d) u ≡ k)
+        → getD (set notes k (r + 1)) (kept-place frame (column frame notes d) u) 0 ≡ x + 1
+        → Known (condition-at frame formulas effects u d) s x
+    read-back u d x g v m c (no other) w =
+        n .kept .known u d x g v m c
+        (sym (getD-set-other notes k (kept-place frame (column frame notes d) u) (r + 1) 0 other) ∙ w)
+    read-back u d x g v m c (yes same) w =
+        let z = places-apart frame (column frame notes d) (column frame notes e) u t v (p .variable) (same ∙ p .place) in
+        let row : d ≡ e = n .columns .apart d e g h (p .has-column) (z .0) in
+        let there : getD (set notes k (r + 1)) (kept-place frame (column frame notes d) u) 0 ≡ r + 1 =
+        rw same (getD-set-same notes k (r + 1) 0 (p .within)) in
+        let value : x ≡ r = omega (arith, there, w) in
+        rw (same-condition frame formulas effects u t d e (m ∙ sym (p .plain)) (z .1) (z .2) row, value) now
+
+    kept-noted : Noted frame formulas effects (set notes k (r + 1)) s
+    kept-noted =
+        record {
+          spanned =
+              record {
+                words = rw (length-set notes k (r + 1)) (n .spanned .words);
+                alone = λ f v d g q. n .spanned .alone f v d g (sym (same-outside (r + 1) v d g) ∙ q);
+              };
+          columns =
+              record {
+                words = rw (length-set notes k (r + 1)) (n .columns .words);
+                apart = λ d f g i c q.
+                    n .columns .apart d f g i (rw (same-column (r + 1) f i) at c)
+                    (sym (same-column (r + 1) d g) ∙ q ∙ same-column (r + 1) f i);
+              };
+          kept =
+              record {
+                known = λ u d x g v m c w.
+                    let same = same-column (r + 1) d g in
+                    read-back u d x g v m (rw same at c) (ℕ-discrete (kept-place frame (column frame notes d) u) k)
+                    (rw same at w);
+              };
+        }
+
+  pub recall-kept : Recalls frame notes t e (getD notes k 0)
+  recall-kept =
+      record {
+        known = λ formulas effects s n w.
+            n .kept .known t e (getD notes k 0 - 1) h (p .variable) (p .plain) (p .has-column)
+            (ap (λ j. getD notes j 0) (sym (p .place)) ∙ omega (arith, w));
+      }
+
+  pub keep-kept : (r : Step) → Keeps frame notes (noted notes k r) t e r
+  keep-kept r = go (r .full)
+    where
+      go : (b : Bool) → Keeps frame notes (cond b notes (set notes k (r .row + 1))) t e r
+      go true = record { noted = λ formulas effects s now n. n }
+      go false = record { noted = λ formulas effects s now n. kept-noted formulas effects s (r .row) now n }
+
+-- no word
+pub recall-none : (frame : Frame) (notes : List ℕ) (t : Target) (e : ℕ) → Recalls frame notes t e 0
+recall-none frame notes t e = record { known = λ formulas effects s n w. absurd (omega (arith, w)) }
+
+pub keep-none : (frame : Frame) (notes : List ℕ) (t : Target) (e : ℕ) (r : Step) → Keeps frame notes notes t e r
+keep-none frame notes t e r = record { noted = λ formulas effects s now n. n }

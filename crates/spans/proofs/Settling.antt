@@ -1,0 +1,246 @@
+-- One more row in the pass that finds columns. Assumes nothing.
+use Prim.Native.Nat.{ℕ, _+_, _*_, _≤_, _<_}
+use native.Mathlib.Omega.{arith}
+use native.Mathlib.Decide.{decLt}
+use mathlib.Core.Path.{_≡_, refl, sym, ap, _∙_}
+use mathlib.Core.Bool.{true}
+use mathlib.Core.List.{List}
+use lib.ListN.{length, getD, set, length-set}
+use lib.Seq.{getD-set-same, getD-set-other}
+use Rattle.task.specs.Table.{Row, row-at}
+use Rattle.formula_builder.specs.declared.Words.{Words}
+use Rattle.formula_builder.specs.declared.Frame.{Frame}
+use Rattle.formula_builder.specs.Held.{row-of}
+use Rattle.conditions.specs.Conditions.{column, Columns, outside, Spans}
+use Rattle.spans.specs.Columns.{Elsewhere, Meets, HandsOn, FindsRoots, FindsColumns, Settles, Settled, FoundColumns}
+use Rattle.spans.proofs.Finds.{both-lower, under-lower}
+
+-- Nothing is written, a word is written, one pass after another.
+pub elsewhere-none : (frame : Frame) (i : ℕ) (notes : List ℕ) → Elsewhere frame i notes notes
+elsewhere-none frame i notes = record { before = λ j h. refl; behind = λ j h. refl }
+
+pub elsewhere-set :
+    (frame : Frame) (i e x : ℕ) (notes : List ℕ)
+    → e < i
+    → Elsewhere frame i notes (set notes (2 * frame .effects + e) x)
+elsewhere-set frame i e x notes b =
+    record {
+      before = λ j h. getD-set-other notes (2 * frame .effects + e) j x 0 (λ z. omega arith);
+      behind = λ j h. getD-set-other notes (2 * frame .effects + e) j x 0 (λ z. omega arith);
+    }
+
+pub elsewhere-then :
+    {frame : Frame} {d e i : ℕ} {a b c : List ℕ}
+    → d ≤ i
+    → e ≤ i
+    → Elsewhere frame d a b
+    → Elsewhere frame e b c
+    → Elsewhere frame i a c
+elsewhere-then {frame} {d} {e} {i} {a} {b} {c} l r x y =
+    record {
+      before = λ j h. y .before j h ∙ x .before j h;
+      behind = λ j h. y .behind j (omega arith) ∙ x .behind j (omega arith);
+    }
+
+pub elsewhere-more :
+    {frame : Frame} {e i : ℕ} {a b : List ℕ} → e ≤ i → Elsewhere frame e a b → Elsewhere frame i a b
+elsewhere-more {frame} {e} {i} {a} {b} l x = record { before = x .before; behind = λ j h. x .behind j (omega arith) }
+
+-- a lower row has a word, too
+pub meets-lower :
+    {frame : Frame} {first notes : List ℕ} {i e : ℕ}
+    → Meets frame first i
+    → length notes ≡ length first
+    → e < i
+    → Meets frame notes e
+meets-lower m long b =
+    record { limit = m .limit; room = omega (arith, m .room); effect = omega (arith, m .effect) }
+
+-- and the effect of operator k, with the words r
+pub meets-root :
+    (frame : Frame) (operators first notes : List ℕ) (count k : ℕ) (r : Words)
+    → FindsRoots frame operators count first
+    → length notes ≡ length first
+    → k < count
+    → row-of r ≡ row-at operators k
+    → Meets frame notes (r .a)
+meets-root frame operators first notes count k r f long h q =
+    record {
+      limit = f .limit;
+      room = omega (arith, f .room);
+      effect = omega (arith, f .effect k h, ap (λ (w : Row). w .a) q);
+    }
+
+pub hands-on :
+    (frame : Frame) (effects notes : List ℕ) (i last : ℕ) (r : Words)
+    → Settles frame effects notes i last
+    → row-of r ≡ row-at effects i
+    → HandsOn frame notes i r
+hands-on frame effects notes i last r s q =
+    record {
+      meets = record { limit = s .finds .limit; room = s .room; effect = s .effect };
+      both = both-lower frame effects notes (s .finds) i (s .effect) r q;
+      under = under-lower frame effects notes (s .finds) i (s .effect) r q;
+    }
+
+-- Row i gets the word x, and r is the last column.
+pub settled-by :
+    (frame : Frame) (i last x r : ℕ) (notes mid : List ℕ)
+    → 2 * frame .effects + i < length mid
+    → Elsewhere frame i notes mid
+    → last ≤ r
+    → r ≤ last + 1
+    → x ≤ r
+    → (0 < x → last < x)
+    → Settled frame i last notes (set mid (2 * frame .effects + i) x) r
+unfolding column
+settled-by frame i last x r notes mid there e grows once within fresh =
+    let here : getD (set mid (2 * frame .effects + i) x) (2 * frame .effects + i) 0 ≡ x =
+    getD-set-same mid (2 * frame .effects + i) x 0 there in
+    record {
+      elsewhere = elsewhere-then (omega arith) (omega arith) e (elsewhere-set frame (i + 1) i x mid (omega arith));
+      grows = grows;
+      once = once;
+      within = rw here within;
+      fresh = rw here fresh;
+    }
+
+-- The loop's invariant: the rows from i on have their columns, up to the last one.
+pub record Settling (frame : Frame) (first : List ℕ) (i last : ℕ) (notes : List ℕ) : Type 0 where
+  pub long : length notes ≡ length first
+  pub elsewhere : Elsewhere frame (frame .effects) first notes
+  pub few : last + i ≤ frame .effects
+  pub within : (e : ℕ) → i ≤ e → e < frame .effects → column frame notes e ≤ last
+  pub apart :
+      (d e : ℕ)
+      → i ≤ d
+      → i ≤ e
+      → d < frame .effects
+      → e < frame .effects
+      → 0 < column frame notes e
+      → column frame notes d ≡ column frame notes e
+      → d ≡ e
+
+pub settling-none : (frame : Frame) (notes : List ℕ) → Settling frame notes (frame .effects) 0 notes
+settling-none frame notes =
+    record {
+      long = refl;
+      elsewhere = elsewhere-none frame (frame .effects) notes;
+      few = omega arith;
+      within = λ e h b. absurd (omega arith);
+      apart = λ d e h g b c p q. absurd (omega arith);
+    }
+
+pub settling-asks :
+    {frame : Frame} {effects operators entry first notes : List ℕ} {count i k last : ℕ}
+    → i ≡ k + 1
+    → FindsColumns frame effects operators count entry
+    → length first ≡ length entry
+    → Settling frame first i last notes
+    → Settles frame effects notes k last
+settling-asks {frame} {effects} {operators} {entry} {first} {notes} {count} {i} {k} {last} n a long x =
+    record {
+      finds = record {
+        words = a .finds .words;
+        limit = a .finds .limit;
+        down = a .finds .down;
+        room = omega (arith, a .finds .room, x .long);
+      };
+      room = omega (arith, a .roots .room, x .long);
+      effect = omega (arith, x .few);
+      given = omega (arith, x .few, a .finds .limit);
+    }
+
+kept-column :
+    (frame : Frame) (k e : ℕ) (notes notes' : List ℕ)
+    → Elsewhere frame (k + 1) notes notes'
+    → k < e
+    → column frame notes' e ≡ column frame notes e
+unfolding column
+kept-column frame k e notes notes' x h = x .behind (2 * frame .effects + e) (omega arith)
+
+-- Row k, the one before row i, has its column.
+pub settling-more :
+    {frame : Frame} {first notes notes' : List ℕ} {i k last r : ℕ}
+    → i ≡ k + 1
+    → length notes' ≡ length notes
+    → Settling frame first i last notes
+    → Settled frame k last notes notes' r
+    → Settling frame first k r notes'
+settling-more {frame} {first} {notes} {notes'} {i} {k} {last} {r} n long x s =
+    record {
+      long = long ∙ x .long;
+      elsewhere = elsewhere-then {d = frame .effects} {e = k + 1} (omega arith) (omega (arith, x .few)) (x .elsewhere) (s .elsewhere);
+      few = omega (arith, x .few, s .once);
+      within = λ e h b. most e h b (decLt k e);
+      apart = λ d e h g b c p q. same d e h g b c p q (decLt k d) (decLt k e);
+    }
+  where
+    stays : (e : ℕ) → k < e → column frame notes' e ≡ column frame notes e
+    stays e h = kept-column frame k e notes notes' (s .elsewhere) h
+
+    old : (e : ℕ) → k < e → e < frame .effects → column frame notes' e ≤ last
+    old e h b = rw (stays e h) (x .within e (omega arith) b)
+
+    most : (e : ℕ) → k ≤ e → e < frame .effects → Dec (k < e) → column frame notes' e ≤ r
+    most e h b (yes l) = omega (arith, old e l b, s .grows)
+    most e h b (no l) =
+        let q : e ≡ k = omega arith in
+        rw q (s .within)
+
+    same :
+        (d e : ℕ)
+        → k ≤ d
+        → k ≤ e
+        → d < frame .effects
+        → e < frame .effects
+        → 0 < column frame notes' e
+        → column frame notes' d ≡ column frame notes' e
+        → Dec (k < d)
+        → Dec (k < e)
+        → d ≡ e
+    same d e h g b c p q (yes l) (yes m) =
+        x .apart d e (omega arith) (omega arith) b c (rw (stays e m) at p) (sym (stays d l) ∙ q ∙ stays e m)
+    same d e h g b c p q (yes l) (no m) =
+        let z : e ≡ k = omega arith in
+        absurd (omega (arith, old d l b, s .fresh (rw z at p), ap (column frame notes') z, q))
+    same d e h g b c p q (no l) (yes m) =
+        let z : d ≡ k = omega arith in
+        let w : column frame notes' k ≡ column frame notes' e = ap (column frame notes') (sym z) ∙ q in
+        absurd (omega (arith, old e m c, s .fresh (omega (arith, w, p)), w))
+    same d e h g b c p q (no l) (no m) = omega arith
+
+-- all rows have theirs, behind the pass over the operators
+pub settling-all :
+    {frame : Frame} {effects operators entry first notes : List ℕ} {count i last : ℕ}
+    → i ≤ 0
+    → FindsColumns frame effects operators count entry
+    → length first ≡ length entry
+    → Elsewhere frame (frame .effects) entry first
+    → Settling frame first i last notes
+    → FoundColumns frame entry notes
+settling-all n a long w x =
+    record {
+      columns = record {
+        words = omega (arith, a .roots .room, x .long);
+        apart = λ d e b c p q. x .apart d e (omega arith) (omega arith) b c p q;
+      };
+      elsewhere = elsewhere-then (omega arith) (omega arith) w (x .elsewhere);
+    }
+
+-- and the spans stay
+pub spans-stay :
+    (frame : Frame) (effects notes notes' : List ℕ)
+    → length notes' ≡ length notes
+    → Elsewhere frame (frame .effects) notes notes'
+    → Spans frame effects notes
+    → Spans frame effects notes'
+unfolding outside
+spans-stay frame effects notes notes' long x s =
+    record {
+      words = omega (arith, s .words);
+      alone = λ formulas v e b o. s .alone formulas v e b (same v e b o);
+    }
+  where
+    same : (v e : ℕ) → e < frame .effects → outside notes' v e ≡ true → outside notes v e ≡ true
+    same v e b o = rw (x .before (2 * e) (omega arith), x .before (2 * e + 1) (omega arith)) at o
