@@ -1,5 +1,5 @@
 -- A source that passes, as the code's passes see it. Assumes nothing.
-use Prim.Native.Nat.{ℕ, zero, suc, _+_, _≤_, _<_}
+use Prim.Native.Nat.{ℕ, zero, suc, _+_, _*_, _≤_, _<_}
 use native.Mathlib.Omega.{arith}
 use mathlib.Core.Path.{_≡_, refl, sym, ap, ap₂, _∙_}
 use mathlib.Core.List.{List, [], _∷_, _++_}
@@ -28,7 +28,7 @@ use Rattle.building.proofs.Begun.{taken-none}
 use Rattle.building.proofs.Parts.{made-here, same-state, same-value, same-operators-made}
 use Rattle.assembling.specs.Assembles.{assembled-in}
 use Rattle.filling.specs.declared.Passes.{Passes}
-use Rattle.filling.specs.Fills.{Tables, room-of, frame-of, Begins, Starts, Ends, Fills}
+use Rattle.filling.specs.Fills.{Tables, room-of, frame-of, Begins, BeginsSmall, Owns, Starts, Ends, Fills}
 use Rattle.filling.proofs.Recalled.{recalled, made-more}
 
 zero-at : (n j : ℕ) → _≡_ {A = ℕ} (getD (replicate n 0) j 0) 0
@@ -158,36 +158,47 @@ module _ (l : Lent) (rows twins : ℕ) (passes : refusal l ≡ 0) where
   effects-down : EffectsDown (l .head .variables) (l .head .formulas) (effect-rows (frame-of (l .head) rows twins) (l .effects))
   effects-down = rw its-effects at (rw (length-formulas l) at (rw its-variables at (rules-effects t source)))
 
-  -- the spans are found in a table of their own
-  pub finds : FindsSpans (frame-of (l .head) rows twins) (l .effects) (replicate 8192 0)
-  finds =
-      record {
-        words = long .effects;
-        limit = effects-limit;
-        down = effects-down;
-        room = omega (arith, effects-limit, length-replicate {A = ℕ} 8192 0);
-      }
-
   -- What the parts ask.
-  module _ (effects : ℕ) (x : Tables) (b : Begins l rows twins effects x) where
-    -- with a table of 0 in which rows are built, and one for records
-    pub starts :
-        {spans : List ℕ}
-        → Spans (frame-of (l .head) rows twins) (l .effects) spans
-        → Starts l rows twins effects x spans (replicate 20480 0) (replicate 6912 0)
-    starts s =
+  module _ (effects : ℕ) (x : Tables) where
+    -- with tables of 0 of its own: for spans, for rows and their index, for records
+    owns :
+        (spans built : ℕ)
+        → Begins l rows twins effects x
+        → 2 * l .head .effects ≤ spans
+        → 20480 ≤ built
+        → Owns l rows twins effects x (replicate spans 0) (replicate built 0) (replicate 6912 0)
+    owns spans built b s h =
         record {
           begins = b;
-          spanned = s;
+          spans-space = omega (arith, length-replicate {A = ℕ} spans 0);
           fresh =
               record {
-                room = omega (arith, length-replicate {A = ℕ} 20480 0);
+                room = omega (arith, length-replicate {A = ℕ} built 0);
                 limit = b .lends .rows-limit;
-                blank = zero-at 20480;
+                blank = zero-at built;
               };
           space = omega (arith, length-replicate {A = ℕ} 6912 0);
         }
 
+    pub owns-large :
+        Begins l rows twins effects x
+        → Owns l rows twins effects x (replicate 8192 0) (replicate 20480 0) (replicate 6912 0)
+    owns-large b = owns 8192 20480 b (omega (arith, effects-limit)) (omega arith)
+
+    pub owns-small :
+        BeginsSmall l rows twins effects x
+        → Owns l rows twins effects x (replicate 1024 0) (replicate 20480 0) (replicate 6912 0)
+    owns-small b = owns 1024 20480 (b .begins) (omega (arith, b .few-effects)) (omega arith)
+
+    module _ {spans built records : List ℕ} (o : Owns l rows twins effects x spans built records) where
+      pub finds : FindsSpans (frame-of (l .head) rows twins) (l .effects) spans
+      finds = record { words = long .effects; limit = effects-limit; down = effects-down; room = o .spans-space }
+
+      -- with the spans that were found
+      pub starts : {found : List ℕ} → Spans (frame-of (l .head) rows twins) (l .effects) found → Starts l rows twins effects x found built records
+      starts s = record { begins = o .begins; spanned = s; fresh = o .fresh; space = o .space }
+
+  module _ (effects : ℕ) (x : Tables) (b : Begins l rows twins effects x) where
     blank-is : Blank (frame-of (l .head) rows twins) (l .formulas) (l .effects) (x .twins) (x .scratch)
     blank-is =
         record {

@@ -73,6 +73,19 @@ pub record Begins (l : Lent) (rows twins effects : ℕ) (x : Tables) : Type 0 wh
   pub blank-twins : x .twins ≡ replicate (length (x .twins)) 0
   pub blank-scratch : x .scratch ≡ replicate (length (x .scratch)) 0
 
+-- All tables are 0, and few rows and effects are asked for.
+pub record BeginsSmall (l : Lent) (rows twins effects : ℕ) (x : Tables) : Type 0 where
+  pub begins : Begins l rows twins effects x
+  pub few-rows : rows ≤ 512
+  pub few-effects : l .head .effects ≤ 512
+
+-- All tables are 0, and the one in which rows are built; there is room for the spans of the effect rows, and for records.
+pub record Owns (l : Lent) (rows twins effects : ℕ) (x : Tables) (spans built records : List ℕ) : Type 0 where
+  pub begins : Begins l rows twins effects x
+  pub spans-space : 2 * l .head .effects ≤ length spans
+  pub fresh : Fresh (frame-of (l .head) rows twins) built
+  pub space : 6912 ≤ length records
+
 -- All tables are 0, and the one in which rows are built; the spans of the effect rows are known, and there is room for records.
 pub record Starts (l : Lent) (rows twins effects : ℕ) (x : Tables) (spans built records : List ℕ) : Type 0 where
   pub begins : Begins l rows twins effects x
