@@ -1,22 +1,22 @@
 -- Filling at its size: what it asks, and the small try said of the whole. Assumes nothing.
-use Prim.Native.Nat.{ℕ, zero, suc, _+_, _-_, _*_, _/_, _≤_, _<_}
+use Prim.Native.Nat.{ℕ, zero, suc, _+_, _-_, _*_, _/_, _≤_}
 use native.Mathlib.Omega.{arith}
 use mathlib.Core.Path.{_≡_, refl, sym, ap, ap₂, _∙_}
-use mathlib.Core.Bool.{Bool, true, false, true≢false}
-use mathlib.Core.List.{List, [], _∷_, _++_, append-assoc}
-use lib.ListN.{length, take, drop, replicate, length-replicate, replicate-append-replicate}
+use mathlib.Core.Bool.{false, true≢false}
+use mathlib.Core.List.{List, _∷_, _++_, append-assoc}
+use lib.ListN.{length, take, drop, replicate, replicate-append-replicate}
 use lib.Seq.{length-take-le}
 use Rattle.task.specs.Table.{Lent, task-of}
 use Rattle.task.specs.Words.{words-of, operator-words}
 use Rattle.task.proofs.Words.{length-words}
 use Rattle.normal_form.specs.Finished.{finished}
-use Rattle.normal_form.specs.Compiled.{Room, Fits, padded}
+use Rattle.normal_form.specs.Compiled.{Room, padded}
 use Rattle.normal_form.proofs.Compiled.{length-padded}
 use Rattle.normal_form.proofs.Padded.{padded-over}
 use Rattle.filling.specs.declared.Passes.{Passes}
-use Rattle.filling.specs.Fills.{Tables, room-of, Begins, BeginsSmall, Holds, Fills}
-use Rattle.compiler.specs.Left.{Blanked, Passed, Roomy, Tries, Least, MostTwins}
-use Rattle.compiler.proofs.Ways.{blanked-as, same-room, blanked-self}
+use Rattle.filling.specs.Fills.{Tables, room-of, Begins, BeginsSmall, Fills}
+use Rattle.compiler.specs.Left.{Blanked, Roomy, Tries, Least, MostTwins}
+use Rattle.compiler.proofs.Ways.{same-room, blanked-self}
 
 pub most-twins :
     {variables values originals least r : ℕ}
