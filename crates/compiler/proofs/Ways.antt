@@ -1,5 +1,5 @@
 -- The ways out of compiling. Assumes nothing.
-use Prim.Native.Nat.{ℕ, zero, suc, _+_, _-_, _*_, _/_, _≤_, _<_}
+use Prim.Native.Nat.{ℕ, zero, suc, _+_, _-_, _*_, _≤_, _<_}
 use native.Mathlib.Omega.{arith}
 use mathlib.Core.Path.{_≡_, refl, sym, ap, _∙_}
 use mathlib.Core.Bool.{true, false}
@@ -19,10 +19,10 @@ use Rattle.normal_form.proofs.ShapeAssembled.{assemble-effects}
 use Rattle.normal_form.proofs.ShapeFinished.{finished-operators}
 use Rattle.normal_form.proofs.ShapePassed.{finished-variables}
 use Rattle.filling.specs.declared.Passes.{Passes}
-use Rattle.filling.specs.Fills.{Tables, room-of, Begins, head-after, Fills}
+use Rattle.filling.specs.Fills.{Tables, room-of, head-after, Fills}
 use Rattle.filling.proofs.Linked.{source, its-variables}
 use Rattle.compiler.specs.declared.CompileAnswer.the-variants.{Compiled, Refused}
-use Rattle.compiler.specs.Left.{left, Blanked, Passed, Least}
+use Rattle.compiler.specs.Left.{left, Blanked, Passed}
 
 -- tables as long are cleared alike
 pub blanked-as : {x y z : Tables} → room-of y ≡ room-of x → Blanked y z → Blanked x z
@@ -113,49 +113,6 @@ module _ (l : Lent) (x : Tables) where
 
     pub few-variables : l .head .variables ≤ 512
     few-variables = omega (arith, source l 0 0 (p .passes) .limits .variables, its-variables l 0 0 (p .passes))
-
-    pub begins :
-        (rows twins effects : ℕ)
-        → l .head .variables ≤ length (x .initial)
-        → l .head .variables ≤ 512
-        → 3 * l .head .operators ≤ length (x .operators)
-        → 3 ≤ length (x .effects)
-        → Least 4096 (length (x .formulas) / 3) rows
-        → (least : ℕ)
-        → Least (length (x .twins)) (length (x .initial) - l .head .variables) least
-        → Least (512 - l .head .variables) least twins
-        → Least 4096 (length (x .effects) / 3) effects
-        → Begins l rows twins effects x
-    begins rows twins effects v limit o e r least w w' f =
-        record {
-          lends =
-              record {
-                passes = p .passes;
-                untwinned = p .untwinned;
-                memo = p .memo;
-                allows =
-                    record {
-                      rows-allowed = λ k a b. r .most k a (omega arith);
-                      twins-allowed = λ k a b d. w' .most k (omega arith) (w .most k d (omega arith));
-                      effects-allowed = λ k a b. f .most k a (omega arith);
-                    };
-                rows-space = omega (arith, r .second);
-                rows-limit = r .first;
-                twins-space = omega (arith, w .first, w' .second);
-                variables-limit = omega (arith, w' .first);
-                initial-space = omega (arith, w .second, w' .second);
-                effects-space = omega (arith, f .second);
-                effects-limit = f .first;
-                one-effect = f .most 1 (omega arith) (omega arith);
-                operators-space = o;
-                blank-initial = p .blank .initial;
-                blank-formulas = p .blank .formulas;
-                blank-effects = p .blank .effects;
-                blank-operators = p .blank .operators;
-              };
-          blank-twins = p .blank .twins;
-          blank-scratch = p .blank .scratch;
-        }
 
     module _ {y : Tables} {r : Passes} (f : Fills l x y r) where
       pub filled-over : {z : Tables} → r .full ≡ true → Blanked x z → left (Refused 15) z ≡ compiling l (room-of x)

@@ -1,9 +1,8 @@
 // Compiling a source that passes, into tables that are all 0.
 use crate::CompileAnswer;
 use crate::clear::clear_all;
-use crate::least::least;
+use crate::sized::fill_lent;
 use filling::compiled_head;
-use filling::fill;
 use task::Head;
 use task::clear::clear_words;
 ghost use mathlib.Core.Path.{_≡_};
@@ -30,8 +29,7 @@ pub fn compile_checked(
     requires { ⌜ Passed (lent head (now initial) (now twins) (now formulas) (now effects) (now operators)) (tables (now values) (now originals) (now table) (now out) (now written) (now scratch)) ⌝ }
     ensures { λ r. ⌜ left r (tables (now (values .exit)) (now (originals .exit)) (now (table .exit)) (now (out .exit)) (now (written .exit)) (now (scratch .exit))) ≡ compiling (lent head (now (initial .entry)) (now (twins .entry)) (now (formulas .entry)) (now (effects .entry)) (now (operators .entry))) (room-of (tables (now (values .entry)) (now (originals .entry)) (now (table .entry)) (now (out .entry)) (now (written .entry)) (now (scratch .entry)))) ⌝ }
 {
-    let v = head.variables as usize;
-    if values.len() < v {
+    if values.len() < head.variables as usize {
         return CompileAnswer::Refused(15);
     }
     if written.len() < 3 * (head.operators as usize) {
@@ -40,20 +38,13 @@ pub fn compile_checked(
     if out.len() < 3 {
         return CompileAnswer::Refused(15);
     }
-    let rows = least(4096, table.len() / 3);
-    let lent = least(originals.len(), values.len() - v);
-    let most = least(512 - v, lent);
-    let room = least(4096, out.len() / 3);
-    let p = fill(
+    let p = fill_lent(
         head,
         initial,
         twins,
         formulas,
         effects,
         operators,
-        rows,
-        most,
-        room,
         values,
         originals,
         table,

@@ -3,6 +3,7 @@ mod call;
 mod checked;
 mod clear;
 mod least;
+mod sized;
 
 pub use call::compile;
 use task::Head;

@@ -32,7 +32,7 @@ use Rattle.building.proofs.Begun.{taken-none}
 use Rattle.building.proofs.Parts.{made-here, same-state, same-value, same-operators-made}
 use Rattle.assembling.specs.Assembles.{assembled-in}
 use Rattle.filling.specs.declared.Passes.{Passes}
-use Rattle.filling.specs.Fills.{Tables, room-of, frame-of, Begins, Owns, Starts, Ends, Fills}
+use Rattle.filling.specs.Fills.{Tables, room-of, frame-of, Begins, BeginsSmall, Owns, Starts, Ends, Fills}
 use Rattle.filling.proofs.Recalled.{recalled, made-more}
 
 zero-at : (n j : ℕ) → _≡_ {A = ℕ} (getD (replicate n 0) j 0) 0
@@ -165,22 +165,35 @@ module _ (l : Lent) (rows twins : ℕ) (passes : refusal l ≡ 0) where
   -- What the parts ask.
   module _ (effects : ℕ) (x : Tables) where
     -- with tables of 0 of its own: for notes, for rows and their index, for records
-    pub owns :
-        Begins l rows twins effects x
-        → Owns l rows twins effects x (replicate 274432 0) (replicate 24576 0) (replicate 6912 0)
-    owns b =
+    owns :
+        (notes built : ℕ)
+        → Begins l rows twins effects x
+        → 3 * l .head .effects ≤ notes
+        → 6 * rows ≤ built
+        → Owns l rows twins effects x (replicate notes 0) (replicate built 0) (replicate 6912 0)
+    owns notes built b n h =
         record {
           begins = b;
-          notes-space = omega (arith, effects-limit, length-replicate {A = ℕ} 274432 0);
-          blank-notes = zero-at 274432;
+          notes-space = omega (arith, length-replicate {A = ℕ} notes 0);
+          blank-notes = zero-at notes;
           fresh =
               record {
-                room = omega (arith, b .lends .rows-limit, length-replicate {A = ℕ} 24576 0);
+                room = omega (arith, length-replicate {A = ℕ} built 0);
                 limit = b .lends .rows-limit;
-                blank = zero-at 24576;
+                blank = zero-at built;
               };
           space = omega (arith, length-replicate {A = ℕ} 6912 0);
         }
+
+    pub owns-large :
+        Begins l rows twins effects x
+        → Owns l rows twins effects x (replicate 274432 0) (replicate 24576 0) (replicate 6912 0)
+    owns-large b = owns 274432 24576 b (omega (arith, effects-limit)) (omega (arith, b .lends .rows-limit))
+
+    pub owns-small :
+        BeginsSmall l rows twins effects x
+        → Owns l rows twins effects x (replicate 5632 0) (replicate 3072 0) (replicate 6912 0)
+    owns-small b = owns 5632 3072 (b .begins) (omega (arith, b .few-effects)) (omega (arith, b .few-rows))
 
     module _ {notes built records : List ℕ} (o : Owns l rows twins effects x notes built records) where
       pub finds : FindsSpans (frame-of (l .head) rows twins) (l .effects) notes

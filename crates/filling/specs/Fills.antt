@@ -74,6 +74,12 @@ pub record Begins (l : Lent) (rows twins effects : ℕ) (x : Tables) : Type 0 wh
   pub blank-twins : x .twins ≡ replicate (length (x .twins)) 0
   pub blank-scratch : x .scratch ≡ replicate (length (x .scratch)) 0
 
+-- All tables are 0, and few rows and effects are asked for.
+pub record BeginsSmall (l : Lent) (rows twins effects : ℕ) (x : Tables) : Type 0 where
+  pub begins : Begins l rows twins effects x
+  pub few-rows : rows ≤ 512
+  pub few-effects : l .head .effects ≤ 512
+
 -- All tables are 0, and so are the one in which rows are built and the one for notes; there is room for records.
 pub record Owns (l : Lent) (rows twins effects : ℕ) (x : Tables) (notes built records : List ℕ) : Type 0 where
   pub begins : Begins l rows twins effects x

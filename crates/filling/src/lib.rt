@@ -8,6 +8,7 @@ mod whole;
 pub use heads::compiled_head;
 pub use last::finish;
 pub use own::fill;
+pub use own::fill_small;
 
 // The numbers of rows, twins and effect rows of the finished task and its goal; or that it does not fit.
 pub struct Passes {

@@ -1,4 +1,5 @@
-// Filling, with three tables of its own: one in which rows are built, one of records, one of notes on the effect rows.
+// Filling, with three tables of its own: one in which rows are built, one of records, one of notes on the effect rows. All are cleared by
+// declaring them, so a small task has small ones.
 use crate::Passes;
 use crate::whole::fill_built;
 use formula_builder::Frame;
@@ -6,7 +7,7 @@ use spans::find_columns;
 use spans::find_spans;
 use task::Head;
 ghost use Rattle.task.specs.Table.{lent};
-ghost use Rattle.filling.specs.Fills.{tables, Begins, Owns, Fills};
+ghost use Rattle.filling.specs.Fills.{tables, Begins, BeginsSmall, Owns, Fills};
 
 // Finds spans and columns, then fills. Costs two passes over the effects and one over the operators, and what filling does.
 fn fill_noted(
@@ -89,6 +90,52 @@ pub fn fill(
     let mut built = [0u16; 24576];
     let mut records = [0u16; 6912];
     let mut notes = [0u16; 274432];
+    fill_noted(
+        head,
+        initial,
+        twins,
+        formulas,
+        effects,
+        operators,
+        rows,
+        most,
+        room,
+        values,
+        originals,
+        table,
+        out,
+        written,
+        scratch,
+        &mut notes,
+        &mut built,
+        &mut records,
+    )
+}
+
+// The same for at most 512 rows and 512 effects: 6 KiB, 13.5 KiB and 11 KiB, cleared.
+pub fn fill_small(
+    head: Head,
+    initial: &[u8],
+    twins: &[u16],
+    formulas: &[u16],
+    effects: &[u16],
+    operators: &[u16],
+    rows: usize,
+    most: usize,
+    room: usize,
+    values: &mut [u8],
+    originals: &mut [u16],
+    table: &mut [u16],
+    out: &mut [u16],
+    written: &mut [u16],
+    scratch: &mut [u16],
+) -> Passes
+    requires { ⌜ BeginsSmall (lent head (now initial) (now twins) (now formulas) (now effects) (now operators)) rows most room (tables (now values) (now originals) (now table) (now out) (now written) (now scratch)) ⌝ }
+    ensures { λ r. ⌜ Fills (lent head (now (initial .entry)) (now (twins .entry)) (now (formulas .entry)) (now (effects .entry)) (now (operators .entry))) (tables (now (values .entry)) (now (originals .entry)) (now (table .entry)) (now (out .entry)) (now (written .entry)) (now (scratch .entry))) (tables (now (values .exit)) (now (originals .exit)) (now (table .exit)) (now (out .exit)) (now (written .exit)) (now (scratch .exit))) r ⌝ }
+{
+    let mut built = [0u16; 3072];
+    let mut records = [0u16; 6912];
+    let mut notes = [0u16; 5632];
     fill_noted(
         head,
         initial,
