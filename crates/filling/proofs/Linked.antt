@@ -185,10 +185,16 @@ module _ (l : Lent) (rows twins : ℕ) (passes : refusal l ≡ 0) where
           space = omega (arith, length-replicate {A = ℕ} 6912 0);
         }
 
-    pub owns-large :
+    pub owns-many :
         Begins l rows twins effects x
         → Owns l rows twins effects x (replicate 274432 0) (replicate 24576 0) (replicate 6912 0)
-    owns-large b = owns 274432 24576 b (omega (arith, effects-limit)) (omega (arith, b .lends .rows-limit))
+    owns-many b = owns 274432 24576 b (omega (arith, effects-limit)) (omega (arith, b .lends .rows-limit))
+
+    pub owns-few :
+        Begins l rows twins effects x
+        → l .head .effects ≤ 512
+        → Owns l rows twins effects x (replicate 5632 0) (replicate 24576 0) (replicate 6912 0)
+    owns-few b h = owns 5632 24576 b (omega (arith, h)) (omega (arith, b .lends .rows-limit))
 
     pub owns-small :
         BeginsSmall l rows twins effects x

@@ -1,12 +1,12 @@
 use borrow.Author.Needs.{needs}
-use Rattle.filling.proofs.own.fill.Statement.{statement}
-use Rattle.filling.proofs.own.fill.Tie as tie
-use Rattle.filling.proofs.own.fill.Reads as reads
-use Rattle.filling.proofs.own.fill.Lts as lts
+use Rattle.filling.proofs.own.fill_many.Statement.{statement}
+use Rattle.filling.proofs.own.fill_many.Tie as tie
+use Rattle.filling.proofs.own.fill_many.Reads as reads
+use Rattle.filling.proofs.own.fill_many.Lts as lts
 use Rattle.filling.proofs.own.fill_noted.Reads as fill-noted-reads
 use Rattle.task.specs.Table.{lent}
 use Rattle.filling.specs.Fills.{tables}
-use Rattle.filling.proofs.Linked.{owns-large}
+use Rattle.filling.proofs.Linked.{owns-many}
 
 slice-aggregate-fill-noted : tie.Need-slice-aggregate-fill-noted
 slice-aggregate-fill-noted c = search needs
@@ -20,7 +20,7 @@ slice-aggregate-fill-noted-3 c = search needs
 fill-noted-requires : tie.Need-fill-noted-requires
 fill-noted-requires c κs =
     let s = c .before .before .before .before .before .before .before .before .before .before .before .before .before .before .before .before .before .before .before .before in
-    owns-large (lent (s .args .head) (s .args .initial .now) (s .args .twins .now) (s .args .formulas .now) (s .args .effects .now) (s .args .operators .now)) (s .args .rows) (s .args .most) (s .pre .lends .passes) (s .args .room) (tables (s .args .values .now) (s .args .originals .now) (s .args .table .now) (s .args .out .now) (s .args .written .now) (s .args .scratch .now)) (s .pre)
+    owns-many (lent (s .args .head) (s .args .initial .now) (s .args .twins .now) (s .args .formulas .now) (s .args .effects .now) (s .args .operators .now)) (s .args .rows) (s .args .most) (s .pre .lends .passes) (s .args .room) (tables (s .args .values .now) (s .args .originals .now) (s .args .table .now) (s .args .out .now) (s .args .written .now) (s .args .scratch .now)) (s .pre)
 
 same-length : tie.Need-same-length
 same-length c = search needs
@@ -43,8 +43,8 @@ same-length-6 c = search needs
 returns : tie.Need-returns
 returns c = search needs
 
-pub fill-spec : {M : Type 1} → statement M
-fill-spec =
+pub fill-many-spec : {M : Type 1} → statement M
+fill-many-spec =
     tie.close
     (tie.spec
     slice-aggregate-fill-noted

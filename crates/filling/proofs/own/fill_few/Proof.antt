@@ -1,0 +1,60 @@
+use borrow.Author.Needs.{needs}
+use Rattle.filling.proofs.own.fill_few.Statement.{statement}
+use Rattle.filling.proofs.own.fill_few.Tie as tie
+use Rattle.filling.proofs.own.fill_few.Reads as reads
+use Rattle.filling.proofs.own.fill_few.Lts as lts
+use Rattle.filling.proofs.own.fill_noted.Reads as fill-noted-reads
+use Rattle.task.specs.Table.{lent}
+use Rattle.filling.specs.Fills.{tables}
+use Rattle.filling.proofs.Linked.{owns-few}
+
+slice-aggregate-fill-noted : tie.Need-slice-aggregate-fill-noted
+slice-aggregate-fill-noted c = search needs
+
+slice-aggregate-fill-noted-2 : tie.Need-slice-aggregate-fill-noted-2
+slice-aggregate-fill-noted-2 c = search needs
+
+slice-aggregate-fill-noted-3 : tie.Need-slice-aggregate-fill-noted-3
+slice-aggregate-fill-noted-3 c = search needs
+
+fill-noted-requires : tie.Need-fill-noted-requires
+fill-noted-requires c κs =
+    let s = c .before .before .before .before .before .before .before .before .before .before .before .before .before .before .before .before .before .before .before .before in
+    owns-few (lent (s .args .head) (s .args .initial .now) (s .args .twins .now) (s .args .formulas .now) (s .args .effects .now) (s .args .operators .now)) (s .args .rows) (s .args .most) (s .pre .0 .lends .passes) (s .args .room) (tables (s .args .values .now) (s .args .originals .now) (s .args .table .now) (s .args .out .now) (s .args .written .now) (s .args .scratch .now)) (s .pre .0) (s .pre .1)
+
+same-length : tie.Need-same-length
+same-length c = search needs
+
+same-length-2 : tie.Need-same-length-2
+same-length-2 c = search needs
+
+same-length-3 : tie.Need-same-length-3
+same-length-3 c = search needs
+
+same-length-4 : tie.Need-same-length-4
+same-length-4 c = search needs
+
+same-length-5 : tie.Need-same-length-5
+same-length-5 c = search needs
+
+same-length-6 : tie.Need-same-length-6
+same-length-6 c = search needs
+
+returns : tie.Need-returns
+returns c = search needs
+
+pub fill-few-spec : {M : Type 1} → statement M
+fill-few-spec =
+    tie.close
+    (tie.spec
+    slice-aggregate-fill-noted
+    slice-aggregate-fill-noted-2
+    slice-aggregate-fill-noted-3
+    fill-noted-requires
+    same-length
+    same-length-2
+    same-length-3
+    same-length-4
+    same-length-5
+    same-length-6
+    returns)
