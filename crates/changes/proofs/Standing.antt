@@ -9,7 +9,7 @@ use lib.ListN.{length, getD, set}
 use lib.Seq.{getD-set-same, getD-set-other}
 use lib.Dec.{eqb}
 use borrow.Author.Tests.{eq-eqb, ne-eqb}
-use Rattle.normal_form.specs.Builder.{St, Got, Build, give, bind, join, plain, negated}
+use Rattle.normal_form.specs.Builder.{St, Got, Build, give, bind, join, plain, negated, falsity}
 use Rattle.normal_form.specs.Growth.{Grows, Steady}
 use Rattle.normal_form.specs.Conditions.{condition}
 use Rattle.normal_form.specs.Operators.{Changes, deletes-of, changes-of}
@@ -19,12 +19,12 @@ use Rattle.task.specs.Semantics.{Effect, sets, clears}
 use Rattle.formula_builder.specs.declared.Frame.{Frame}
 use Rattle.formula_builder.specs.declared.Size.{Size}
 use Rattle.formula_builder.specs.declared.Step.{Step}
-use Rattle.formula_builder.specs.Held.{Store, held, size-of, done-step, JoinReady, Ready, Within, Builds}
-use Rattle.formula_builder.proofs.Steps.{builds-give, within-before}
+use Rattle.formula_builder.specs.Held.{Store, held, size-of, side, done-step, JoinReady, Ready, Within, Builds}
+use Rattle.formula_builder.proofs.Steps.{builds-give, falsity-small, within-before}
 use Rattle.images.specs.Images.{Memo, Images}
 use Rattle.images.proofs.Memos.{done-grows, images-as, images-leaf, images-bind, images-stop}
 use Rattle.conditions.specs.declared.Target.{Target}
-use Rattle.conditions.specs.Conditions.{effect-tree, condition-at, EffectMemo, Noted, Asks, Conditions}
+use Rattle.conditions.specs.Conditions.{effect-tree, condition-at, EffectMemo, Unnamed, Noted, Asks, Conditions}
 use Rattle.conditions.proofs.Notes.{noted-grows}
 use Rattle.conditions.proofs.Memos.{memo-kept}
 use Rattle.changes.specs.declared.Change.{Change}
@@ -90,6 +90,18 @@ images-fresh {frame = frame} {e = e} {s1 = s1} {s3 = s3} a x c =
     go : (j : ℕ) → 2 * frame .formulas ≤ j → Dec (j < 2 * frame .formulas + e + 1) → getD s3 j 0 ≡ getD s1 j 0
     go j h (yes b) = c .inside j h b ∙ sym (a .stands .clean j h)
     go j h (no b) = c .above j (omega arith) ∙ x .rest j (omega arith)
+
+-- the condition of an atom that the effect does not name
+pub images-unnamed :
+    {frame : Frame} {formulas effects notes : List ℕ} {at : Size} {s : Store} {scratch : List ℕ} {e : ℕ} (t : Target)
+    → StandsAt frame formulas effects notes at s scratch e
+    → Unnamed frame formulas effects (t .clear) (t .variable) e
+    → Images (condition-at frame formulas effects t e) frame formulas at s s scratch scratch (done-step at (falsity (side (t .negated))))
+images-unnamed t a u =
+    let x = falsity (side (t .negated)) in
+    images-as (u .idle t refl refl)
+    (images-leaf (steady-give x) (a .stands .memo)
+    (builds-give x (a .stands .ready) (omega (arith, falsity-small (side (t .negated)), a .stands .ready .two))))
 
 -- where building stands after a step
 pub stands-next :

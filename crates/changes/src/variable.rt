@@ -1,29 +1,34 @@
 // A, D and N of one variable.
 use crate::Change;
 use crate::conflict::deletes;
-use crate::fresh::condition_of;
+use crate::fresh::condition_if;
 use conditions::Target;
 use formula_builder::Frame;
 use formula_builder::Size;
+ghost use mathlib.Core.Path.{_≡_};
+ghost use mathlib.Core.Bool.{true, false};
 ghost use Rattle.normal_form.specs.Operators.{changes-of};
 ghost use Rattle.formula_builder.specs.Held.{store};
-ghost use Rattle.conditions.specs.Conditions.{effect-tree};
+ghost use Rattle.conditions.specs.Conditions.{effect-tree, Unnamed};
 ghost use Rattle.changes.specs.Stands.{StandsAt, Makes, Leaves, size-after, made};
 
-// What effect e does to variable v: all of A, then all of D, then N.
+// What effect e does to variable v: all of A, then all of D, then N. The two bits say whether e names set v and clear v: a condition is
+// walked for only then.
 pub fn change_of(
     formulas: &[u16],
     effects: &[u16],
     notes: &mut [u16],
     e: usize,
     v: u16,
+    sets: bool,
+    clears: bool,
     frame: Frame,
     at: Size,
     table: &mut [u16],
     originals: &mut [u16],
     scratch: &mut [u16],
 ) -> Change
-    requires { ⌜ StandsAt frame (now formulas) (now effects) (now notes) at (store (now table) (now originals)) (now scratch) e ⌝ }
+    requires { ⌜ StandsAt frame (now formulas) (now effects) (now notes) at (store (now table) (now originals)) (now scratch) e × (sets ≡ false → Unnamed frame (now formulas) (now effects) false v e) × (clears ≡ false → Unnamed frame (now formulas) (now effects) true v e) ⌝ }
     ensures { λ r. ⌜ Makes (changes-of (frame .variables) (effect-tree frame (now (formulas .entry)) (now (effects .entry)) e) v) frame (now (formulas .entry)) at (store (now (table .entry)) (now (originals .entry))) (store (now (table .exit)) (now (originals .exit))) (now (scratch .entry)) (now (scratch .exit)) (r .full) (size-after r) (made v r) × Leaves (r .full) frame (now (formulas .entry)) (now (effects .entry)) (now (notes .exit)) (size-after r) (store (now (table .exit)) (now (originals .exit))) ⌝ }
 {
     let set = Target {
@@ -31,12 +36,13 @@ pub fn change_of(
         variable: v,
         negated: false,
     };
-    let a = condition_of(
+    let a = condition_if(
         formulas,
         effects,
         notes,
         e,
         set,
+        sets,
         frame,
         at,
         table,
@@ -61,12 +67,13 @@ pub fn change_of(
         variable: v,
         negated: false,
     };
-    let d = condition_of(
+    let d = condition_if(
         formulas,
         effects,
         notes,
         e,
         unset,
+        clears,
         frame,
         mid,
         table,

@@ -21,13 +21,13 @@ use Rattle.conditions.proofs.Atoms.{touch-other}
 use Rattle.conditions.proofs.Rows.{both-lower, under-lower, of-atom, of-both, of-under}
 
 -- a join of what folds away folds away
-idle-pair : (p : Polarity) → pair (opposite p) (give (falsity p)) (give (falsity p)) ≡ give (falsity p)
+pub idle-pair : (p : Polarity) → pair (opposite p) (give (falsity p)) (give (falsity p)) ≡ give (falsity p)
 unfolding pair bind give
 idle-pair plain = join-left-true negated 0 0 (λ e. omega arith) (λ e. omega arith) refl
 idle-pair negated = join-left-true plain 1 1 (λ e. omega arith) (λ e. omega arith) refl
 
 -- and a formula over what folds away is not built
-idle-guard : (n : ℕ) (p : Polarity) (f : Formula) → bind (give (falsity p)) (λ c. guarded n p f c) ≡ give (falsity p)
+pub idle-guard : (n : ℕ) (p : Polarity) (f : Formula) → bind (give (falsity p)) (λ c. guarded n p f c) ≡ give (falsity p)
 unfolding bind give guarded
 idle-guard n plain f = refl
 idle-guard n negated f = refl

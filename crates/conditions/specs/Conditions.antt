@@ -71,6 +71,14 @@ pub record Untouched (frame : Frame) (formulas effects : List ℕ) (v e : ℕ) :
       → t .variable ≡ v
       → condition-at frame formulas effects t e ≡ give (falsity (side (t .negated)))
 
+-- Effect e does not name one atom, clear v or set v: its condition is false (dually true), and nothing is built.
+pub record Unnamed (frame : Frame) (formulas effects : List ℕ) (clear : Bool) (v e : ℕ) : Type 0 where
+  pub idle :
+      (t : Target)
+      → t .clear ≡ clear
+      → t .variable ≡ v
+      → condition-at frame formulas effects t e ≡ give (falsity (side (t .negated)))
+
 -- whether v lies outside the span of row e: words 2e and 2e + 1, a least and a greatest variable
 unfoldable pub outside : List ℕ → ℕ → ℕ → Bool
 outside spans v e = ltb v (getD spans (2 * e) 0) || ltb (getD spans (2 * e + 1) 0) v

@@ -1,11 +1,13 @@
--- Passing over the variables that an effect does not touch. Assumes nothing.
-use Prim.Native.Nat.{ℕ, zero, suc, _+_, _≤_, _<_}
+-- Passing over the variables of which an effect names no atom. Assumes nothing.
+use Prim.Native.Nat.{ℕ, zero, suc, _+_, _*_, _≤_, _<_}
 use native.Mathlib.Omega.{arith}
-use native.Mathlib.Decide.{decLe, decLt}
-use mathlib.Core.Path.{_≡_, refl, ap, ap₂, _∙_}
-use mathlib.Core.Bool.{Bool, true, false}
+use native.Mathlib.Decide.{decLe, decLt, ℕ-discrete}
+use mathlib.Core.Path.{_≡_, refl, sym, ap, ap₂, _∙_}
+use mathlib.Core.Bool.{Bool, true, false, not, true≢false}
 use mathlib.Core.List.{List, [], _∷_, _++_, append-nil}
+use lib.Dec.{eqb}
 use lib.ListN.{getD}
+use borrow.Author.Tests.{ne-eqb}
 use Rattle.task.specs.Semantics.{Effect}
 use Rattle.normal_form.specs.Builder.{St, Got, Build, give, bind, each}
 use Rattle.normal_form.specs.Operators.{Changes, deletes-of, changes-of}
@@ -14,27 +16,55 @@ use Rattle.formula_builder.specs.declared.Size.{Size}
 use Rattle.formula_builder.specs.Held.{Store, held}
 use Rattle.conditions.specs.Conditions.{effect-tree, condition-at}
 use Rattle.changes.specs.Stands.{Reaches}
-use Rattle.touched.specs.Touched.{Untouched}
+use Rattle.touched.specs.Touched.{Unnamed, atom-place}
 use Rattle.records.specs.Recorded.{idle, acting, Recorded}
 use Rattle.records.proofs.Keeping.{acting-append}
 use Rattle.operators.specs.Operator.{all-changes}
 
--- The search for the next touched variable, at v: those from one on are not.
+-- The search for the next variable, at v: no atom of those from one on is named.
 pub one-more-passed :
-    (touched : List ℕ) {from : ℕ} (v : ℕ)
-    → ((j : ℕ) → from ≤ j → j < v → getD touched j 0 ≡ 0)
-    → getD touched v 0 ≡ 0
-    → (j : ℕ)
+    (named : List ℕ) {from : ℕ} (v : ℕ)
+    → ((clear : Bool) (j : ℕ) → from ≤ j → j < v → getD named (atom-place clear j) 0 ≡ 0)
+    → ((clear : Bool) → getD named (atom-place clear v) 0 ≡ 0)
+    → (clear : Bool) (j : ℕ)
     → from ≤ j
     → j < v + 1
-    → getD touched j 0 ≡ 0
-one-more-passed touched v p z j a b = go (decLt j v)
+    → getD named (atom-place clear j) 0 ≡ 0
+one-more-passed named v p z clear j a b = go (decLt j v)
   where
-    go : Dec (j < v) → getD touched j 0 ≡ 0
-    go (yes h) = p j a h
+    go : Dec (j < v) → getD named (atom-place clear j) 0 ≡ 0
+    go (yes h) = p clear j a h
     go (no h) =
         let same : j ≡ v = omega arith in
-        rw same z
+        rw same (z clear)
+
+-- the atoms of a variable, by their bytes
+set-byte : (named : List ℕ) (v : ℕ) → getD named (atom-place false v) 0 ≡ getD named (2 * v) 0
+set-byte named v =
+    let same : 2 * v + 0 ≡ 2 * v = omega arith in
+    ap (λ (k : ℕ). getD named k 0) same
+
+pub set-passed : (named : List ℕ) (v : ℕ) → getD named (2 * v) 0 ≡ 0 → getD named (atom-place false v) 0 ≡ 0
+set-passed named v x = set-byte named v ∙ x
+
+pub set-read : (named : List ℕ) (v : ℕ) → getD named (atom-place false v) 0 ≡ 0 → getD named (2 * v) 0 ≡ 0
+set-read named v x = sym (set-byte named v) ∙ x
+
+pub both-passed :
+    (named : List ℕ) (v : ℕ)
+    → getD named (2 * v) 0 ≡ 0
+    → getD named (2 * v + 1) 0 ≡ 0
+    → (clear : Bool)
+    → getD named (atom-place clear v) 0 ≡ 0
+both-passed named v x y false = set-passed named v x
+both-passed named v x y true = y
+
+pub not-marked : (k : ℕ) → not (eqb k 0) ≡ false → k ≡ 0
+not-marked k q = go (ℕ-discrete k 0)
+  where
+    go : Dec (k ≡ 0) → k ≡ 0
+    go (yes e) = e
+    go (no n) = absurd (true≢false (sym (ap not (ne-eqb k 0 n)) ∙ q))
 
 folded :
     (n v : ℕ) (tree : Effect)
@@ -44,17 +74,17 @@ folded :
 unfolding bind give deletes-of
 folded n v tree = refl
 
--- a variable that is not touched changes nothing
-untouched-changes :
+-- a variable of which no atom is named changes nothing
+unnamed-changes :
     (frame : Frame) (formulas effects : List ℕ) (v e : ℕ)
-    → Untouched frame formulas effects v e
+    → ((clear : Bool) → Unnamed frame formulas effects clear v e)
     → changes-of (frame .variables) (effect-tree frame formulas effects e) v ≡ give (record { variable = v; adds = 0; deletes = 0 })
 unfolding changes-of condition-at
-untouched-changes frame formulas effects v e u =
+unnamed-changes frame formulas effects v e u =
     let n = frame .variables in
     let tree = effect-tree frame formulas effects e in
-    let set-idle = u .idle (record { clear = false; variable = v; negated = false }) refl in
-    let clear-idle = u .idle (record { clear = true; variable = v; negated = false }) refl in
+    let set-idle = u false .idle (record { clear = false; variable = v; negated = false }) refl refl in
+    let clear-idle = u true .idle (record { clear = true; variable = v; negated = false }) refl refl in
     ap₂
     (λ (a d : Build ℕ).
     bind a (λ a. bind d (λ d. bind (deletes-of n tree v a d) (λ k. give {A = Changes} (record { variable = v; adds = a; deletes = k })))))
@@ -75,12 +105,12 @@ alike-trans x y = record { state = λ t. x .state t ∙ y .state t; rules = λ t
 module _ (frame : Frame) (formulas effects : List ℕ) (e : ℕ) where
   one-passed :
       (v : ℕ)
-      → Untouched frame formulas effects v e
+      → ((clear : Bool) → Unnamed frame formulas effects clear v e)
       → Alike (all-changes frame formulas effects e (suc v)) (all-changes frame formulas effects e v)
   unfolding all-changes each bind give acting idle
   one-passed v u =
       let all : St → Got (List Changes) = each v (changes-of (frame .variables) (effect-tree frame formulas effects e)) in
-      let same = untouched-changes frame formulas effects v e u in
+      let same = unnamed-changes frame formulas effects v e u in
       record {
         state = λ t. ap (λ (m : Build Changes). m (all t .st) .st) same;
         rules = λ t.
@@ -89,11 +119,11 @@ module _ (frame : Frame) (formulas effects : List ℕ) (e : ℕ) where
             ∙ append-nil (acting (all t .value));
       }
 
-  -- the variables from v up to n are not touched
+  -- no atom of the variables from v up to n is named
   pub stretch-passed :
       (v n : ℕ)
       → v ≤ n
-      → ((j : ℕ) → v ≤ j → j < n → Untouched frame formulas effects j e)
+      → ((j : ℕ) → v ≤ j → j < n → (clear : Bool) → Unnamed frame formulas effects clear j e)
       → Alike (all-changes frame formulas effects e n) (all-changes frame formulas effects e v)
   stretch-passed v zero h u =
       let same : v ≡ 0 = omega arith in

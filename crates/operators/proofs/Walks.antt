@@ -1,10 +1,11 @@
 -- Walking over the variables of an operator. Assumes nothing.
-use Prim.Native.Nat.{ℕ, _+_, _≤_, _<_}
+use Prim.Native.Nat.{ℕ, _+_, _*_, _≤_, _<_}
 use native.Mathlib.Omega.{arith}
 use native.Mathlib.Numerals.{add-one}
 use mathlib.Core.Path.{_≡_, refl, sym, ap, _∙_}
-use mathlib.Core.Bool.{Bool, true, false, true≢false}
+use mathlib.Core.Bool.{Bool, true, false, not, true≢false}
 use mathlib.Core.List.{List, [], _∷_, _++_}
+use lib.Dec.{eqb}
 use lib.ListN.{length, getD}
 use Rattle.normal_form.specs.Builder.{St, give, bind, each, plain}
 use Rattle.normal_form.proofs.ShapeSizes.{each-grows}
@@ -21,13 +22,13 @@ use Rattle.images.proofs.Memos.{steady-image-at}
 use Rattle.conditions.specs.Conditions.{effect-tree, Noted}
 use Rattle.changes.specs.Stands.{Stands, StandsAt, Reaches, Makes, size-after, made}
 use Rattle.changes.proofs.Standing.{stands-next, stands-at-next, leaves-step}
-use Rattle.touched.specs.Touched.{Untouched, Marks}
+use Rattle.touched.specs.Touched.{Unnamed, atom-place, Marks}
 use Rattle.changes.specs.declared.Change.{Change}
 use Rattle.records.specs.Recorded.{Keeps, Opens, Recorded}
 use Rattle.records.proofs.Keeping.{recorded-none, recorded-few, recorded-more}
 use Rattle.operators.specs.declared.Tally.{Tally}
 use Rattle.operators.specs.Operator.{all-changes, operator-built, NextTouched, WalksAll, BuildsOperator, size-behind, Walked, OperatorWalked}
-use Rattle.operators.proofs.Passing.{stretch-passed, reaches-alike, recorded-alike}
+use Rattle.operators.proofs.Passing.{not-marked, set-passed, stretch-passed, reaches-alike, recorded-alike}
 
 -- nothing is built
 makes-give :
@@ -133,16 +134,16 @@ pub record Walking (frame : Frame) (formulas effects : List ℕ) (e : ℕ) (at :
   pub recorded : Recorded (all-changes frame formulas effects e v (held at before) .value) from l m k
   pub few : k ≤ from + v
 
-module _ {frame : Frame} {formulas effects notes touched : List ℕ} {e : ℕ} {at : Size} {before : Store} {s1 : List ℕ} (a : WalksAll frame formulas effects notes touched at before s1 e) where
-  -- on to the next variable that is touched
+module _ {frame : Frame} {formulas effects notes named : List ℕ} {e : ℕ} {at : Size} {before : Store} {s1 : List ℕ} (a : WalksAll frame formulas effects notes named at before s1 e) where
+  -- on to the next variable of which an atom is named
   walking-on :
       {mid : Store} {s2 : List ℕ} {from : ℕ} {l m : List ℕ} {here : Size} {k v next : ℕ}
       → Walking frame formulas effects e at before mid s1 s2 from l m here k v
-      → NextTouched touched v (frame .variables) next
+      → NextTouched named v (frame .variables) next
       → Walking frame formulas effects e at before mid s1 s2 from l m here k next
   walking-on {v = v} {next = next} w n =
       let same =
-      stretch-passed frame formulas effects e v next (n .above) (λ j p q. a .passed j (n .passed j p q)) in
+      stretch-passed frame formulas effects e v next (n .above) (λ j p q clear. a .passed clear j (n .passed clear j p q)) in
       record {
         below = n .below;
         reaches = reaches-alike same (w .reaches);
@@ -152,7 +153,7 @@ module _ {frame : Frame} {formulas effects notes touched : List ℕ} {e : ℕ} {
 
   pub walking-begins :
       {from : ℕ} {l : List ℕ} {next : ℕ}
-      → NextTouched touched 0 (frame .variables) next
+      → NextTouched named 0 (frame .variables) next
       → Walking frame formulas effects e at before before s1 s1 from l l at from next
   walking-begins {from} {l} n =
       walking-on
@@ -165,18 +166,23 @@ module _ {frame : Frame} {formulas effects notes touched : List ℕ} {e : ℕ} {
       n
 
   module _ {mid : Store} {s2 : List ℕ} {from : ℕ} {l m : List ℕ} {here : Size} {k v : ℕ} (w : Walking frame formulas effects e at before mid s1 s2 from l m here k v) where
-    -- what the change of variable v asks, and what recording it asks
+    -- what the change of variable v asks, whose bytes say what is named, and what recording it asks
     pub walking-asks :
         {notes' : List ℕ}
         → Noted frame formulas effects notes' (held here mid)
         → length s2 ≡ length s1
         → StandsAt frame formulas effects notes' here mid s2 e
-    walking-asks noted long =
-        record {
-          stands = stands-next (a .stands .stands) (w .reaches) refl long;
-          noted = noted;
-          effect = a .stands .effect;
-        }
+        × (not (eqb (getD named (2 * v) 0) 0) ≡ false → Unnamed frame formulas effects false v e)
+        × (not (eqb (getD named (2 * v + 1) 0) 0) ≡ false → Unnamed frame formulas effects true v e)
+    walking-asks noted long = (
+      record {
+        stands = stands-next (a .stands .stands) (w .reaches) refl long;
+        noted = noted;
+        effect = a .stands .effect;
+      },
+      λ q. a .passed false v (set-passed named v (not-marked (getD named (2 * v) 0) q)),
+      λ q. a .passed true v (not-marked (getD named (2 * v + 1) 0) q),
+    )
 
     pub walking-keeps : Opens from l → length m ≡ length l → Keeps k m
     walking-keeps o long =
@@ -205,7 +211,7 @@ module _ {frame : Frame} {formulas effects notes touched : List ℕ} {e : ℕ} {
           {n : List ℕ} {to next : ℕ}
           → c .full ≡ false
           → Recorded (made v c ∷ []) k m n to
-          → NextTouched touched (v + 1) (frame .variables) next
+          → NextTouched named (v + 1) (frame .variables) next
           → Walking frame formulas effects e at before after s1 s3 from l n (size-after c) to next
       walking-more q z n =
           walking-on
@@ -300,11 +306,11 @@ stands-behind {frame} {formulas} {p = p} a x q long =
 
 -- and what marking asks there
 pub asks-marks :
-    {frame : Frame} {formulas effects notes : List ℕ} {at : Size} {s : Store} {scratch : List ℕ} {e : ℕ} (touched : List ℕ)
+    {frame : Frame} {formulas effects notes : List ℕ} {at : Size} {s : Store} {scratch : List ℕ} {e : ℕ} (named : List ℕ)
     → StandsAt frame formulas effects notes at s scratch e
-    → 512 ≤ length touched
-    → Marks frame effects scratch touched e
-asks-marks touched a room =
+    → 1024 ≤ length named
+    → Marks frame effects scratch named e
+asks-marks named a room =
     record {
       looks =
           record {
@@ -318,13 +324,13 @@ asks-marks touched a room =
 
 -- what the walk asks after marking, which leaves the scratch as it was
 pub asks-walk :
-    {frame : Frame} {formulas effects notes : List ℕ} {at : Size} {s : Store} {scratch scratch' : List ℕ} {e : ℕ} (touched : List ℕ)
+    {frame : Frame} {formulas effects notes : List ℕ} {at : Size} {s : Store} {scratch scratch' : List ℕ} {e : ℕ} (named : List ℕ)
     → StandsAt frame formulas effects notes at s scratch e
     → scratch' ≡ scratch
-    → 512 ≤ length touched
-    → ((v : ℕ) → getD touched v 0 ≡ 0 → Untouched frame formulas effects v e)
-    → WalksAll frame formulas effects notes touched at s scratch' e
-asks-walk {frame} touched a same room passed =
+    → 1024 ≤ length named
+    → ((clear : Bool) (v : ℕ) → getD named (atom-place clear v) 0 ≡ 0 → Unnamed frame formulas effects clear v e)
+    → WalksAll frame formulas effects notes named at s scratch' e
+asks-walk {frame} named a same room passed =
     rw same (record { stands = a; room = omega (arith, a .stands .ready .variables); passed = passed })
 
 -- Walked: the precondition, then all changes, of a scratch that marking left as it was.

@@ -1,7 +1,7 @@
 -- What building one operator asks and gives.
-use Prim.Native.Nat.{ℕ, _≤_, _<_}
+use Prim.Native.Nat.{ℕ, _*_, _≤_, _<_}
 use mathlib.Core.Path.{_≡_}
-use mathlib.Core.Bool.{false}
+use mathlib.Core.Bool.{Bool, false}
 use mathlib.Core.List.{List}
 use lib.ListN.{length, getD}
 use Rattle.normal_form.specs.Builder.{Build, bind, each, plain}
@@ -13,7 +13,7 @@ use Rattle.images.specs.Images.{image-at}
 use Rattle.conditions.specs.Conditions.{effect-tree}
 use Rattle.task.specs.Table.{row-at}
 use Rattle.changes.specs.Stands.{StandsAt, Reaches}
-use Rattle.touched.specs.Touched.{Untouched}
+use Rattle.touched.specs.Touched.{Unnamed, atom-place}
 use Rattle.records.specs.Recorded.{Recorded}
 use Rattle.operators.specs.declared.Tally.{Tally}
 
@@ -26,17 +26,17 @@ unfoldable pub operator-built : Frame → List ℕ → List ℕ → ℕ → ℕ 
 operator-built frame formulas effects p e =
     bind (image-at frame formulas plain p) (λ f. all-changes frame formulas effects e (frame .variables))
 
--- The first touched variable from one on, below n; n if there is none.
-pub record NextTouched (touched : List ℕ) (from n next : ℕ) : Type 0 where
+-- The first variable from one on, below n, of which an atom is named; n if there is none.
+pub record NextTouched (named : List ℕ) (from n next : ℕ) : Type 0 where
   pub above : from ≤ next
   pub below : next ≤ n
-  pub passed : (v : ℕ) → from ≤ v → v < next → getD touched v 0 ≡ 0
-  pub stopped : next < n → getD touched next 0 ≡ 0 → ⊥
+  pub passed : (clear : Bool) (v : ℕ) → from ≤ v → v < next → getD named (atom-place clear v) 0 ≡ 0
+  pub stopped : next < n → ((clear : Bool) → getD named (atom-place clear next) 0 ≡ 0) → ⊥
 
-pub record WalksAll (frame : Frame) (formulas effects notes touched : List ℕ) (at : Size) (s : Store) (scratch : List ℕ) (e : ℕ) : Type 0 where
+pub record WalksAll (frame : Frame) (formulas effects notes named : List ℕ) (at : Size) (s : Store) (scratch : List ℕ) (e : ℕ) : Type 0 where
   pub stands : StandsAt frame formulas effects notes at s scratch e
-  pub room : frame .variables ≤ length touched
-  pub passed : (v : ℕ) → getD touched v 0 ≡ 0 → Untouched frame formulas effects v e
+  pub room : 2 * frame .variables ≤ length named
+  pub passed : (clear : Bool) (v : ℕ) → getD named (atom-place clear v) 0 ≡ 0 → Unnamed frame formulas effects clear v e
 
 pub record BuildsOperator (frame : Frame) (formulas effects notes : List ℕ) (at : Size) (s : Store) (scratch : List ℕ) (p e : ℕ) : Type 0 where
   pub stands : StandsAt frame formulas effects notes at s scratch e

@@ -38,14 +38,14 @@ pub fn build_operator(
             full: true,
         };
     }
-    let mut touched = [0u8; 512];
-    touched_by(effects, e, frame, scratch, &mut touched);
+    let mut named = [0u8; 1024];
+    touched_by(effects, e, frame, scratch, &mut named);
     let r = build_changes(
         formulas,
         effects,
         notes,
         e,
-        &touched,
+        &named,
         frame,
         Size {
             rows: f.rows,

@@ -2,10 +2,11 @@
 use formula_builder::Frame;
 use formula_builder::read_row;
 ghost use mathlib.Core.Path.{_≡_};
+ghost use mathlib.Core.Bool.{Bool};
 ghost use mathlib.Core.List.{List};
 ghost use Prim.Native.Nat.{ℕ, _+_, _*_, _≤_, _<_};
 ghost use lib.ListN.{length, getD};
-ghost use Rattle.touched.specs.Touched.{LooksAt, Looked, Marks, Unmarked, Untouched};
+ghost use Rattle.touched.specs.Touched.{LooksAt, Looked, Marks, Unmarked, Unnamed, atom-place};
 
 fn least(a: usize, b: usize) -> usize
     ensures { λ r. ⌜ (r ≤ a) × (r ≤ b) ⌝ }
@@ -16,7 +17,7 @@ fn least(a: usize, b: usize) -> usize
     b
 }
 
-// Looks at row i: if it is marked, the mark goes on to the rows that it names, or its variable is touched. No row below low is marked;
+// Looks at row i: if it is marked, the mark goes on to the rows that it names, or its atom is named. No row below low is marked;
 // answers how far down that holds then.
 fn look(
     effects: &[u16],
@@ -24,10 +25,10 @@ fn look(
     low: usize,
     frame: Frame,
     scratch: &mut [u16],
-    touched: &mut [u8],
+    named: &mut [u8],
 ) -> usize
-    requires { ⌜ LooksAt frame (now effects) (now scratch) (now touched) i ⌝ }
-    ensures { λ r. ⌜ Looked frame (now (effects .entry)) i (now (scratch .entry)) (now (scratch .exit)) (now (touched .entry)) (now (touched .exit)) × (Unmarked frame (now (scratch .entry)) low → Unmarked frame (now (scratch .exit)) r) ⌝ }
+    requires { ⌜ LooksAt frame (now effects) (now scratch) (now named) i ⌝ }
+    ensures { λ r. ⌜ Looked frame (now (effects .entry)) i (now (scratch .entry)) (now (scratch .exit)) (now (named .entry)) (now (named .exit)) × (Unmarked frame (now (scratch .entry)) low → Unmarked frame (now (scratch .exit)) r) ⌝ }
 {
     let base = 2 * frame.formulas + frame.effects;
     let k = base + i;
@@ -51,15 +52,16 @@ fn look(
     if w.kind == 0 {
         return low;
     }
+    let clear = w.kind == 2;
     let v = w.a as usize;
-    touched[v] = 1;
+    named[2 * v + clear as usize] = 1;
     low
 }
 
-// Marks in touched each variable that effect e sets or clears. A step for each row from e down to the least below it.
-pub fn touched_by(effects: &[u16], e: usize, frame: Frame, scratch: &mut [u16], touched: &mut [u8])
-    requires { ⌜ Marks frame (now effects) (now scratch) (now touched) e ⌝ }
-    ensures { λ _. ⌜ (now (scratch .exit) ≡ now (scratch .entry)) × ((formulas : List ℕ) (v : ℕ) → getD (now (touched .exit)) v 0 ≡ 0 → Untouched frame formulas (now (effects .entry)) v e) ⌝ }
+// Marks in named each atom that effect e names: byte 2v for set v, 2v + 1 for clear v. A step for each row from e down to the least below it.
+pub fn touched_by(effects: &[u16], e: usize, frame: Frame, scratch: &mut [u16], named: &mut [u8])
+    requires { ⌜ Marks frame (now effects) (now scratch) (now named) e ⌝ }
+    ensures { λ _. ⌜ (now (scratch .exit) ≡ now (scratch .entry)) × ((formulas : List ℕ) (clear : Bool) (v : ℕ) → getD (now (named .exit)) (atom-place clear v) 0 ≡ 0 → Unnamed frame formulas (now (effects .entry)) clear v e) ⌝ }
 {
     let root = 2 * frame.formulas + frame.effects + e;
     scratch[root] = 1;
@@ -67,6 +69,6 @@ pub fn touched_by(effects: &[u16], e: usize, frame: Frame, scratch: &mut [u16], 
     let mut low = e;
     while low < i {
         i -= 1;
-        low = look(effects, i, low, frame, scratch, touched);
+        low = look(effects, i, low, frame, scratch, named);
     }
 }

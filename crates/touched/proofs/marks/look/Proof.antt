@@ -4,8 +4,8 @@ use Rattle.touched.proofs.marks.look.Tie as tie
 use Rattle.touched.proofs.marks.look.Reads as reads
 use Rattle.touched.proofs.marks.look.Lts as lts
 use Rattle.formula_builder.proofs.read_row.Reads as read-row-reads
-use Rattle.conditions.proofs.Alone.{both-within, under-within, atom-within}
-use Rattle.touched.proofs.Looking.{unmarked-gone, unmarked-above, look-unmarked, look-empty, look-atom, look-under, look-both}
+use Rattle.conditions.proofs.Alone.{both-within, under-within}
+use Rattle.touched.proofs.Looking.{unmarked-gone, unmarked-above, look-unmarked, look-empty, look-atom, look-under, look-both, named-room}
 use native.Mathlib.Omega.{arith}
 use mathlib.Core.List.{[]}
 use lib.ListN.{set, length-set}
@@ -34,7 +34,7 @@ slice-read-if1 c = search needs
 
 -- src/marks.rt:18:9
 returns : tie.Need-returns
-returns c = (look-unmarked (c .before .before .before .before .before .before .before .args .frame) (c .before .before .before .before .before .before .before .args .effects .now) (c .before .before .before .before .before .before .before .args .i) (c .before .before .before .before .before .before .before .args .scratch .now) (c .before .before .before .before .before .before .before .args .touched .now) (c .before .before .before .before .before .before .before .pre) (c .if1 .taken), λ u. u)
+returns c = (look-unmarked (c .before .before .before .before .before .before .before .args .frame) (c .before .before .before .before .before .before .before .args .effects .now) (c .before .before .before .before .before .before .before .args .i) (c .before .before .before .before .before .before .before .args .scratch .now) (c .before .before .before .before .before .before .before .args .named .now) (c .before .before .before .before .before .before .before .pre) (c .if1 .taken), λ u. u)
 
 -- src/marks.rt:20:5
 mul-scratch : tie.Need-mul-scratch
@@ -102,7 +102,7 @@ same-length c = search needs
 
 -- src/marks.rt:27:9
 returns-2 : tie.Need-returns-2
-returns-2 c = (look-both (c .before .before .before .before .before .before .before .before .before .before .before .before .before .before .before .before .args .frame) (c .before .before .before .before .before .before .before .before .before .before .before .before .before .before .before .before .args .effects .now) (c .before .before .before .before .before .before .before .before .before .before .before .before .before .before .before .before .args .i) (c .before .before .before .before .before .before .before .before .before .before .before .before .before .before .before .before .args .scratch .now) (c .before .before .before .before .before .before .before .before .before .before .before .before .before .before .before .before .args .touched .now) (c .before .before .before .before .before .before .before .before .before .before .before .before .before .before .before .before .pre) (c .before .before .before .before .before .before .before .before .read-row .result) (c .before .before .before .before .before .before .before .before .read-row .ensures) (c .before .before .before .before .before .before .if2 .taken), λ u. unmarked-above (c .before .before .before .before .before .before .before .before .before .before .before .before .before .before .before .before .args .frame) (set (set (c .before .before .before .before .before .before .before .before .before .before .before .before .before .before .before .before .args .scratch .now) (mark-place (c .before .before .before .before .before .before .before .before .before .before .before .before .before .before .before .before .args .frame) (c .before .before .before .before .before .before .before .before .before .before .before .before .before .before .before .before .args .i)) 0) (mark-place (c .before .before .before .before .before .before .before .before .before .before .before .before .before .before .before .before .args .frame) (c .before .before .before .before .before .before .before .before .read-row .result .a)) 1) (c .before .before .before .before .before .before .before .before .read-row .result .b) (c .least2 .result) (c .least2 .result) (omega (arith, c .before .least .ensures .1, c .least2 .ensures .1)) (omega arith) (unmarked-above (c .before .before .before .before .before .before .before .before .before .before .before .before .before .before .before .before .args .frame) (set (c .before .before .before .before .before .before .before .before .before .before .before .before .before .before .before .before .args .scratch .now) (mark-place (c .before .before .before .before .before .before .before .before .before .before .before .before .before .before .before .before .args .frame) (c .before .before .before .before .before .before .before .before .before .before .before .before .before .before .before .before .args .i)) 0) (c .before .before .before .before .before .before .before .before .read-row .result .a) (c .before .before .before .before .before .before .before .before .before .before .before .before .before .before .before .before .args .low) (c .least2 .result) (omega (arith, c .before .least .ensures .0, c .least2 .ensures .1)) (c .least2 .ensures .0) (unmarked-gone (c .before .before .before .before .before .before .before .before .before .before .before .before .before .before .before .before .args .frame) (c .before .before .before .before .before .before .before .before .before .before .before .before .before .before .before .before .args .scratch .now) (c .before .before .before .before .before .before .before .before .before .before .before .before .before .before .before .before .args .i) (c .before .before .before .before .before .before .before .before .before .before .before .before .before .before .before .before .args .low) u)))
+returns-2 c = (look-both (c .before .before .before .before .before .before .before .before .before .before .before .before .before .before .before .before .args .frame) (c .before .before .before .before .before .before .before .before .before .before .before .before .before .before .before .before .args .effects .now) (c .before .before .before .before .before .before .before .before .before .before .before .before .before .before .before .before .args .i) (c .before .before .before .before .before .before .before .before .before .before .before .before .before .before .before .before .args .scratch .now) (c .before .before .before .before .before .before .before .before .before .before .before .before .before .before .before .before .args .named .now) (c .before .before .before .before .before .before .before .before .before .before .before .before .before .before .before .before .pre) (c .before .before .before .before .before .before .before .before .read-row .result) (c .before .before .before .before .before .before .before .before .read-row .ensures) (c .before .before .before .before .before .before .if2 .taken), λ u. unmarked-above (c .before .before .before .before .before .before .before .before .before .before .before .before .before .before .before .before .args .frame) (set (set (c .before .before .before .before .before .before .before .before .before .before .before .before .before .before .before .before .args .scratch .now) (mark-place (c .before .before .before .before .before .before .before .before .before .before .before .before .before .before .before .before .args .frame) (c .before .before .before .before .before .before .before .before .before .before .before .before .before .before .before .before .args .i)) 0) (mark-place (c .before .before .before .before .before .before .before .before .before .before .before .before .before .before .before .before .args .frame) (c .before .before .before .before .before .before .before .before .read-row .result .a)) 1) (c .before .before .before .before .before .before .before .before .read-row .result .b) (c .least2 .result) (c .least2 .result) (omega (arith, c .before .least .ensures .1, c .least2 .ensures .1)) (omega arith) (unmarked-above (c .before .before .before .before .before .before .before .before .before .before .before .before .before .before .before .before .args .frame) (set (c .before .before .before .before .before .before .before .before .before .before .before .before .before .before .before .before .args .scratch .now) (mark-place (c .before .before .before .before .before .before .before .before .before .before .before .before .before .before .before .before .args .frame) (c .before .before .before .before .before .before .before .before .before .before .before .before .before .before .before .before .args .i)) 0) (c .before .before .before .before .before .before .before .before .read-row .result .a) (c .before .before .before .before .before .before .before .before .before .before .before .before .before .before .before .before .args .low) (c .least2 .result) (omega (arith, c .before .least .ensures .0, c .least2 .ensures .1)) (c .least2 .ensures .0) (unmarked-gone (c .before .before .before .before .before .before .before .before .before .before .before .before .before .before .before .before .args .frame) (c .before .before .before .before .before .before .before .before .before .before .before .before .before .before .before .before .args .scratch .now) (c .before .before .before .before .before .before .before .before .before .before .before .before .before .before .before .before .args .i) (c .before .before .before .before .before .before .before .before .before .before .before .before .before .before .before .before .args .low) u)))
 
 -- src/marks.rt:30:28
 cast-inner : tie.Need-cast-inner
@@ -134,7 +134,7 @@ same-length-2 c = search needs
 
 -- src/marks.rt:32:9
 returns-3 : tie.Need-returns-3
-returns-3 c = (look-under (c .before .before .before .before .before .before .before .before .before .before .before .before .before .before .before .args .frame) (c .before .before .before .before .before .before .before .before .before .before .before .before .before .before .before .args .effects .now) (c .before .before .before .before .before .before .before .before .before .before .before .before .before .before .before .args .i) (c .before .before .before .before .before .before .before .before .before .before .before .before .before .before .before .args .scratch .now) (c .before .before .before .before .before .before .before .before .before .before .before .before .before .before .before .args .touched .now) (c .before .before .before .before .before .before .before .before .before .before .before .before .before .before .before .pre) (c .before .before .before .before .before .before .before .read-row .result) (c .before .before .before .before .before .before .before .read-row .ensures) (c .before .before .before .if3 .taken), λ u. unmarked-above (c .before .before .before .before .before .before .before .before .before .before .before .before .before .before .before .args .frame) (set (c .before .before .before .before .before .before .before .before .before .before .before .before .before .before .before .args .scratch .now) (mark-place (c .before .before .before .before .before .before .before .before .before .before .before .before .before .before .before .args .frame) (c .before .before .before .before .before .before .before .before .before .before .before .before .before .before .before .args .i)) 0) (c .before .before .before .before .before .before .before .read-row .result .b) (c .before .before .before .before .before .before .before .before .before .before .before .before .before .before .before .args .low) (c .least3 .result) (c .least3 .ensures .1) (c .least3 .ensures .0) (unmarked-gone (c .before .before .before .before .before .before .before .before .before .before .before .before .before .before .before .args .frame) (c .before .before .before .before .before .before .before .before .before .before .before .before .before .before .before .args .scratch .now) (c .before .before .before .before .before .before .before .before .before .before .before .before .before .before .before .args .i) (c .before .before .before .before .before .before .before .before .before .before .before .before .before .before .before .args .low) u))
+returns-3 c = (look-under (c .before .before .before .before .before .before .before .before .before .before .before .before .before .before .before .args .frame) (c .before .before .before .before .before .before .before .before .before .before .before .before .before .before .before .args .effects .now) (c .before .before .before .before .before .before .before .before .before .before .before .before .before .before .before .args .i) (c .before .before .before .before .before .before .before .before .before .before .before .before .before .before .before .args .scratch .now) (c .before .before .before .before .before .before .before .before .before .before .before .before .before .before .before .args .named .now) (c .before .before .before .before .before .before .before .before .before .before .before .before .before .before .before .pre) (c .before .before .before .before .before .before .before .read-row .result) (c .before .before .before .before .before .before .before .read-row .ensures) (c .before .before .before .if3 .taken), λ u. unmarked-above (c .before .before .before .before .before .before .before .before .before .before .before .before .before .before .before .args .frame) (set (c .before .before .before .before .before .before .before .before .before .before .before .before .before .before .before .args .scratch .now) (mark-place (c .before .before .before .before .before .before .before .before .before .before .before .before .before .before .before .args .frame) (c .before .before .before .before .before .before .before .before .before .before .before .before .before .before .before .args .i)) 0) (c .before .before .before .before .before .before .before .read-row .result .b) (c .before .before .before .before .before .before .before .before .before .before .before .before .before .before .before .args .low) (c .least3 .result) (c .least3 .ensures .1) (c .least3 .ensures .0) (unmarked-gone (c .before .before .before .before .before .before .before .before .before .before .before .before .before .before .before .args .frame) (c .before .before .before .before .before .before .before .before .before .before .before .before .before .before .before .args .scratch .now) (c .before .before .before .before .before .before .before .before .before .before .before .before .before .before .before .args .i) (c .before .before .before .before .before .before .before .before .before .before .before .before .before .before .before .args .low) u))
 
 -- src/marks.rt:35:9
 same-length-3 : tie.Need-same-length-3
@@ -142,15 +142,23 @@ same-length-3 c = search needs
 
 -- src/marks.rt:35:9
 returns-4 : tie.Need-returns-4
-returns-4 c = (look-empty (c .before .before .before .before .before .before .before .before .before .before .before .before .before .before .args .frame) (c .before .before .before .before .before .before .before .before .before .before .before .before .before .before .args .effects .now) (c .before .before .before .before .before .before .before .before .before .before .before .before .before .before .args .i) (c .before .before .before .before .before .before .before .before .before .before .before .before .before .before .args .scratch .now) (c .before .before .before .before .before .before .before .before .before .before .before .before .before .before .args .touched .now) (c .before .before .before .before .before .before .before .before .before .before .before .before .before .before .pre) (c .before .before .before .before .before .before .read-row .result) (c .before .before .before .before .before .before .read-row .ensures) (c .if4 .taken), λ u. (unmarked-gone (c .before .before .before .before .before .before .before .before .before .before .before .before .before .before .args .frame) (c .before .before .before .before .before .before .before .before .before .before .before .before .before .before .args .scratch .now) (c .before .before .before .before .before .before .before .before .before .before .before .before .before .before .args .i) (c .before .before .before .before .before .before .before .before .before .before .before .before .before .before .args .low) u))
+returns-4 c = (look-empty (c .before .before .before .before .before .before .before .before .before .before .before .before .before .before .args .frame) (c .before .before .before .before .before .before .before .before .before .before .before .before .before .before .args .effects .now) (c .before .before .before .before .before .before .before .before .before .before .before .before .before .before .args .i) (c .before .before .before .before .before .before .before .before .before .before .before .before .before .before .args .scratch .now) (c .before .before .before .before .before .before .before .before .before .before .before .before .before .before .args .named .now) (c .before .before .before .before .before .before .before .before .before .before .before .before .before .before .pre) (c .before .before .before .before .before .before .read-row .result) (c .before .before .before .before .before .before .read-row .ensures) (c .if4 .taken), λ u. (unmarked-gone (c .before .before .before .before .before .before .before .before .before .before .before .before .before .before .args .frame) (c .before .before .before .before .before .before .before .before .before .before .before .before .before .before .args .scratch .now) (c .before .before .before .before .before .before .before .before .before .before .before .before .before .before .args .i) (c .before .before .before .before .before .before .before .before .before .before .before .before .before .before .args .low) u))
 
 -- src/marks.rt:37:13
 cast-v : tie.Need-cast-v
 cast-v c = search needs
 
--- src/marks.rt:38:5
-slice-write-touched : tie.Need-slice-write-touched
-slice-write-touched c = omega (arith, atom-within (c .before .before .before .before .before .before .before .before .before .before .before .before .before .before .before .args .frame) (c .before .before .before .before .before .before .before .before .before .before .before .before .before .before .before .args .effects .now) (c .before .before .before .before .before .before .before .before .before .before .before .before .before .before .before .args .scratch .now) (c .before .before .before .before .before .before .before .before .before .before .before .before .before .before .before .pre .source) (c .before .before .before .before .before .before .before .before .before .before .before .before .before .before .before .args .i) (c .before .before .before .before .before .before .before .before .before .before .before .before .before .before .before .pre .effect) (c .before .before .before .before .before .before .before .read-row .result) (c .before .before .before .before .before .before .before .read-row .ensures) (c .before .if4 .left) (c .before .before .before .before .before .if2 .left) (c .before .before .before .if3 .left), c .before .before .before .before .before .before .before .before .before .before .before .before .before .before .before .pre .room)
+mul-named : tie.Need-mul-named
+mul-named c = omega (arith, named-room (c .before .before .before .before .before .before .before .before .before .before .before .before .before .before .before .before .args .frame) (c .before .before .before .before .before .before .before .before .before .before .before .before .before .before .before .before .args .effects .now) (c .before .before .before .before .before .before .before .before .before .before .before .before .before .before .before .before .args .i) (c .before .before .before .before .before .before .before .before .before .before .before .before .before .before .before .before .args .scratch .now) (c .before .before .before .before .before .before .before .before .before .before .before .before .before .before .before .before .args .named .now) (c .before .before .before .before .before .before .before .before .before .before .before .before .before .before .before .before .pre) (c .before .before .before .before .before .before .before .before .read-row .result) (c .before .before .before .before .before .before .before .before .read-row .ensures) (c .before .before .if4 .left) (c .before .before .before .before .before .before .if2 .left) (c .before .before .before .before .if3 .left), c .before .before .before .before .before .before .before .before .before .before .before .before .before .before .before .before .good)
+
+cast-named : tie.Need-cast-named
+cast-named c = search needs
+
+add-named : tie.Need-add-named
+add-named c = omega (arith, named-room (c .before .before .before .before .before .before .before .before .before .before .before .before .before .before .before .before .args .frame) (c .before .before .before .before .before .before .before .before .before .before .before .before .before .before .before .before .args .effects .now) (c .before .before .before .before .before .before .before .before .before .before .before .before .before .before .before .before .args .i) (c .before .before .before .before .before .before .before .before .before .before .before .before .before .before .before .before .args .scratch .now) (c .before .before .before .before .before .before .before .before .before .before .before .before .before .before .before .before .args .named .now) (c .before .before .before .before .before .before .before .before .before .before .before .before .before .before .before .before .pre) (c .before .before .before .before .before .before .before .before .read-row .result) (c .before .before .before .before .before .before .before .before .read-row .ensures) (c .before .before .if4 .left) (c .before .before .before .before .before .before .if2 .left) (c .before .before .before .before .if3 .left), c .before .before .before .before .before .before .before .before .before .before .before .before .before .before .before .before .good)
+
+slice-write-named : tie.Need-slice-write-named
+slice-write-named c = named-room (c .before .before .before .before .before .before .before .before .before .before .before .before .before .before .before .before .args .frame) (c .before .before .before .before .before .before .before .before .before .before .before .before .before .before .before .before .args .effects .now) (c .before .before .before .before .before .before .before .before .before .before .before .before .before .before .before .before .args .i) (c .before .before .before .before .before .before .before .before .before .before .before .before .before .before .before .before .args .scratch .now) (c .before .before .before .before .before .before .before .before .before .before .before .before .before .before .before .before .args .named .now) (c .before .before .before .before .before .before .before .before .before .before .before .before .before .before .before .before .pre) (c .before .before .before .before .before .before .before .before .read-row .result) (c .before .before .before .before .before .before .before .before .read-row .ensures) (c .before .before .if4 .left) (c .before .before .before .before .before .before .if2 .left) (c .before .before .before .before .if3 .left)
 
 -- src/marks.rt:11:1
 same-length-4 : tie.Need-same-length-4
@@ -162,7 +170,7 @@ same-length-5 c = search needs
 
 -- src/marks.rt:11:1
 returns-5 : tie.Need-returns-5
-returns-5 c = (look-atom (c .before .before .before .before .before .before .before .before .before .before .before .before .before .before .before .args .frame) (c .before .before .before .before .before .before .before .before .before .before .before .before .before .before .before .args .effects .now) (c .before .before .before .before .before .before .before .before .before .before .before .before .before .before .before .args .i) (c .before .before .before .before .before .before .before .before .before .before .before .before .before .before .before .args .scratch .now) (c .before .before .before .before .before .before .before .before .before .before .before .before .before .before .before .args .touched .now) (c .before .before .before .before .before .before .before .before .before .before .before .before .before .before .before .pre) (c .before .before .before .before .before .before .before .read-row .result) (c .before .before .before .before .before .before .before .read-row .ensures) (c .before .if4 .left) (c .before .before .before .before .before .if2 .left) (c .before .before .before .if3 .left), λ u. (unmarked-gone (c .before .before .before .before .before .before .before .before .before .before .before .before .before .before .before .args .frame) (c .before .before .before .before .before .before .before .before .before .before .before .before .before .before .before .args .scratch .now) (c .before .before .before .before .before .before .before .before .before .before .before .before .before .before .before .args .i) (c .before .before .before .before .before .before .before .before .before .before .before .before .before .before .before .args .low) u))
+returns-5 c = (look-atom (c .before .before .before .before .before .before .before .before .before .before .before .before .before .before .before .before .args .frame) (c .before .before .before .before .before .before .before .before .before .before .before .before .before .before .before .before .args .effects .now) (c .before .before .before .before .before .before .before .before .before .before .before .before .before .before .before .before .args .i) (c .before .before .before .before .before .before .before .before .before .before .before .before .before .before .before .before .args .scratch .now) (c .before .before .before .before .before .before .before .before .before .before .before .before .before .before .before .before .args .named .now) (c .before .before .before .before .before .before .before .before .before .before .before .before .before .before .before .before .pre) (c .before .before .before .before .before .before .before .before .read-row .result) (c .before .before .before .before .before .before .before .before .read-row .ensures) (c .before .before .if4 .left) (c .before .before .before .before .before .before .if2 .left) (c .before .before .before .before .if3 .left), λ u. unmarked-gone (c .before .before .before .before .before .before .before .before .before .before .before .before .before .before .before .before .args .frame) (c .before .before .before .before .before .before .before .before .before .before .before .before .before .before .before .before .args .scratch .now) (c .before .before .before .before .before .before .before .before .before .before .before .before .before .before .before .before .args .i) (c .before .before .before .before .before .before .before .before .before .before .before .before .before .before .before .before .args .low) u)
 
 pub look-spec : {M : Type 1} → statement M
 look-spec =
@@ -202,7 +210,10 @@ look-spec =
     same-length-3
     returns-4
     cast-v
-    slice-write-touched
+    mul-named
+    cast-named
+    add-named
+    slice-write-named
     same-length-4
     same-length-5
     returns-5)

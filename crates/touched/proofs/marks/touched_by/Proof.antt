@@ -11,10 +11,10 @@ use Rattle.touched.specs.Touched.{mark-place}
 use Rattle.touched.proofs.Looking.{Marking, marking-begins, marking-looks, marking-more, marking-ends, unmarked}
 
 abbrev Inv-loop : tie.InvT-loop
-Inv-loop effects e frame scratch₀ touched₀ root i₀ low₀ scratch touched i low = (length touched ≡ length touched₀) × (length scratch ≡ length scratch₀) × Marking frame effects e i low (set scratch₀ (mark-place frame e) 0) scratch touched
+Inv-loop effects e frame scratch₀ named₀ root i₀ low₀ scratch named i low = (length named ≡ length named₀) × (length scratch ≡ length scratch₀) × Marking frame effects e i low (set scratch₀ (mark-place frame e) 0) scratch named
 
 abbrev μ-loop : tie.MeasureT-loop
-μ-loop effects e frame scratch₀ touched₀ root i₀ low₀ scratch touched i low = i
+μ-loop effects e frame scratch₀ named₀ root i₀ low₀ scratch named i low = i
 
 -- src/marks.rt:46:16
 mul-root : tie.Need-mul-root Inv-loop μ-loop
@@ -42,7 +42,7 @@ add-i c = omega (arith, c .before .before .before .before .before .pre .looks .s
 
 -- src/marks.rt:49:5
 loop-holds : tie.Need-loop-holds Inv-loop μ-loop
-loop-holds c = (refl, refl, rw (unmarked (c .before .before .before .before .before .args .frame) (c .before .before .before .before .before .args .effects .now) (c .before .before .before .before .before .args .e) (c .before .before .before .before .before .args .scratch .now) (c .before .before .before .before .before .args .touched .now) (c .before .before .before .before .before .pre)) (marking-begins (c .before .before .before .before .before .args .frame) (c .before .before .before .before .before .args .effects .now) (c .before .before .before .before .before .args .e) (c .before .before .before .before .before .args .scratch .now) (c .before .before .before .before .before .args .touched .now) (c .before .before .before .before .before .pre)))
+loop-holds c = (refl, refl, rw (unmarked (c .before .before .before .before .before .args .frame) (c .before .before .before .before .before .args .effects .now) (c .before .before .before .before .before .args .e) (c .before .before .before .before .before .args .scratch .now) (c .before .before .before .before .before .args .named .now) (c .before .before .before .before .before .pre)) (marking-begins (c .before .before .before .before .before .args .frame) (c .before .before .before .before .before .args .effects .now) (c .before .before .before .before .before .args .e) (c .before .before .before .before .before .args .scratch .now) (c .before .before .before .before .before .args .named .now) (c .before .before .before .before .before .pre)))
 
 -- src/marks.rt:50:9
 sub-i : tie.Need-sub-i Inv-loop μ-loop
@@ -50,7 +50,7 @@ sub-i c = omega arith
 
 -- src/marks.rt:51:9
 look-requires : tie.Need-look-requires Inv-loop μ-loop
-look-requires c κs = marking-looks (c .before .before .before .before .before .before .before .before .before .args .frame) (c .before .before .before .before .before .before .before .before .before .args .effects .now) (c .before .before .before .before .before .before .before .before .before .args .e) (c .before .before .before .loop .i) (c .before .before .before .loop .i - 1) (c .before .before .before .before .before .before .before .before .before .args .scratch .now) (c .before .before .before .loop .scratch) (c .before .before .before .loop .touched) (c .before .before .before .before .before .before .before .before .before .args .touched .now) (c .before .before .before .before .before .before .before .before .before .pre) (c .before .before .before .loop .inv .0) (rw (unmarked (c .before .before .before .before .before .before .before .before .before .args .frame) (c .before .before .before .before .before .before .before .before .before .args .effects .now) (c .before .before .before .before .before .before .before .before .before .args .e) (c .before .before .before .before .before .before .before .before .before .args .scratch .now) (c .before .before .before .before .before .before .before .before .before .args .touched .now) (c .before .before .before .before .before .before .before .before .before .pre)) at (c .before .before .before .loop .inv .2)) (omega arith)
+look-requires c κs = marking-looks (c .before .before .before .before .before .before .before .before .before .args .frame) (c .before .before .before .before .before .before .before .before .before .args .effects .now) (c .before .before .before .before .before .before .before .before .before .args .e) (c .before .before .before .loop .i) (c .before .before .before .loop .i - 1) (c .before .before .before .before .before .before .before .before .before .args .scratch .now) (c .before .before .before .loop .scratch) (c .before .before .before .loop .named) (c .before .before .before .before .before .before .before .before .before .args .named .now) (c .before .before .before .before .before .before .before .before .before .pre) (c .before .before .before .loop .inv .0) (rw (unmarked (c .before .before .before .before .before .before .before .before .before .args .frame) (c .before .before .before .before .before .before .before .before .before .args .effects .now) (c .before .before .before .before .before .before .before .before .before .args .e) (c .before .before .before .before .before .before .before .before .before .args .scratch .now) (c .before .before .before .before .before .before .before .before .before .args .named .now) (c .before .before .before .before .before .before .before .before .before .pre)) at (c .before .before .before .loop .inv .2)) (omega arith)
 
 -- src/marks.rt:49:5
 loop-less : tie.Need-loop-less Inv-loop μ-loop
@@ -58,7 +58,7 @@ loop-less c = omega arith
 
 -- src/marks.rt:49:5
 loop-again : tie.Need-loop-again Inv-loop μ-loop
-loop-again c = (c .before .before .before .before .look .kept .1 .1 .1 .1 .1 .0 ∙ c .before .before .before .before .before .before .before .before .loop .inv .0, c .before .before .before .before .look .kept .1 .1 .1 .1 .0 ∙ c .before .before .before .before .before .before .before .before .loop .inv .1, rw (unmarked (c .before .before .before .before .before .before .before .before .before .before .before .before .before .before .args .frame) (c .before .before .before .before .before .before .before .before .before .before .before .before .before .before .args .effects .now) (c .before .before .before .before .before .before .before .before .before .before .before .before .before .before .args .e) (c .before .before .before .before .before .before .before .before .before .before .before .before .before .before .args .scratch .now) (c .before .before .before .before .before .before .before .before .before .before .before .before .before .before .args .touched .now) (c .before .before .before .before .before .before .before .before .before .before .before .before .before .before .pre)) (marking-more (c .before .before .before .before .before .before .before .before .before .before .before .before .before .before .args .frame) (c .before .before .before .before .before .before .before .before .before .before .before .before .before .before .args .effects .now) (c .before .before .before .before .before .before .before .before .before .before .before .before .before .before .args .e) (c .before .before .before .before .before .before .before .before .loop .i) (c .before .before .before .before .before .before .before .before .loop .i - 1) (c .before .before .before .before .before .before .before .before .before .before .before .before .before .before .args .scratch .now) (c .before .before .before .before .before .before .before .before .loop .scratch) (c .before .before .before .before .look .last .1 .1 .1 .1 .0) (c .before .before .before .before .before .before .before .before .loop .touched) (c .before .before .before .before .look .last .1 .1 .1 .1 .1 .0) (omega arith) (c .before .before .before .before .look .kept .1 .1 .1 .1 .0) (rw (unmarked (c .before .before .before .before .before .before .before .before .before .before .before .before .before .before .args .frame) (c .before .before .before .before .before .before .before .before .before .before .before .before .before .before .args .effects .now) (c .before .before .before .before .before .before .before .before .before .before .before .before .before .before .args .e) (c .before .before .before .before .before .before .before .before .before .before .before .before .before .before .args .scratch .now) (c .before .before .before .before .before .before .before .before .before .before .before .before .before .before .args .touched .now) (c .before .before .before .before .before .before .before .before .before .before .before .before .before .before .pre)) at (c .before .before .before .before .before .before .before .before .loop .inv .2)) (c .before .before .before .before .look .ensures .0) (c .before .before .before .before .look .ensures .1)))
+loop-again c = (c .before .before .before .before .look .kept .1 .1 .1 .1 .1 .0 ∙ c .before .before .before .before .before .before .before .before .loop .inv .0, c .before .before .before .before .look .kept .1 .1 .1 .1 .0 ∙ c .before .before .before .before .before .before .before .before .loop .inv .1, rw (unmarked (c .before .before .before .before .before .before .before .before .before .before .before .before .before .before .args .frame) (c .before .before .before .before .before .before .before .before .before .before .before .before .before .before .args .effects .now) (c .before .before .before .before .before .before .before .before .before .before .before .before .before .before .args .e) (c .before .before .before .before .before .before .before .before .before .before .before .before .before .before .args .scratch .now) (c .before .before .before .before .before .before .before .before .before .before .before .before .before .before .args .named .now) (c .before .before .before .before .before .before .before .before .before .before .before .before .before .before .pre)) (marking-more (c .before .before .before .before .before .before .before .before .before .before .before .before .before .before .args .frame) (c .before .before .before .before .before .before .before .before .before .before .before .before .before .before .args .effects .now) (c .before .before .before .before .before .before .before .before .before .before .before .before .before .before .args .e) (c .before .before .before .before .before .before .before .before .loop .i) (c .before .before .before .before .before .before .before .before .loop .i - 1) (c .before .before .before .before .before .before .before .before .before .before .before .before .before .before .args .scratch .now) (c .before .before .before .before .before .before .before .before .loop .scratch) (c .before .before .before .before .look .last .1 .1 .1 .1 .0) (c .before .before .before .before .before .before .before .before .loop .named) (c .before .before .before .before .look .last .1 .1 .1 .1 .1 .0) (omega arith) (c .before .before .before .before .look .kept .1 .1 .1 .1 .0) (rw (unmarked (c .before .before .before .before .before .before .before .before .before .before .before .before .before .before .args .frame) (c .before .before .before .before .before .before .before .before .before .before .before .before .before .before .args .effects .now) (c .before .before .before .before .before .before .before .before .before .before .before .before .before .before .args .e) (c .before .before .before .before .before .before .before .before .before .before .before .before .before .before .args .scratch .now) (c .before .before .before .before .before .before .before .before .before .before .before .before .before .before .args .named .now) (c .before .before .before .before .before .before .before .before .before .before .before .before .before .before .pre)) at (c .before .before .before .before .before .before .before .before .loop .inv .2)) (c .before .before .before .before .look .ensures .0) (c .before .before .before .before .look .ensures .1)))
 
 -- src/marks.rt:42:1
 same-length : tie.Need-same-length Inv-loop μ-loop
@@ -70,7 +70,7 @@ same-length-2 c = c .before .loop .inv .0
 
 -- src/marks.rt:42:1
 returns : tie.Need-returns Inv-loop μ-loop
-returns c = marking-ends (c .before .before .before .before .before .before .before .args .frame) (c .before .before .before .before .before .before .before .args .effects .now) (c .before .before .before .before .before .before .before .args .e) (c .before .loop .i) (c .before .before .before .before .before .before .before .args .scratch .now) (c .before .loop .scratch) (c .before .loop .touched) (c .before .before .before .before .before .before .before .args .touched .now) (c .before .before .before .before .before .before .before .pre) (rw (unmarked (c .before .before .before .before .before .before .before .args .frame) (c .before .before .before .before .before .before .before .args .effects .now) (c .before .before .before .before .before .before .before .args .e) (c .before .before .before .before .before .before .before .args .scratch .now) (c .before .before .before .before .before .before .before .args .touched .now) (c .before .before .before .before .before .before .before .pre)) at (c .before .loop .inv .2)) (omega arith)
+returns c = marking-ends (c .before .before .before .before .before .before .before .args .frame) (c .before .before .before .before .before .before .before .args .effects .now) (c .before .before .before .before .before .before .before .args .e) (c .before .loop .i) (c .before .before .before .before .before .before .before .args .scratch .now) (c .before .loop .scratch) (c .before .loop .named) (c .before .before .before .before .before .before .before .args .named .now) (c .before .before .before .before .before .before .before .pre) (rw (unmarked (c .before .before .before .before .before .before .before .args .frame) (c .before .before .before .before .before .before .before .args .effects .now) (c .before .before .before .before .before .before .before .args .e) (c .before .before .before .before .before .before .before .args .scratch .now) (c .before .before .before .before .before .before .before .args .named .now) (c .before .before .before .before .before .before .before .pre)) at (c .before .loop .inv .2)) (omega arith)
 
 pub touched-by-spec : {M : Type 1} → statement M
 touched-by-spec =

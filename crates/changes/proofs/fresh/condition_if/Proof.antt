@@ -1,0 +1,50 @@
+use borrow.Author.Needs.{needs}
+use Rattle.changes.proofs.fresh.condition_if.Statement.{statement}
+use Rattle.changes.proofs.fresh.condition_if.Tie as tie
+use Rattle.changes.proofs.fresh.condition_if.Reads as reads
+use Rattle.changes.proofs.fresh.condition_if.Lts as lts
+use Rattle.changes.proofs.fresh.condition_of.Reads as condition-of-reads
+use Rattle.formula_builder.proofs.falsity.Reads as falsity-reads
+use Rattle.formula_builder.proofs.standing.Reads as standing-reads
+use Rattle.changes.proofs.Standing.{images-unnamed, leaves-same}
+
+condition-of-requires : tie.Need-condition-of-requires
+condition-of-requires c κs = search needs
+
+same-length : tie.Need-same-length
+same-length c = search needs
+
+same-length-2 : tie.Need-same-length-2
+same-length-2 c = search needs
+
+same-length-3 : tie.Need-same-length-3
+same-length-3 c = search needs
+
+same-length-4 : tie.Need-same-length-4
+same-length-4 c = search needs
+
+returns : tie.Need-returns
+returns c = search needs
+
+falsity-requires : tie.Need-falsity-requires
+falsity-requires c κs = search needs
+
+standing-requires : tie.Need-standing-requires
+standing-requires c κs = search needs
+
+returns-2 : tie.Need-returns-2
+returns-2 c = rw (c .standing .ensures, c .before .falsity .ensures) (images-unnamed (c .before .before .before .before .before .before .before .before .before .args .t) (c .before .before .before .before .before .before .before .before .before .pre .0) (c .before .before .before .before .before .before .before .before .before .pre .1 (c .before .before .if1 .left)), leaves-same (c .before .before .before .before .before .before .before .before .before .pre .0 .noted))
+
+pub condition-if-spec : {M : Type 1} → statement M
+condition-if-spec =
+    tie.close
+    (tie.spec
+    condition-of-requires
+    same-length
+    same-length-2
+    same-length-3
+    same-length-4
+    returns
+    falsity-requires
+    standing-requires
+    returns-2)
