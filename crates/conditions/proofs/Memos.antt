@@ -16,7 +16,7 @@ use Rattle.normal_form.proofs.Growth.{steady-bind, steady-join}
 use Rattle.formula_builder.specs.declared.Frame.{Frame}
 use Rattle.formula_builder.specs.declared.Size.{Size}
 use Rattle.formula_builder.specs.declared.Step.{Step}
-use Rattle.formula_builder.specs.Held.{Store, held, size-of, side, done-step, Ready, Done, Builds}
+use Rattle.formula_builder.specs.Held.{Store, held, size-of, done-step, Ready, Done, Builds}
 use Rattle.formula_builder.proofs.Steps.{builds-done, builds-as, builds-bind, builds-stop}
 use Rattle.images.specs.Images.{Known, Memo, noted, memo-place, Source, Images}
 use Rattle.images.proofs.Memos.{known-grows, memo-grows, done-grows, done-known, place-within}

@@ -3,7 +3,7 @@ use Prim.Native.Nat.{ℕ, zero, suc, _+_, _-_, _*_, _≤_, _<_}
 use native.Mathlib.Omega.{arith}
 use native.Mathlib.Decide.{ℕ-discrete}
 use native.Mathlib.Nat.{mul-le-mul}
-use mathlib.Core.Path.{_≡_, refl, sym, ap, ap₂, _∙_}
+use mathlib.Core.Path.{_≡_, refl, sym, ap, _∙_}
 use mathlib.Core.Bool.{Bool, true, false, cond}
 use mathlib.Core.List.{List}
 use lib.ListN.{length, getD, set, length-set}
@@ -19,7 +19,7 @@ use Rattle.formula_builder.specs.Held.{Store, side, Builds}
 use Rattle.images.specs.Images.{Known, noted}
 use Rattle.images.proofs.Memos.{known-grows}
 use Rattle.conditions.specs.declared.Target.{Target}
-use Rattle.conditions.specs.Conditions.{atom-of, effect-tree, condition-at, outside, Spans, column, kept-place, Columns, Kept, Noted, Looks, KeptAt, Recalls, Keeps, Asks}
+use Rattle.conditions.specs.Conditions.{atom-of, effect-tree, condition-at, outside, Spans, column, kept-place, Columns, Noted, Looks, KeptAt, Recalls, Keeps, Asks}
 
 pub steady-condition-at :
     (frame : Frame) (formulas effects : List ℕ) (t : Target) (e : ℕ) → Steady (condition-at frame formulas effects t e)
@@ -44,16 +44,6 @@ noted-grows {frame} {formulas} {effects} g n =
 
 behind : (a b : ℕ) → a ≤ a + b
 behind a b = omega arith
-
--- no row has a column
-pub columns-blank :
-    (frame : Frame) (notes : List ℕ)
-    → 3 * frame .effects ≤ length notes
-    → ((e : ℕ) → e < frame .effects → getD notes (2 * frame .effects + e) 0 ≡ 0)
-    → Columns frame notes
-unfolding column
-columns-blank frame notes words blank =
-    record { words = words; apart = λ d e g h c q. absurd (omega (arith, blank e h, c)) }
 
 -- nothing is kept
 pub noted-blank :

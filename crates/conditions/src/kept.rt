@@ -5,7 +5,7 @@ use formula_builder::Step;
 use images::note;
 ghost use mathlib.Core.Path.{_≡_};
 ghost use mathlib.Core.Bool.{false};
-ghost use Prim.Native.Nat.{ℕ, _<_};
+ghost use Prim.Native.Nat.{_<_};
 ghost use Rattle.conditions.specs.Conditions.{Looks, KeptAt, Recalls, Keeps};
 
 // The word that keeps the condition of target t and effect e; 0, if none does. Only plain conditions are kept, and only as far as the notes reach.

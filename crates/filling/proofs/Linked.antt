@@ -1,5 +1,5 @@
 -- A source that passes, as the code's passes see it. Assumes nothing.
-use Prim.Native.Nat.{ℕ, zero, suc, _+_, _*_, _≤_, _<_}
+use Prim.Native.Nat.{ℕ, zero, suc, _+_, _≤_, _<_}
 use native.Mathlib.Omega.{arith}
 use mathlib.Core.Path.{_≡_, refl, sym, ap, ap₂, _∙_}
 use mathlib.Core.List.{List, [], _∷_, _++_}
@@ -13,13 +13,13 @@ use Rattle.task.specs.Run.{operator-of}
 use Rattle.task.proofs.Held.{length-initial, length-formulas, length-effects, length-operators, operator-held}
 use Rattle.task.proofs.Kept.{kept-rules}
 use Rattle.task.proofs.Trees.{EffectsDown, rules-formulas, rules-effects}
-use Rattle.normal_form.specs.Builder.{St, start, plain}
+use Rattle.normal_form.specs.Builder.{start, plain}
 use Rattle.normal_form.specs.Assembly.{Assembled, assemble, unassembled}
 use Rattle.normal_form.specs.Finished.{built, assembled, finished}
 use Rattle.normal_form.specs.Compiled.{padded}
 use Rattle.formula_builder.specs.declared.Frame.{Frame}
 use Rattle.images.specs.Images.{source-rows}
-use Rattle.conditions.specs.Conditions.{effect-rows, Noted}
+use Rattle.conditions.specs.Conditions.{effect-rows}
 use Rattle.conditions.proofs.Notes.{noted-blank}
 use Rattle.formula_builder.specs.Held.{store}
 use Rattle.spans.specs.Found.{FindsSpans, FoundSpans}

@@ -1,4 +1,3 @@
-use borrow.Author.Needs.{needs}
 use Rattle.conditions.proofs.kept.recall.Statement.{statement}
 use Rattle.conditions.proofs.kept.recall.Tie as tie
 use Rattle.conditions.proofs.kept.recall.Reads as reads
