@@ -5,12 +5,16 @@ use mathlib.Core.List.{List}
 use lib.ListN.{length}
 use Rattle.task.specs.Table.{Lent, task-of}
 use Rattle.task.specs.Check.{refusal}
-use Rattle.file_format.specs.Reading.{accepted, reading}
+use Rattle.file_format.specs.Reading.{Lengths, accepted, reading}
 use Rattle.task_file.specs.declared.ReadAnswer.{ReadAnswer}
 use Rattle.task_file.specs.declared.ReadAnswer.the-variants.{Read, Refused}
 use Rattle.layouts.specs.Layout.{tables-bytes}
 use Rattle.layouts.specs.Giving.{flat-bytes, numbered}
 use Rattle.entries.specs.Entries.{own, RunEntry}
+
+-- small tables, which are tried first on a short file
+unfoldable pub small : Lengths
+small = record { initial = 512; twins = 64; formulas = 384; effects = 384; operators = 384 }
 
 -- an entry's own tables, with room for every task
 pub record Own (initial twins formulas effects operators : List ℕ) : Type 0 where
@@ -25,11 +29,15 @@ abbrev pub refused-number : ReadAnswer → ℕ
 refused-number (Read head) = 0
 refused-number (Refused n) = n
 
--- tables that hold what a file was read as
-pub record TaskRead (file : List ℕ) (l : Lent) : Type 0 where
-  pub read : reading own file ≡ accepted (task-of l)
+-- tables that hold what a file was read as, through tables of these lengths
+pub record ReadAs (lengths : Lengths) (file : List ℕ) (l : Lent) : Type 0 where
+  pub read : reading lengths file ≡ accepted (task-of l)
   pub kept : refusal l ≡ 0
   pub flat : flat-bytes l ≡ tables-bytes (task-of l)
+
+-- the same, through an entry's own
+abbrev pub TaskRead : List ℕ → Lent → Type 0
+TaskRead file l = ReadAs own file l
 
 pub record RunEntryGives (w : RunEntry) (r : ℕ) (after result : List ℕ) : Type 0 where
   pub told : r ≡ w .number
