@@ -105,7 +105,7 @@ module _ (l : Lent) {x : Tables} (c : CompileIn l x) (r : CompileAnswer) {v o f 
       g
 
   pub outputs-pass : {h : Head} → r ≡ Compiled h → refusal (lent h v o f e w) ≡ 0
-  outputs-pass p = compiled-kept l (c .kept) leaves p
+  outputs-pass p = compiled-kept l (c .kept) own-room leaves p
 
   pub lines-given :
       {h : Head} {m : ℕ} {out : List ℕ}

@@ -1,20 +1,26 @@
 -- Reading into an entry's own tables: what they hold then. Assumes nothing.
 use Prim.Native.Nat.{ℕ, zero, suc, _+_, _-_, _*_, _<_, _≤_}
 use native.Mathlib.Omega.{arith}
-use mathlib.Core.Path.{_≡_, refl, sym, ap, _∙_}
+use mathlib.Core.Path.{_≡_, refl, sym, ap, _∙_, subst}
+use mathlib.Core.Bool.{Bool, true, false, _&&_}
 use mathlib.Core.List.{List, [], _∷_, _++_}
 use lib.ListN.{length, replicate}
+use lib.Dec.{leb}
+use borrow.Author.Tests.{le-leb}
 use Rattle.task.specs.declared.Head.{Head}
 use Rattle.task.specs.Table.{Lent, Task, lent, task-of}
-use Rattle.task.specs.Check.{refusal}
+use Rattle.task.specs.Check.{counts-kept, goal-kept, refusal}
 use Rattle.task.specs.Words.{head-of, words-of, operator-words}
+use Rattle.task.proofs.Bounded.{and-both}
 use Rattle.task.proofs.Words.{lent-in, task-in, kept-in}
 use Rattle.task.proofs.Kept.{kept-rules}
 use Rattle.task.proofs.Passed.{passed, counts-tested}
 use Rattle.task_file.specs.declared.ReadAnswer.{ReadAnswer}
 use Rattle.task_file.specs.declared.ReadAnswer.the-variants.{Read, Refused}
 use Rattle.task_file.specs.Answers.{lengths}
-use Rattle.file_format.specs.Reading.{Lengths, Outcome, accepted, rejected, reading}
+use Rattle.file_format.specs.Parse.{Parsed, parsed, refused, next, kept}
+use Rattle.file_format.specs.Reading.{Lengths, room, head-read, head-kept, Outcome, accepted, rejected, at-end, reading}
+use Rattle.file_format.specs.Reading as reading-specs
 use Rattle.task_file.specs.Outcome.{ReadOutcome, padded, outcome-of, left, read-outcome}
 use Rattle.file_format.proofs.Parse.{Bytes}
 use Rattle.file_format.proofs.RoundTrip.{Accepted, written-read}
@@ -22,11 +28,43 @@ use Rattle.layouts.specs.Layout.{tables-bytes, laid}
 use Rattle.layouts.specs.Giving.{Lays, flat-bytes, LayIn}
 use Rattle.layouts.proofs.LayWays.{flat-in}
 use Rattle.entries.specs.Entries.{own, read-entry, read-entry-by}
-use Rattle.entries.specs.Giving.{Own, TaskRead}
+use Rattle.entries.specs.Giving.{Own, ReadAs, TaskRead}
+
+-- Lengths matter for number 5 alone: an entry's own tables have room for every head that keeps the limits.
+pub limits-room : (h : Head) → counts-kept h ≡ true → room own h ≡ true
+unfolding room own
+limits-room h e =
+    let c = counts-tested h .0 e in
+    and-both (le-leb (h .variables) 512 (c .variables))
+    (and-both (le-leb (h .twins) 256 (omega (arith, c .variables, c .twins)))
+    (and-both (le-leb (3 * h .formulas) 12288 (omega (arith, c .formulas)))
+    (and-both (le-leb (3 * h .effects) 12288 (omega (arith, c .effects)))
+    (le-leb (3 * h .operators) 768 (omega (arith, c .operators))))))
+
+same-head : (l : Lengths) (h : Head) (rest : List ℕ) → (head-kept l h rest ≡ refused 5 → ⊥) → head-kept l h rest ≡ head-kept own h rest
+unfolding head-kept next kept
+same-head l h rest d = go (counts-kept h) (goal-kept h) (room l h) refl refl refl
+  where
+    go : (a b c : Bool) → counts-kept h ≡ a → goal-kept h ≡ b → room l h ≡ c → head-kept l h rest ≡ head-kept own h rest
+    go false b c x y z = rw x
+    go true false c x y z = rw (x, y)
+    go true true false x y z = absurd (d (rw (x, y, z)))
+    go true true true x y z = rw (x, y, z, limits-room h x)
+
+-- so reading through tables of any lengths, unless it comes to 5, comes to what it does through an entry's own
+pub same-reading : (l : Lengths) (file : List ℕ) → (reading l file ≡ rejected 5 → ⊥) → reading l file ≡ reading own file
+unfolding reading reading-specs.task-read next at-end
+same-reading l file d = go (head-read file) refl
+  where
+    go : (p : Parsed Head) → head-read file ≡ p → reading l file ≡ reading own file
+    go (parsed h rest) x =
+        let s : head-kept l h rest ≡ head-kept own h rest = same-head l h rest (λ y. d (rw (x, y))) in
+        rw (x, s)
+    go (refused n) x = rw x
 
 -- tables with the words of an accepted task in front
-held-in : (file : List ℕ) (l : Lent) (t : Task) (i w f e o : List ℕ) → l ≡ lent-in t i w f e o → Accepted own file t → reading own file ≡ accepted t → TaskRead file l
-held-in file l t i w f e o s a r =
+held-in : (m : Lengths) (file : List ℕ) (l : Lent) (t : Task) (i w f e o : List ℕ) → l ≡ lent-in t i w f e o → Accepted m file t → reading m file ≡ accepted t → ReadAs m file l
+held-in m file l t i w f e o s a r =
     let same : task-of l ≡ t = ap task-of s ∙ task-in t i w f e o in
     record {
       read = r ∙ ap accepted (sym same);
@@ -34,56 +72,68 @@ held-in file l t i w f e o s a r =
       flat = ap flat-bytes s ∙ flat-in t i w f e o ∙ ap tables-bytes (sym same);
     }
 
-module _ (file : List ℕ) {r : ReadAnswer} (i w f e o : List ℕ) {i′ w′ f′ e′ o′ : List ℕ} (mine : Own i w f e o) (reads : left r i′ w′ f′ e′ o′ ≡ read-outcome (lengths (length i) (length w) (length f) (length e) (length o)) file) where
-  same-lengths : lengths (length i) (length w) (length f) (length e) (length o) ≡ own
-  unfolding own
-  same-lengths = λ j. record { initial = mine .bytes j; twins = mine .originals j; formulas = mine .formula-words j; effects = mine .effect-words j; operators = mine .operator-words j }
-
-  own-reads : left r i′ w′ f′ e′ o′ ≡ outcome-of own (reading own file)
+-- the two answers of reading through tables of any lengths
+module _ (m : Lengths) (file : List ℕ) {r : ReadAnswer} {i′ w′ f′ e′ o′ : List ℕ} (reads : left r i′ w′ f′ e′ o′ ≡ read-outcome m file) where
+  reads-by : left r i′ w′ f′ e′ o′ ≡ outcome-of m (reading m file)
   unfolding read-outcome
-  own-reads = reads ∙ ap (λ (l : Lengths). outcome-of l (reading l file)) same-lengths
+  reads-by = reads
 
-  pub task-read : {head : Head} → r ≡ Read head → Bytes file → TaskRead file (lent head i′ w′ f′ e′ o′)
+  pub read-as : {head : Head} → r ≡ Read head → Bytes file → ReadAs m file (lent head i′ w′ f′ e′ o′)
   unfolding outcome-of padded lent-in
-  task-read {head} q b = go (reading own file) refl
+  read-as {head} q b = go (reading m file) refl
     where
-      go : (x : Outcome) → reading own file ≡ x → TaskRead file (lent head i′ w′ f′ e′ o′)
+      go : (x : Outcome) → reading m file ≡ x → ReadAs m file (lent head i′ w′ f′ e′ o′)
       go (accepted t) x =
-          let s : left r i′ w′ f′ e′ o′ ≡ outcome-of own (accepted t) = own-reads ∙ ap (outcome-of own) x in
+          let s : left r i′ w′ f′ e′ o′ ≡ outcome-of m (accepted t) = reads-by ∙ ap (outcome-of m) x in
           let h : Read head ≡ Read (head-of t) = sym q ∙ ap (λ (y : ReadOutcome). y .answer) s in
           let g : head ≡ head-of t = cc in
-          held-in file (lent head i′ w′ f′ e′ o′) t
-          (replicate (own .initial - length (t .initial)) 0)
-          (replicate (own .twins - length (t .originals)) 0)
-          (replicate (own .formulas - length (words-of (t .formulas))) 0)
-          (replicate (own .effects - length (words-of (t .effects))) 0)
-          (replicate (own .operators - length (operator-words (t .operators))) 0)
+          held-in m file (lent head i′ w′ f′ e′ o′) t
+          (replicate (m .initial - length (t .initial)) 0)
+          (replicate (m .twins - length (t .originals)) 0)
+          (replicate (m .formulas - length (words-of (t .formulas))) 0)
+          (replicate (m .effects - length (words-of (t .effects))) 0)
+          (replicate (m .operators - length (operator-words (t .operators))) 0)
           (λ j. lent (g j) (s j .initial) (s j .twins) (s j .formulas) (s j .effects) (s j .operators))
-          (written-read own file t b x) x
+          (written-read m file t b x) x
       go (rejected n) x =
-          let s : left r i′ w′ f′ e′ o′ ≡ outcome-of own (rejected n) = own-reads ∙ ap (outcome-of own) x in
+          let s : left r i′ w′ f′ e′ o′ ≡ outcome-of m (rejected n) = reads-by ∙ ap (outcome-of m) x in
           let h : Read head ≡ Refused n = sym q ∙ ap (λ (y : ReadOutcome). y .answer) s in
           absurd (let z : _≡_ {A = ℕ} 0 1 = cc in omega arith)
 
-  -- a refusal is the file's
-  pub file-refused : {n : ℕ} → r ≡ Refused n → reading own file ≡ rejected n
+  pub refused-as : {n : ℕ} → r ≡ Refused n → reading m file ≡ rejected n
   unfolding outcome-of
-  file-refused {n} q = go (reading own file) refl
+  refused-as {n} q = go (reading m file) refl
     where
-      go : (x : Outcome) → reading own file ≡ x → reading own file ≡ rejected n
+      go : (x : Outcome) → reading m file ≡ x → reading m file ≡ rejected n
       go (accepted t) x =
-          let s : left r i′ w′ f′ e′ o′ ≡ outcome-of own (accepted t) = own-reads ∙ ap (outcome-of own) x in
+          let s : left r i′ w′ f′ e′ o′ ≡ outcome-of m (accepted t) = reads-by ∙ ap (outcome-of m) x in
           let h : Refused n ≡ Read (head-of t) = sym q ∙ ap (λ (y : ReadOutcome). y .answer) s in
           absurd (let z : _≡_ {A = ℕ} 0 1 = cc in omega arith)
       go (rejected k) x =
-          let s : left r i′ w′ f′ e′ o′ ≡ outcome-of own (rejected k) = own-reads ∙ ap (outcome-of own) x in
+          let s : left r i′ w′ f′ e′ o′ ≡ outcome-of m (rejected k) = reads-by ∙ ap (outcome-of m) x in
           let h : Refused n ≡ Refused k = sym q ∙ ap (λ (y : ReadOutcome). y .answer) s in
           let g : k ≡ n = cc in
           x ∙ ap rejected g
 
+-- the same, through tables with room for every task
+module _ (file : List ℕ) {r : ReadAnswer} (i w f e o : List ℕ) {i′ w′ f′ e′ o′ : List ℕ} (mine : Own i w f e o) (reads : left r i′ w′ f′ e′ o′ ≡ read-outcome (lengths (length i) (length w) (length f) (length e) (length o)) file) where
+  own-reads : left r i′ w′ f′ e′ o′ ≡ read-outcome own file
+  unfolding own
+  own-reads =
+      reads
+      ∙ ap (λ (l : Lengths). read-outcome l file)
+      (λ j. lengths (mine .bytes j) (mine .originals j) (mine .formula-words j) (mine .effect-words j) (mine .operator-words j))
+
+  pub task-read : {head : Head} → r ≡ Read head → Bytes file → TaskRead file (lent head i′ w′ f′ e′ o′)
+  task-read q b = read-as own file own-reads q b
+
+  -- a refusal is the file's
+  pub file-refused : {n : ℕ} → r ≡ Refused n → reading own file ≡ rejected n
+  file-refused q = refused-as own file own-reads q
+
 -- tables that pass are within the limits
-pub lay-in : {file : List ℕ} {l : Lent} → TaskRead file l → LayIn l
-lay-in {file} {l} t =
+pub lay-in : {m : Lengths} {file : List ℕ} {l : Lent} → ReadAs m file l → LayIn l
+lay-in {m} {file} {l} t =
     let c = counts-tested (l .head) .0 (passed l (t .kept) .counts) in
     record {
       long = kept-rules l (t .kept) .0;
@@ -95,10 +145,22 @@ lay-in {file} {l} t =
     }
 
 -- the two ways out of reading
-pub read-laid : {file : List ℕ} {l : Lent} (n : ℕ) {r : ℕ} {out : List ℕ} → TaskRead file l → Lays (laid (flat-bytes l) n) r out → Lays (read-entry file n) r out
-unfolding read-entry read-entry-by
+pub read-laid : {m : Lengths} {file : List ℕ} {l : Lent} (n : ℕ) {r : ℕ} {out : List ℕ} → ReadAs m file l → Lays (laid (flat-bytes l) n) r out → Lays (read-entry-by (reading m file) n) r out
+unfolding read-entry-by
 read-laid n t g = rw (t .read, ← (t .flat)) g
 
-pub read-refused : (file : List ℕ) (n : ℕ) {k r : ℕ} {out : List ℕ} → reading own file ≡ rejected k → r ≡ k → out ≡ replicate n 0 → Lays (read-entry file n) r out
+pub read-refused : (m : Lengths) (file : List ℕ) (n : ℕ) {k r : ℕ} {out : List ℕ} → reading m file ≡ rejected k → r ≡ k → out ≡ replicate n 0 → Lays (read-entry-by (reading m file) n) r out
+unfolding read-entry-by
+read-refused m file n e q c = rw e (record { told = q; held = c })
+
+-- through tables of any lengths, any answer but 5 is the entry's
+pub read-settled : (m : Lengths) (file : List ℕ) (n : ℕ) {r : ℕ} {out : List ℕ} → (r ≡ 5 → ⊥) → Lays (read-entry-by (reading m file) n) r out → Lays (read-entry file n) r out
 unfolding read-entry read-entry-by
-read-refused file n e q c = rw e (record { told = q; held = c })
+read-settled m file n {r} {out} d g =
+    subst (λ (x : Outcome). Lays (read-entry-by x n) r out)
+    (same-reading m file (λ e. d (g .told ∙ ap (λ (x : Outcome). read-entry-by x n .number) e)))
+    g
+
+-- the length of what is read into, as a call before left it
+pub read-again : (file : List ℕ) {n m : ℕ} {r : ℕ} {out : List ℕ} → n ≡ m → Lays (read-entry file n) r out → Lays (read-entry file m) r out
+read-again file {n} {m} {r} {out} e g = subst (λ (k : ℕ). Lays (read-entry file k) r out) e g

@@ -1,19 +1,20 @@
 -- The run's entry: one law for each way out. Assumes nothing.
 use Prim.Native.Nat.{ℕ, zero, suc, _+_, _-_, _/_, _≤_}
 use native.Mathlib.Omega.{arith}
-use mathlib.Core.Path.{_≡_, refl, sym, ap, _∙_}
-use mathlib.Core.Bool.{Bool, true}
-use mathlib.Core.List.{List, _∷_, _++_}
+use mathlib.Core.Path.{_≡_, refl, sym, ap, _∙_, subst}
+use mathlib.Core.Bool.{Bool, true, false, cond}
+use mathlib.Core.List.{List, [], _∷_, _++_}
 use lib.ListN.{length, take, replicate}
-use lib.Dec.{leb}
+use lib.Dec.{leb, ltb}
 use borrow.Author.Tests.{le-leb, leb-true}
 use Rattle.task.specs.Table.{Lent, Task, task-of}
 use Rattle.task.specs.Check.{refusal}
-use Rattle.task.specs.Run.{Run, Stop, ended, stopped, unstopped, is-plan, plain-run}
+use Rattle.task.specs.Run.{applicable, Progress, after-step, Run, Stop, ended, stopped, answer, run-on, unstopped, is-plan, plain-run}
+use Rattle.task.proofs.Bounded.{and-left, and-right}
 use Rattle.task.proofs.Held.{length-initial}
 use Rattle.task.proofs.Kept.{kept-rules}
 use Rattle.task.proofs.Passed.{passed, counts-tested}
-use Rattle.file_format.specs.Reading.{rejected, reading}
+use Rattle.file_format.specs.Reading.{Lengths, Outcome, accepted, rejected, reading}
 use Rattle.plan.specs.declared.outcome.RunOutcome.{RunOutcome}
 use Rattle.plan.specs.Outcome.{state-kept, scratch-kept, sequence-kept, early-refusal, run-refusal, end-of, run-answer, run-told, run-by, ran, RunGives}
 use Rattle.normal_form.specs.Compiled.{padded}
@@ -21,25 +22,51 @@ use Rattle.layouts.specs.Layout.{low-bytes, numbers-of, flag, stop-number, run-
 use Rattle.layouts.specs.Giving.{numbered, stop-of, plan-of, outcome-bytes, ResultGives}
 use Rattle.layouts.proofs.RunWays.{numbers-length, free-of}
 use Rattle.entries.specs.Entries.{own, run-number, run-given, run-entry, run-entry-by}
-use Rattle.entries.specs.Giving.{TaskRead, RunEntryGives, RunIn}
+use Rattle.entries.specs.Giving.{ReadAs, RunEntryGives, FreeRun, RunIn, small-run, SmallRun}
+use Rattle.entries.proofs.ReadWays.{same-reading}
 
--- a run that nothing refuses
-pub sequence-room : {l : Lent} {s q numbers scratch : List ℕ} {r : ℕ} → RunIn l s q numbers scratch r → length q / 2 ≤ length numbers
-sequence-room {l} {s} {q} {numbers} {scratch} {r} i =
-    omega (arith, i .words, numbers-length q, leb-true (length (numbers-of q)) 65535 (free-of (l .head .variables) s q r (i .free) .few))
+-- room for a run that nothing refuses: by its limits, or by its few numbers and rows
+pub full-room :
+    {l : Lent} {s q numbers scratch : List ℕ} {r : ℕ}
+    → FreeRun l s q r
+    → length numbers ≡ 65535
+    → length scratch ≡ 8192
+    → RunIn l s q numbers scratch r
+full-room {l} {s} {q} {numbers} {scratch} {r} run words bytes =
+    let c = counts-tested (l .head) .0 (passed l (run .kept) .counts) in
+    record {
+      run = run;
+      words = omega (arith, words, numbers-length q, leb-true (length (numbers-of q)) 65535 (free-of (l .head .variables) s q r (run .free) .few));
+      bytes = omega (arith, c .formulas, c .effects, bytes);
+    }
+
+pub small-room :
+    {l : Lent} {s q numbers scratch : List ℕ} {r : ℕ}
+    → SmallRun l s q r
+    → length numbers ≡ 256
+    → length scratch ≡ 256
+    → RunIn l s q numbers scratch r
+unfolding small-run
+small-room {l} {s} {q} {numbers} {scratch} {r} run words bytes =
+    let rows : ℕ = l .head .formulas + l .head .effects in
+    let few = leb-true (length q) 512 (and-left (leb (length q) 512) (leb rows 256) (run .small)) in
+    record {
+      run = run .run;
+      words = omega (arith, words, few);
+      bytes = omega (arith, bytes, leb-true rows 256 (and-right (leb (length q) 512) (leb rows 256) (run .small)));
+    }
 
 pub result-room : {l : Lent} {s q numbers scratch : List ℕ} {r : ℕ} → RunIn l s q numbers scratch r → 16 ≤ r
-result-room {l} {s} {q} {numbers} {scratch} {r} i = free-of (l .head .variables) s q r (i .free) .room
+result-room {l} {s} {q} {numbers} {scratch} {r} i = free-of (l .head .variables) s q r (i .run .free) .room
 
 not-refused : (l : Lent) (s q numbers scratch : List ℕ) (r : ℕ) → RunIn l s q numbers scratch r → run-refusal l s (numbers-of q) scratch ≡ 0
 unfolding run-refusal early-refusal state-kept scratch-kept sequence-kept
 not-refused l s q numbers scratch r i =
-    let f = free-of (l .head .variables) s q r (i .free) in
-    let c = counts-tested (l .head) .0 (passed l (i .kept) .counts) in
+    let f = free-of (l .head .variables) s q r (i .run .free) in
     let room : leb (l .head .formulas + l .head .effects) (length scratch) ≡ true =
-    le-leb (l .head .formulas + l .head .effects) (length scratch) (omega (arith, c .formulas, c .effects, i .bytes))
+    le-leb (l .head .formulas + l .head .effects) (length scratch) (i .bytes)
     in
-    rw (i .kept, f .state, room, f .few)
+    rw (i .run .kept, f .state, room, f .few)
 
 same-stop : (e : Stop) (steps : ℕ) (goal : Bool) → stop-of (end-of e steps goal) ≡ stop-number e
 unfolding end-of stop-number
@@ -111,10 +138,70 @@ run-refused l s q n {number} {result} e m d c = rw (number-of l s q n e ∙ sym 
     go (suc k) d = record { told = refl; left = refl; held = c }
 
 -- the two ways out by the file
-pub run-read : (file s q : List ℕ) (n : ℕ) {l : Lent} {r : ℕ} {s′ result : List ℕ} → TaskRead file l → RunEntryGives (run-given (run-number (task-of l) s q n) (task-of l) s q n) r s′ result → RunEntryGives (run-entry file s q n) r s′ result
-unfolding run-entry run-entry-by
-run-read file s q n t g = rw (t .read) g
+pub run-read :
+    {m : Lengths} {file : List ℕ} (s q : List ℕ) (n : ℕ) {l : Lent} {r : ℕ} {s′ result : List ℕ}
+    → ReadAs m file l
+    → RunEntryGives (run-given (run-number (task-of l) s q n) (task-of l) s q n) r s′ result
+    → RunEntryGives (run-entry-by (reading m file) s q n) r s′ result
+unfolding run-entry-by
+run-read s q n t g = rw (t .read) g
 
-pub run-no-file : (file s q : List ℕ) (n : ℕ) {k r : ℕ} {result : List ℕ} → reading own file ≡ rejected k → r ≡ k → result ≡ replicate n 0 → RunEntryGives (run-entry file s q n) r s result
-unfolding run-entry run-entry-by
-run-no-file file s q n e x c = rw e (record { told = x; left = refl; held = c })
+pub run-no-file :
+    (m : Lengths) (file s q : List ℕ) (n : ℕ) {k r : ℕ} {result : List ℕ}
+    → reading m file ≡ rejected k
+    → r ≡ k
+    → result ≡ replicate n 0
+    → RunEntryGives (run-entry-by (reading m file) s q n) r s result
+unfolding run-entry-by
+run-no-file m file s q n e x c = rw e (record { told = x; left = refl; held = c })
+
+-- a run stops with 17 or 18, and so not with 5
+stop-not-five : (t : Task) (p : Progress) (q : List ℕ) → stop-number (run-on t p q .stop) ≡ 5 → ⊥
+unfolding run-on answer stop-number
+stop-not-five t p [] e = omega arith
+stop-not-five t p (o ∷ q) e =
+    go (ltb o (length (t .operators))) (applicable t (p .state) o) (stop-not-five t (after-step t p o) q) e
+  where
+    go :
+        (b c : Bool)
+        → (stop-number (run-on t (after-step t p o) q .stop) ≡ 5 → ⊥)
+        → stop-number (cond b (cond c (run-on t (after-step t p o) q) (answer t p (stopped 18))) (answer t p (stopped 17)) .stop) ≡ 5
+        → ⊥
+    go true true rest e = rest e
+    go true false rest e = omega arith
+    go false c rest e = omega arith
+
+module _ (m : Lengths) (file s q : List ℕ) (n : ℕ) {r : ℕ} {s′ result : List ℕ} (g : RunEntryGives (run-entry-by (reading m file) s q n) r s′ result) where
+  -- through tables of any lengths, any answer but 5 is the entry's
+  pub run-settled : (r ≡ 5 → ⊥) → RunEntryGives (run-entry file s q n) r s′ result
+  unfolding run-entry run-entry-by
+  run-settled d =
+      subst (λ (x : Outcome). RunEntryGives (run-entry-by x s q n) r s′ result)
+      (same-reading m file (λ e. d (g .told ∙ ap (λ (x : Outcome). run-entry-by x s q n .number) e)))
+      g
+
+  -- .. and after 5 the state is as it was: nothing ran
+  pub not-run : r ≡ 5 → s′ ≡ s
+  unfolding run-entry-by run-given
+  not-run five = go (reading m file) refl
+    where
+      by-number : (t : Task) (k : ℕ) → RunEntryGives (run-given k t s q n) r s′ result → s′ ≡ s
+      by-number t zero h =
+          absurd
+          (unfold plain-run in stop-not-five t (record { state = s; steps = 0; cost = 0 }) (numbers-of q) (sym (h .told) ∙ five))
+      by-number t (suc k) h = h .left
+
+      go : (x : Outcome) → reading m file ≡ x → s′ ≡ s
+      go (accepted t) e = by-number t (run-number t s q n) (rw e at g)
+      go (rejected k) e =
+          let h : RunEntryGives (run-entry-by (rejected k) s q n) r s′ result = rw e at g in
+          h .left
+
+-- the state and the result's length, as a call before left them
+pub run-again :
+    (file q : List ℕ) {s s′ : List ℕ} {n n′ r : ℕ} {after result : List ℕ}
+    → s ≡ s′
+    → n ≡ n′
+    → RunEntryGives (run-entry file s q n) r after result
+    → RunEntryGives (run-entry file s′ q n′) r after result
+run-again file q p e g = rw (← p, ← e) g

@@ -4,11 +4,13 @@ ghost use lib.ListN.{length};
 ghost use Rattle.task.specs.Table.{lent, task-of};
 ghost use Rattle.task.specs.Check.{refusal};
 ghost use Rattle.file_format.specs.Bytes.{file-of};
+ghost use Rattle.file_format.specs.Reading.{reading};
+ghost use Rattle.task_file.specs.Answers.{lengths};
 ghost use Rattle.normal_form.specs.Finished.{finished};
-ghost use Rattle.compiler.specs.Fills.{tables};
-ghost use Rattle.entries.specs.Entries.{no-file, compile-number, compile-given, compile-entry};
-ghost use Rattle.entries.specs.Giving.{Own};
-ghost use Rattle.entries.specs.CompileGiving.{CompileGives, CompileIn, given-file, refused-compile};
+ghost use Rattle.compiler.specs.Fills.{tables, room-of};
+ghost use Rattle.entries.specs.Entries.{no-file, compile-number, compile-given, compile-entry, compile-entry-by};
+ghost use Rattle.entries.specs.Giving.{small};
+ghost use Rattle.entries.specs.CompileGiving.{CompileGives, FewRows, given-file, small-room, compile-through, refused-compile};
 use compiler::CompileAnswer;
 use task::Head;
 use task_file::ReadAnswer;
@@ -60,7 +62,7 @@ fn refused(r: CompileAnswer) -> u32
     }
 }
 
-// Compiles tables that pass, through tables that are lent.
+// Compiles tables that pass, through tables that are lent. Compiling, one pass over the compiled task, and the lent tables cleared.
 fn compile_through(
     head: Head,
     initial: &[u8],
@@ -77,8 +79,8 @@ fn compile_through(
     out: &mut [u8],
     result: &mut [u8],
 ) -> u32
-    requires { ⌜ CompileIn (lent head (now initial) (now twins) (now formulas) (now effects) (now operators)) (tables (now values) (now originals) (now table) (now rules) (now written) (now scratch)) ⌝ }
-    ensures { λ r. ⌜ CompileGives (compile-given (compile-number (task-of (lent head (now (initial .entry)) (now (twins .entry)) (now (formulas .entry)) (now (effects .entry)) (now (operators .entry)))) (length (now (out .entry))) (length (now (result .entry)))) (file-of (finished (task-of (lent head (now (initial .entry)) (now (twins .entry)) (now (formulas .entry)) (now (effects .entry)) (now (operators .entry)))))) (length (now (out .entry))) (length (now (result .entry)))) r (now (out .exit)) (now (result .exit)) ⌝ }
+    requires { ⌜ refusal (lent head (now initial) (now twins) (now formulas) (now effects) (now operators)) ≡ 0 ⌝ }
+    ensures { λ r. ⌜ CompileGives (compile-through (lent head (now (initial .entry)) (now (twins .entry)) (now (formulas .entry)) (now (effects .entry)) (now (operators .entry))) (room-of (tables (now (values .entry)) (now (originals .entry)) (now (table .entry)) (now (rules .entry)) (now (written .entry)) (now (scratch .entry)))) (length (now (out .entry))) (length (now (result .entry)))) r (now (out .exit)) (now (result .exit)) ⌝ }
 {
     let r = compiler::compile(
         head,
@@ -109,8 +111,46 @@ fn compile_through(
     )
 }
 
-// Compiles tables that pass.
-fn compile_read(
+// Through small room: 8.5 KiB.
+fn compile_small(
+    head: Head,
+    initial: &[u8],
+    twins: &[u16],
+    formulas: &[u16],
+    effects: &[u16],
+    operators: &[u16],
+    out: &mut [u8],
+    result: &mut [u8],
+) -> u32
+    requires { ⌜ refusal (lent head (now initial) (now twins) (now formulas) (now effects) (now operators)) ≡ 0 ⌝ }
+    ensures { λ r. ⌜ CompileGives (compile-through (lent head (now (initial .entry)) (now (twins .entry)) (now (formulas .entry)) (now (effects .entry)) (now (operators .entry))) small-room (length (now (out .entry))) (length (now (result .entry)))) r (now (out .exit)) (now (result .exit)) ⌝ }
+{
+    let mut values = [0u8; 512];
+    let mut originals = [0u16; 256];
+    let mut table = [0u16; 1536];
+    let mut rules = [0u16; 1536];
+    let mut written = [0u16; 384];
+    let mut scratch = [0u16; 256];
+    compile_through(
+        head,
+        initial,
+        twins,
+        formulas,
+        effects,
+        operators,
+        &mut values,
+        &mut originals,
+        &mut table,
+        &mut rules,
+        &mut written,
+        &mut scratch,
+        out,
+        result,
+    )
+}
+
+// Through room for every compiled task: 82.5 KiB.
+fn compile_full(
     head: Head,
     initial: &[u8],
     twins: &[u16],
@@ -147,6 +187,83 @@ fn compile_read(
     )
 }
 
+// Compiles few rows: through small room, and only if the compiled task has no room there, 15, through the full room.
+fn compile_few(
+    head: Head,
+    initial: &[u8],
+    twins: &[u16],
+    formulas: &[u16],
+    effects: &[u16],
+    operators: &[u16],
+    out: &mut [u8],
+    result: &mut [u8],
+) -> u32
+    requires { ⌜ FewRows (lent head (now initial) (now twins) (now formulas) (now effects) (now operators)) ⌝ }
+    ensures { λ r. ⌜ CompileGives (compile-given (compile-number (task-of (lent head (now (initial .entry)) (now (twins .entry)) (now (formulas .entry)) (now (effects .entry)) (now (operators .entry)))) (length (now (out .entry))) (length (now (result .entry)))) (file-of (finished (task-of (lent head (now (initial .entry)) (now (twins .entry)) (now (formulas .entry)) (now (effects .entry)) (now (operators .entry)))))) (length (now (out .entry))) (length (now (result .entry)))) r (now (out .exit)) (now (result .exit)) ⌝ }
+{
+    let number = compile_small(
+        head,
+        initial,
+        twins,
+        formulas,
+        effects,
+        operators,
+        out,
+        result,
+    );
+    if number != 15 {
+        return number;
+    }
+    compile_full(
+        head,
+        initial,
+        twins,
+        formulas,
+        effects,
+        operators,
+        out,
+        result,
+    )
+}
+
+// Compiles tables that pass.
+fn compile_read(
+    head: Head,
+    initial: &[u8],
+    twins: &[u16],
+    formulas: &[u16],
+    effects: &[u16],
+    operators: &[u16],
+    out: &mut [u8],
+    result: &mut [u8],
+) -> u32
+    requires { ⌜ refusal (lent head (now initial) (now twins) (now formulas) (now effects) (now operators)) ≡ 0 ⌝ }
+    ensures { λ r. ⌜ CompileGives (compile-given (compile-number (task-of (lent head (now (initial .entry)) (now (twins .entry)) (now (formulas .entry)) (now (effects .entry)) (now (operators .entry)))) (length (now (out .entry))) (length (now (result .entry)))) (file-of (finished (task-of (lent head (now (initial .entry)) (now (twins .entry)) (now (formulas .entry)) (now (effects .entry)) (now (operators .entry)))))) (length (now (out .entry))) (length (now (result .entry)))) r (now (out .exit)) (now (result .exit)) ⌝ }
+{
+    if head.formulas as usize + head.effects as usize <= 128 {
+        return compile_few(
+            head,
+            initial,
+            twins,
+            formulas,
+            effects,
+            operators,
+            out,
+            result,
+        );
+    }
+    compile_full(
+        head,
+        initial,
+        twins,
+        formulas,
+        effects,
+        operators,
+        out,
+        result,
+    )
+}
+
 // Reads into tables that are lent, then compiles.
 fn read_and_compile(
     file: &[u8],
@@ -158,8 +275,7 @@ fn read_and_compile(
     out: &mut [u8],
     result: &mut [u8],
 ) -> u32
-    requires { ⌜ Own (now initial) (now twins) (now formulas) (now effects) (now operators) ⌝ }
-    ensures { λ r. ⌜ CompileGives (compile-entry (now (file .entry)) (length (now (out .entry))) (length (now (result .entry)))) r (now (out .exit)) (now (result .exit)) ⌝ }
+    ensures { λ r. ⌜ CompileGives (compile-entry-by (reading (lengths (length (now (initial .entry))) (length (now (twins .entry))) (length (now (formulas .entry))) (length (now (effects .entry))) (length (now (operators .entry)))) (now (file .entry))) (length (now (out .entry))) (length (now (result .entry)))) r (now (out .exit)) (now (result .exit)) ⌝ }
 {
     let r = task_file::read::read(file, initial, twins, formulas, effects, operators);
     let ReadAnswer::Read(head) = r else {
@@ -177,10 +293,29 @@ fn read_and_compile(
     )
 }
 
-// Compiles a task file: 0, the compiled task's file and its length, or the number and all 0.
-// Cost: one pass over the file, compiling, one pass over the compiled task.
-#[no_mangle]
-pub extern "C" fn pnf_compile(file: &[u8], out: &mut [u8], result: &mut [u8]) -> u32
+// The source in small tables: 3 KiB.
+fn compile_from_small(file: &[u8], out: &mut [u8], result: &mut [u8]) -> u32
+    ensures { λ r. ⌜ CompileGives (compile-entry-by (reading small (now (file .entry))) (length (now (out .entry))) (length (now (result .entry)))) r (now (out .exit)) (now (result .exit)) ⌝ }
+{
+    let mut initial = [0u8; 512];
+    let mut twins = [0u16; 64];
+    let mut formulas = [0u16; 384];
+    let mut effects = [0u16; 384];
+    let mut operators = [0u16; 384];
+    read_and_compile(
+        file,
+        &mut initial,
+        &mut twins,
+        &mut formulas,
+        &mut effects,
+        &mut operators,
+        out,
+        result,
+    )
+}
+
+// The source in tables with room for every task: 50 KiB.
+fn compile_from_full(file: &[u8], out: &mut [u8], result: &mut [u8]) -> u32
     ensures { λ r. ⌜ CompileGives (compile-entry (now (file .entry)) (length (now (out .entry))) (length (now (result .entry)))) r (now (out .exit)) (now (result .exit)) ⌝ }
 {
     let mut initial = [0u8; 512];
@@ -198,4 +333,20 @@ pub extern "C" fn pnf_compile(file: &[u8], out: &mut [u8], result: &mut [u8]) ->
         out,
         result,
     )
+}
+
+// Compiles a task file: 0, the compiled task's file and its length, or the number and all 0.
+// Cost: one pass over the file, compiling, one pass over the compiled task. A short file is read as pnf_read does.
+#[no_mangle]
+pub extern "C" fn pnf_compile(file: &[u8], out: &mut [u8], result: &mut [u8]) -> u32
+    ensures { λ r. ⌜ CompileGives (compile-entry (now (file .entry)) (length (now (out .entry))) (length (now (result .entry)))) r (now (out .exit)) (now (result .exit)) ⌝ }
+{
+    if file.len() > 128 {
+        return compile_from_full(file, out, result);
+    }
+    let number = compile_from_small(file, out, result);
+    if number != 5 {
+        return number;
+    }
+    compile_from_full(file, out, result)
 }

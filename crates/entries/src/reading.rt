@@ -1,9 +1,11 @@
 // Reading a task file into the layout of its tables.
 ghost use mathlib.Core.Path.{_≡_};
 ghost use lib.ListN.{length};
-ghost use Rattle.entries.specs.Entries.{read-entry};
+ghost use Rattle.file_format.specs.Reading.{reading};
+ghost use Rattle.task_file.specs.Answers.{lengths};
 ghost use Rattle.layouts.specs.Giving.{Lays};
-ghost use Rattle.entries.specs.Giving.{Own, refused-number};
+ghost use Rattle.entries.specs.Entries.{read-entry, read-entry-by};
+ghost use Rattle.entries.specs.Giving.{small, refused-number};
 use task_file::ReadAnswer;
 use task_file::clear::clear_bytes;
 
@@ -17,7 +19,7 @@ pub fn refused(r: ReadAnswer) -> u32
     }
 }
 
-// Through tables that are lent. One pass over the file and one over its tables.
+// Through tables that are lent. One pass over the file and one over its tables, and the lent tables cleared.
 fn read_through(
     file: &[u8],
     initial: &mut [u8],
@@ -27,8 +29,7 @@ fn read_through(
     operators: &mut [u16],
     tables: &mut [u8],
 ) -> u32
-    requires { ⌜ Own (now initial) (now twins) (now formulas) (now effects) (now operators) ⌝ }
-    ensures { λ r. ⌜ Lays (read-entry (now (file .entry)) (length (now (tables .entry)))) r (now (tables .exit)) ⌝ }
+    ensures { λ r. ⌜ Lays (read-entry-by (reading (lengths (length (now (initial .entry))) (length (now (twins .entry))) (length (now (formulas .entry))) (length (now (effects .entry))) (length (now (operators .entry)))) (now (file .entry))) (length (now (tables .entry)))) r (now (tables .exit)) ⌝ }
 {
     let r = task_file::read::read(file, initial, twins, formulas, effects, operators);
     let ReadAnswer::Read(head) = r else {
@@ -38,9 +39,28 @@ fn read_through(
     layouts::laying::lay(head, initial, twins, formulas, effects, operators, tables)
 }
 
-// Reads a task file: 0 and its tables, or the number and all 0. One pass over the file and one over its tables.
-#[no_mangle]
-pub extern "C" fn pnf_read(file: &[u8], tables: &mut [u8]) -> u32
+// Through small tables, which have room for every task whose file is short: 3 KiB.
+fn read_small(file: &[u8], tables: &mut [u8]) -> u32
+    ensures { λ r. ⌜ Lays (read-entry-by (reading small (now (file .entry))) (length (now (tables .entry)))) r (now (tables .exit)) ⌝ }
+{
+    let mut initial = [0u8; 512];
+    let mut twins = [0u16; 64];
+    let mut formulas = [0u16; 384];
+    let mut effects = [0u16; 384];
+    let mut operators = [0u16; 384];
+    read_through(
+        file,
+        &mut initial,
+        &mut twins,
+        &mut formulas,
+        &mut effects,
+        &mut operators,
+        tables,
+    )
+}
+
+// Through tables with room for every task: 50 KiB.
+fn read_full(file: &[u8], tables: &mut [u8]) -> u32
     ensures { λ r. ⌜ Lays (read-entry (now (file .entry)) (length (now (tables .entry)))) r (now (tables .exit)) ⌝ }
 {
     let mut initial = [0u8; 512];
@@ -57,4 +77,20 @@ pub extern "C" fn pnf_read(file: &[u8], tables: &mut [u8]) -> u32
         &mut operators,
         tables,
     )
+}
+
+// Reads a task file: 0 and its tables, or the number and all 0. One pass over the file and one over its tables. A short file goes
+// through small tables, and only if they are too short for its head, 5, through the full ones.
+#[no_mangle]
+pub extern "C" fn pnf_read(file: &[u8], tables: &mut [u8]) -> u32
+    ensures { λ r. ⌜ Lays (read-entry (now (file .entry)) (length (now (tables .entry)))) r (now (tables .exit)) ⌝ }
+{
+    if file.len() > 128 {
+        return read_full(file, tables);
+    }
+    let number = read_small(file, tables);
+    if number != 5 {
+        return number;
+    }
+    read_full(file, tables)
 }

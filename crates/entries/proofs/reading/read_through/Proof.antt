@@ -1,8 +1,9 @@
 use mathlib.Core.Path.{_≡_, refl, sym, ap, _∙_}
 use lib.ListN.{length}
 use Rattle.task_file.proofs.ReadWays.{bytes-from}
+use Rattle.task_file.specs.Answers.{lengths}
 use Rattle.entries.specs.Giving.{refused-number}
-use Rattle.entries.proofs.ReadWays.{task-read, file-refused, lay-in, read-laid, read-refused}
+use Rattle.entries.proofs.ReadWays.{read-as, refused-as, lay-in, read-laid, read-refused}
 use borrow.Author.Needs.{needs}
 use Rattle.entries.proofs.reading.read_through.Statement.{statement}
 use Rattle.entries.proofs.reading.read_through.Tie as tie
@@ -41,10 +42,10 @@ same-length-6 : tie.Need-same-length-6
 same-length-6 c = search needs
 
 returns : tie.Need-returns
-returns c = let a = c .before .before .before .before .before .before .before .before .before .before .before .before .before .before .before .before .before .before .before .before .before .before .before .before .before .before .before .before .before .before .args in read-refused (a .file .now) (length (a .tables .now)) (file-refused (a .file .now) (a .initial .now) (a .twins .now) (a .formulas .now) (a .effects .now) (a .operators .now) (c .before .before .before .before .before .before .before .before .before .before .before .before .before .before .before .before .before .before .before .before .before .before .before .before .before .before .before .before .before .before .pre) (c .before .before .before .before .before .before .before .before .before .before .before .before .before .before .before .before .before .read .ensures) (c .before .before .before .before .before .enum-told .given .1)) (c .refused .ensures ∙ ap refused-number (c .before .before .before .before .before .enum-told .given .1)) (c .before .before .before .clear-bytes .ensures)
+returns c = let a = c .before .before .before .before .before .before .before .before .before .before .before .before .before .before .before .before .before .before .before .before .before .before .before .before .before .before .before .before .before .before .args in read-refused (lengths (length (a .initial .now)) (length (a .twins .now)) (length (a .formulas .now)) (length (a .effects .now)) (length (a .operators .now))) (a .file .now) (length (a .tables .now)) (refused-as _ (a .file .now) (c .before .before .before .before .before .before .before .before .before .before .before .before .before .before .before .before .before .read .ensures) (c .before .before .before .before .before .enum-told .given .1)) (c .refused .ensures ∙ ap refused-number (c .before .before .before .before .before .enum-told .given .1)) (c .before .before .before .clear-bytes .ensures)
 
 lay-requires : tie.Need-lay-requires
-lay-requires c κs = let a = c .before .before .before .before .before .before .before .before .before .before .before .before .before .before .before .before .before .before .before .before .before .before .before .before .before .before .before .before .before .before .before .before .args in lay-in (task-read (a .file .now) (a .initial .now) (a .twins .now) (a .formulas .now) (a .effects .now) (a .operators .now) (c .before .before .before .before .before .before .before .before .before .before .before .before .before .before .before .before .before .before .before .before .before .before .before .before .before .before .before .before .before .before .before .before .pre) (c .before .before .before .before .before .before .before .before .before .before .before .before .before .before .before .before .before .before .before .read .ensures) (c .before .before .before .before .before .before .before .r .given .1) (bytes-from (a .file .now) (λ i. c .before .before .before .before .before .before .before .before .before .before .before .before .before .before .before .before .before .before .before .before .before .before .before .before .before .before .before .before .before .before .before .shared-slice-known .given i .fits)))
+lay-requires c κs = let a = c .before .before .before .before .before .before .before .before .before .before .before .before .before .before .before .before .before .before .before .before .before .before .before .before .before .before .before .before .before .before .before .before .args in lay-in (read-as _ (a .file .now) (c .before .before .before .before .before .before .before .before .before .before .before .before .before .before .before .before .before .before .before .read .ensures) (c .before .before .before .before .before .before .before .r .given .1) (bytes-from (a .file .now) (λ i. c .before .before .before .before .before .before .before .before .before .before .before .before .before .before .before .before .before .before .before .before .before .before .before .before .before .before .before .before .before .before .before .shared-slice-known .given i .fits)))
 
 same-length-7 : tie.Need-same-length-7
 same-length-7 c = search needs
@@ -65,7 +66,7 @@ same-length-12 : tie.Need-same-length-12
 same-length-12 c = search needs
 
 returns-2 : tie.Need-returns-2
-returns-2 c = let a = c .before .before .before .before .before .before .before .before .before .before .before .before .before .before .before .before .before .before .before .before .before .before .before .before .before .before .before .before .before .before .before .before .before .before .before .args in read-laid (length (a .tables .now)) (task-read (a .file .now) (a .initial .now) (a .twins .now) (a .formulas .now) (a .effects .now) (a .operators .now) (c .before .before .before .before .before .before .before .before .before .before .before .before .before .before .before .before .before .before .before .before .before .before .before .before .before .before .before .before .before .before .before .before .before .before .before .pre) (c .before .before .before .before .before .before .before .before .before .before .before .before .before .before .before .before .before .before .before .before .before .before .read .ensures) (c .before .before .before .before .before .before .before .before .before .before .r .given .1) (bytes-from (a .file .now) (λ i. c .before .before .before .before .before .before .before .before .before .before .before .before .before .before .before .before .before .before .before .before .before .before .before .before .before .before .before .before .before .before .before .before .before .before .shared-slice-known .given i .fits))) (c .before .before .lay .ensures)
+returns-2 c = let a = c .before .before .before .before .before .before .before .before .before .before .before .before .before .before .before .before .before .before .before .before .before .before .before .before .before .before .before .before .before .before .before .before .before .before .before .args in read-laid (length (a .tables .now)) (read-as _ (a .file .now) (c .before .before .before .before .before .before .before .before .before .before .before .before .before .before .before .before .before .before .before .before .before .before .read .ensures) (c .before .before .before .before .before .before .before .before .before .before .r .given .1) (bytes-from (a .file .now) (λ i. c .before .before .before .before .before .before .before .before .before .before .before .before .before .before .before .before .before .before .before .before .before .before .before .before .before .before .before .before .before .before .before .before .before .before .shared-slice-known .given i .fits))) (c .before .before .lay .ensures)
 
 pub read-through-spec : {M : Type 1} → statement M
 read-through-spec =

@@ -1,29 +1,13 @@
-use mathlib.Core.Path.{_≡_, refl, sym, ap, _∙_}
-use native.Mathlib.Omega.{arith}
-use lib.ListN.{length}
-use Rattle.task.specs.Table.{lent}
-use Rattle.entries.proofs.RunWays.{sequence-room, result-room, run-free}
+use mathlib.Core.Path.{sym, _∙_}
 use borrow.Author.Needs.{needs}
 use Rattle.entries.proofs.running.run_free.Statement.{statement}
 use Rattle.entries.proofs.running.run_free.Tie as tie
 
-decode-requires : tie.Need-decode-requires
-decode-requires c κs = sequence-room (c .before .before .before .before .before .before .before .before .before .before .before .pre)
+is-small-requires : tie.Need-is-small-requires
+is-small-requires c κs = search needs
 
-sub-run : tie.Need-sub-run
-sub-run c = search needs
-
-part-run-start : tie.Need-part-run-start
-part-run-start c = search needs
-
-part-run-end : tie.Need-part-run-end
-part-run-end c = omega (arith, sequence-room (c .before .before .before .before .before .before .before .before .before .before .before .before .before .before .before .before .pre), c .before .before .before .before .decode .kept .1 .0)
-
-run-requires : tie.Need-run-requires
-run-requires c κs = search needs
-
-put-result-requires : tie.Need-put-result-requires
-put-result-requires c κs = result-room (c .before .before .before .before .before .before .before .before .before .before .before .before .before .before .before .before .before .before .before .before .before .before .before .before .pre)
+run-small-requires : tie.Need-run-small-requires
+run-small-requires c κs = record { run = c .before .before .before .before .before .before .before .before .before .before .before .before .pre; small = sym (c .before .before .before .is-small .ensures) ∙ c .before .before .if1 .taken }
 
 same-length : tie.Need-same-length
 same-length c = search needs
@@ -31,27 +15,31 @@ same-length c = search needs
 same-length-2 : tie.Need-same-length-2
 same-length-2 c = search needs
 
+returns : tie.Need-returns
+returns c = search needs
+
+run-full-requires : tie.Need-run-full-requires
+run-full-requires c κs = search needs
+
 same-length-3 : tie.Need-same-length-3
 same-length-3 c = search needs
 
 same-length-4 : tie.Need-same-length-4
 same-length-4 c = search needs
 
-returns : tie.Need-returns
-returns c = let a = c .before .before .before .before .before .before .before .before .before .before .before .before .before .before .before .before .before .before .before .before .before .before .before .before .before .before .before .args in run-free (lent (a .head) (a .initial .now) (a .twins .now) (a .formulas .now) (a .effects .now) (a .operators .now)) (a .state .now) (a .sequence .now) (a .numbers .now) (a .scratch .now) (length (a .result .now)) _ (c .before .before .before .before .before .before .before .before .before .before .before .before .before .before .before .before .before .before .before .before .before .before .before .before .before .before .before .pre) (c .before .before .before .before .before .before .before .before .before .before .before .before .before .before .before .decode .ensures) (c .before .before .before .before .before .before .before .before .run .ensures) (c .before .before .put-result .ensures)
+returns-2 : tie.Need-returns-2
+returns-2 c = search needs
 
 pub run-free-spec : {M : Type 1} → statement M
 run-free-spec =
     tie.close
     (tie.spec
-    decode-requires
-    sub-run
-    part-run-start
-    part-run-end
-    run-requires
-    put-result-requires
+    is-small-requires
+    run-small-requires
     same-length
     same-length-2
+    returns
+    run-full-requires
     same-length-3
     same-length-4
-    returns)
+    returns-2)

@@ -25,14 +25,8 @@ same-length-2 c = search needs
 returns : tie.Need-returns
 returns c = let a = c .before .before .before .before .before .before .before .before .before .before .before .before .before .before .before .before .args in run-refused (lent (a .head) (a .initial .now) (a .twins .now) (a .formulas .now) (a .effects .now) (a .operators .now)) (a .state .now) (a .sequence .now) (length (a .result .now)) (c .before .before .before .before .before .before .before .before .before .before .before .before .before .before .before .before .pre) (c .before .before .before .before .before .refused-run .ensures) (c .before .before .before .before .if1 .taken) (c .before .before .clear-bytes .ensures)
 
-slice-aggregate-run-free : tie.Need-slice-aggregate-run-free
-slice-aggregate-run-free c = search needs
-
-slice-aggregate-run-free-2 : tie.Need-slice-aggregate-run-free-2
-slice-aggregate-run-free-2 c = search needs
-
 run-free-requires : tie.Need-run-free-requires
-run-free-requires c κs = record { kept = c .before .before .before .before .before .before .before .before .before .before .before .before .before .before .before .before .pre; free = sym (c .before .before .before .before .before .refused-run .ensures) ∙ c .before .before .before .before .if1 .left; words = search needs; bytes = search needs }
+run-free-requires c κs = record { kept = c .before .before .before .before .before .before .before .before .before .before .before .before .before .before .pre; free = sym (c .before .before .before .refused-run .ensures) ∙ c .before .before .if1 .left }
 
 same-length-3 : tie.Need-same-length-3
 same-length-3 c = search needs
@@ -41,7 +35,7 @@ same-length-4 : tie.Need-same-length-4
 same-length-4 c = search needs
 
 returns-2 : tie.Need-returns-2
-returns-2 c = let a = c .before .before .before .before .before .before .before .before .before .before .before .before .before .before .before .before .before .before .before .before .before .before .before .args in run-kept (lent (a .head) (a .initial .now) (a .twins .now) (a .formulas .now) (a .effects .now) (a .operators .now)) (a .state .now) (a .sequence .now) (length (a .result .now)) (c .before .before .before .before .before .before .before .before .before .before .before .before .before .before .before .before .before .before .before .before .before .before .before .pre) (c .before .before .before .before .before .before .before .before .before .before .before .before .refused-run .ensures) (c .before .before .before .before .before .before .before .before .before .before .before .if1 .left) (c .before .before .before .before .before .before .run-free .ensures)
+returns-2 c = let a = c .before .before .before .before .before .before .before .before .before .before .before .before .before .before .before .before .before .before .before .args in run-kept (lent (a .head) (a .initial .now) (a .twins .now) (a .formulas .now) (a .effects .now) (a .operators .now)) (a .state .now) (a .sequence .now) (length (a .result .now)) (c .before .before .before .before .before .before .before .before .before .before .before .before .before .before .before .before .before .before .before .pre) (c .before .before .before .before .before .before .before .before .refused-run .ensures) (c .before .before .before .before .before .before .before .if1 .left) (c .before .before .before .before .run-free .ensures)
 
 pub run-read-spec : {M : Type 1} → statement M
 run-read-spec =
@@ -53,8 +47,6 @@ run-read-spec =
     same-length
     same-length-2
     returns
-    slice-aggregate-run-free
-    slice-aggregate-run-free-2
     run-free-requires
     same-length-3
     same-length-4

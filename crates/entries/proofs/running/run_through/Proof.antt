@@ -2,8 +2,9 @@ use mathlib.Core.Path.{_≡_, refl, sym, ap, _∙_}
 use native.Mathlib.Omega.{arith}
 use lib.ListN.{length}
 use Rattle.task_file.proofs.ReadWays.{bytes-from}
+use Rattle.task_file.specs.Answers.{lengths}
 use Rattle.entries.specs.Giving.{refused-number}
-use Rattle.entries.proofs.ReadWays.{task-read, file-refused}
+use Rattle.entries.proofs.ReadWays.{read-as, refused-as}
 use Rattle.entries.proofs.RunWays.{run-read, run-no-file}
 use borrow.Author.Needs.{needs}
 use Rattle.entries.proofs.running.run_through.Statement.{statement}
@@ -43,10 +44,10 @@ same-length-6 : tie.Need-same-length-6
 same-length-6 c = search needs
 
 returns : tie.Need-returns
-returns c = let a = c .before .before .before .before .before .before .before .before .before .before .before .before .before .before .before .before .before .before .before .before .before .before .before .before .before .before .before .before .before .before .before .before .args in run-no-file (a .file .now) (a .state .now) (a .sequence .now) (length (a .result .now)) (file-refused (a .file .now) (a .initial .now) (a .twins .now) (a .formulas .now) (a .effects .now) (a .operators .now) (c .before .before .before .before .before .before .before .before .before .before .before .before .before .before .before .before .before .before .before .before .before .before .before .before .before .before .before .before .before .before .before .before .pre) (c .before .before .before .before .before .before .before .before .before .before .before .before .before .before .before .before .before .read .ensures) (c .before .before .before .before .before .enum-told .given .1)) (c .refused .ensures ∙ ap refused-number (c .before .before .before .before .before .enum-told .given .1)) (c .before .before .before .clear-bytes .ensures)
+returns c = let a = c .before .before .before .before .before .before .before .before .before .before .before .before .before .before .before .before .before .before .before .before .before .before .before .before .before .before .before .before .before .before .before .before .args in let m = (lengths (length (a .initial .now)) (length (a .twins .now)) (length (a .formulas .now)) (length (a .effects .now)) (length (a .operators .now))) in run-no-file m (a .file .now) (a .state .now) (a .sequence .now) (length (a .result .now)) (refused-as m (a .file .now) (c .before .before .before .before .before .before .before .before .before .before .before .before .before .before .before .before .before .read .ensures) (c .before .before .before .before .before .enum-told .given .1)) (c .refused .ensures ∙ ap refused-number (c .before .before .before .before .before .enum-told .given .1)) (c .before .before .before .clear-bytes .ensures)
 
 run-read-requires : tie.Need-run-read-requires
-run-read-requires c κs = let a = c .before .before .before .before .before .before .before .before .before .before .before .before .before .before .before .before .before .before .before .before .before .before .before .before .before .before .before .before .before .before .before .before .before .before .before .args in task-read (a .file .now) (a .initial .now) (a .twins .now) (a .formulas .now) (a .effects .now) (a .operators .now) (c .before .before .before .before .before .before .before .before .before .before .before .before .before .before .before .before .before .before .before .before .before .before .before .before .before .before .before .before .before .before .before .before .before .before .before .pre) (c .before .before .before .before .before .before .before .before .before .before .before .before .before .before .before .before .before .before .before .before .read .ensures) (c .before .before .before .before .before .before .before .before .r .given .1) (bytes-from (a .file .now) (λ i. c .before .before .before .before .before .before .before .before .before .before .before .before .before .before .before .before .before .before .before .before .before .before .before .before .before .before .before .before .before .before .before .before .before .before .shared-slice-known .given i .fits)) .kept
+run-read-requires c κs = let a = c .before .before .before .before .before .before .before .before .before .before .before .before .before .before .before .before .before .before .before .before .before .before .before .before .before .before .before .before .before .before .before .before .before .before .before .args in (read-as (lengths (length (a .initial .now)) (length (a .twins .now)) (length (a .formulas .now)) (length (a .effects .now)) (length (a .operators .now))) (a .file .now) (c .before .before .before .before .before .before .before .before .before .before .before .before .before .before .before .before .before .before .before .before .read .ensures) (c .before .before .before .before .before .before .before .before .r .given .1) (bytes-from (a .file .now) (λ i. c .before .before .before .before .before .before .before .before .before .before .before .before .before .before .before .before .before .before .before .before .before .before .before .before .before .before .before .before .before .before .before .before .before .before .shared-slice-known .given i .fits))) .kept
 
 same-length-7 : tie.Need-same-length-7
 same-length-7 c = search needs
@@ -70,7 +71,7 @@ same-length-13 : tie.Need-same-length-13
 same-length-13 c = search needs
 
 returns-2 : tie.Need-returns-2
-returns-2 c = let a = c .before .before .before .before .before .before .before .before .before .before .before .before .before .before .before .before .before .before .before .before .before .before .before .before .before .before .before .before .before .before .before .before .before .before .before .before .before .before .before .before .args in run-read (a .file .now) (a .state .now) (a .sequence .now) (length (a .result .now)) (task-read (a .file .now) (a .initial .now) (a .twins .now) (a .formulas .now) (a .effects .now) (a .operators .now) (c .before .before .before .before .before .before .before .before .before .before .before .before .before .before .before .before .before .before .before .before .before .before .before .before .before .before .before .before .before .before .before .before .before .before .before .before .before .before .before .before .pre) (c .before .before .before .before .before .before .before .before .before .before .before .before .before .before .before .before .before .before .before .before .before .before .before .before .before .read .ensures) (c .before .before .before .before .before .before .before .before .before .before .before .before .before .r .given .1) (bytes-from (a .file .now) (λ i. c .before .before .before .before .before .before .before .before .before .before .before .before .before .before .before .before .before .before .before .before .before .before .before .before .before .before .before .before .before .before .before .before .before .before .before .before .before .before .before .shared-slice-known .given i .fits))) (c .before .before .before .before .run-read .ensures)
+returns-2 c = let a = c .before .before .before .before .before .before .before .before .before .before .before .before .before .before .before .before .before .before .before .before .before .before .before .before .before .before .before .before .before .before .before .before .before .before .before .before .before .before .before .before .args in run-read (a .state .now) (a .sequence .now) (length (a .result .now)) (read-as (lengths (length (a .initial .now)) (length (a .twins .now)) (length (a .formulas .now)) (length (a .effects .now)) (length (a .operators .now))) (a .file .now) (c .before .before .before .before .before .before .before .before .before .before .before .before .before .before .before .before .before .before .before .before .before .before .before .before .before .read .ensures) (c .before .before .before .before .before .before .before .before .before .before .before .before .before .r .given .1) (bytes-from (a .file .now) (λ i. c .before .before .before .before .before .before .before .before .before .before .before .before .before .before .before .before .before .before .before .before .before .before .before .before .before .before .before .before .before .before .before .before .before .before .before .before .before .before .before .shared-slice-known .given i .fits))) (c .before .before .before .before .run-read .ensures)
 
 pub run-through-spec : {M : Type 1} → statement M
 run-through-spec =

@@ -1,6 +1,7 @@
+use Rattle.entries.specs.CompileGiving.{small-room}
 use borrow.Author.Needs.{needs}
-use Rattle.entries.proofs.compiling.compile_read.Statement.{statement}
-use Rattle.entries.proofs.compiling.compile_read.Tie as tie
+use Rattle.entries.proofs.compiling.compile_small.Statement.{statement}
+use Rattle.entries.proofs.compiling.compile_small.Tie as tie
 
 slice-aggregate-compile-through : tie.Need-slice-aggregate-compile-through
 slice-aggregate-compile-through c = search needs
@@ -21,7 +22,7 @@ slice-aggregate-compile-through-6 : tie.Need-slice-aggregate-compile-through-6
 slice-aggregate-compile-through-6 c = search needs
 
 compile-through-requires : tie.Need-compile-through-requires
-compile-through-requires c κs = record { kept = c .before .before .before .before .before .before .before .before .before .before .before .before .before .before .before .pre; bytes = search needs; originals = search needs; formula-words = search needs; effect-words = search needs; operator-words = search needs; scratch-words = search needs }
+compile-through-requires c κs = search needs
 
 same-length : tie.Need-same-length
 same-length c = search needs
@@ -30,10 +31,11 @@ same-length-2 : tie.Need-same-length-2
 same-length-2 c = search needs
 
 returns : tie.Need-returns
-returns c = search needs
+unfolding small-room
+returns c = c .before .before .before .before .before .before .before .before .before .before .compile-through .ensures
 
-pub compile-read-spec : {M : Type 1} → statement M
-compile-read-spec =
+pub compile-small-spec : {M : Type 1} → statement M
+compile-small-spec =
     tie.close
     (tie.spec
     slice-aggregate-compile-through
