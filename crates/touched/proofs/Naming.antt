@@ -1,5 +1,5 @@
 -- Rows that do not name an atom, by their kind. Assumes nothing.
-use Prim.Native.Nat.{ℕ, _+_, _*_, _≤_, _<_}
+use Prim.Native.Nat.{ℕ, _+_, _*_, _<_}
 use native.Mathlib.Omega.{arith}
 use native.Mathlib.Decide.{ℕ-discrete}
 use mathlib.Core.Path.{_≡_, refl, sym, ap, ap₂, _∙_}
@@ -24,7 +24,7 @@ use Rattle.touched.specs.Touched.{Unnamed, atom-place}
 -- the byte of an atom, by a bit
 pub byte-place : (clear : Bool) (v : ℕ) → 2 * v + boolByte clear ≡ atom-place clear v
 byte-place true v = refl
-byte-place false v = refl
+byte-place false v = omega arith
 
 -- an atom of the same variable, but not of the same kind
 other-atom :
