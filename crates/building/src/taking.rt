@@ -44,7 +44,7 @@ pub fn begin(frame: Frame, table: &mut [u16]) -> Progress
 }
 
 // The next operator: its precondition, then what it does to each variable that it touches, which is recorded for the rules. Without room
-// nothing more is built. Costs what build_operator does: a walk over the effect for each variable touched, not below rows whose condition is kept,
+// nothing more is built. Costs what build_operator does: a walk over the effect for each atom that it names, not below rows whose condition is kept,
 // and the index finds each row.
 pub fn take_operator(
     formulas: &[u16],

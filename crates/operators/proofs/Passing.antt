@@ -38,27 +38,17 @@ one-more-passed named v p z clear j a b = go (decLt j v)
         let same : j ≡ v = omega arith in
         rw same (z clear)
 
--- the atoms of a variable, by their bytes
-set-byte : (named : List ℕ) (v : ℕ) → getD named (atom-place false v) 0 ≡ getD named (2 * v) 0
-set-byte named v =
-    let same : 2 * v + 0 ≡ 2 * v = omega arith in
-    ap (λ (k : ℕ). getD named k 0) same
-
-pub set-passed : (named : List ℕ) (v : ℕ) → getD named (2 * v) 0 ≡ 0 → getD named (atom-place false v) 0 ≡ 0
-set-passed named v x = set-byte named v ∙ x
-
-pub set-read : (named : List ℕ) (v : ℕ) → getD named (atom-place false v) 0 ≡ 0 → getD named (2 * v) 0 ≡ 0
-set-read named v x = sym (set-byte named v) ∙ x
-
+-- both atoms of a variable, by their bytes
 pub both-passed :
     (named : List ℕ) (v : ℕ)
     → getD named (2 * v) 0 ≡ 0
     → getD named (2 * v + 1) 0 ≡ 0
     → (clear : Bool)
     → getD named (atom-place clear v) 0 ≡ 0
-both-passed named v x y false = set-passed named v x
+both-passed named v x y false = x
 both-passed named v x y true = y
 
+-- a byte that is not marked
 pub not-marked : (k : ℕ) → not (eqb k 0) ≡ false → k ≡ 0
 not-marked k q = go (ℕ-discrete k 0)
   where

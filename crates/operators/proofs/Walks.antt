@@ -28,7 +28,7 @@ use Rattle.records.specs.Recorded.{Keeps, Opens, Recorded}
 use Rattle.records.proofs.Keeping.{recorded-none, recorded-few, recorded-more}
 use Rattle.operators.specs.declared.Tally.{Tally}
 use Rattle.operators.specs.Operator.{all-changes, operator-built, NextTouched, WalksAll, BuildsOperator, size-behind, Walked, OperatorWalked}
-use Rattle.operators.proofs.Passing.{not-marked, set-passed, stretch-passed, reaches-alike, recorded-alike}
+use Rattle.operators.proofs.Passing.{not-marked, stretch-passed, reaches-alike, recorded-alike}
 
 -- nothing is built
 makes-give :
@@ -180,7 +180,7 @@ module _ {frame : Frame} {formulas effects notes named : List ℕ} {e : ℕ} {at
         noted = noted;
         effect = a .stands .effect;
       },
-      λ q. a .passed false v (set-passed named v (not-marked (getD named (2 * v) 0) q)),
+      λ q. a .passed false v (not-marked (getD named (2 * v) 0) q),
       λ q. a .passed true v (not-marked (getD named (2 * v + 1) 0) q),
     )
 

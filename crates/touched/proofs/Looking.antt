@@ -6,7 +6,6 @@ use mathlib.Core.Path.{_≡_, refl, sym, ap, ap₂, _∙_}
 use mathlib.Core.Bool.{Bool}
 use mathlib.Core.List.{List, [], _∷_}
 use lib.Dec.{eqb}
-use mir.Val.{boolByte}
 use lib.ListN.{length, getD, set, length-set}
 use lib.Seq.{getD-set-same, getD-set-other, ext-getD, set-set, set-getD}
 use Rattle.task.specs.Table.{Row, row-at}
@@ -14,9 +13,8 @@ use Rattle.formula_builder.specs.declared.Words.{Words}
 use Rattle.formula_builder.specs.declared.Frame.{Frame}
 use Rattle.formula_builder.specs.Held.{row-of}
 use Rattle.conditions.proofs.Alone.{both-within, under-within, atom-within}
-use Rattle.conditions.proofs.Notes.{byte-small}
 use Rattle.touched.specs.Touched.{Unnamed, atom-place, mark-place, Unmarked, LeftAlone, LooksAt, Looked, Marks}
-use Rattle.touched.proofs.Naming.{byte-place, unnamed-both, unnamed-under, unnamed-empty, unnamed-atom}
+use Rattle.touched.proofs.Naming.{byte-below, unnamed-both, unnamed-under, unnamed-empty, unnamed-atom}
 
 -- a mark that stands stays when another is made
 mark-keeps : (l : List ℕ) (k j : ℕ) → (getD l j 0 ≡ 0 → ⊥) → getD (set l k 1) j 0 ≡ 0 → ⊥
@@ -101,27 +99,26 @@ module _ (frame : Frame) (effects : List ℕ) (i : ℕ) (l named : List ℕ) (a 
         (w .kind ≡ 0 → ⊥)
         → (w .kind ≡ 3 → ⊥)
         → (w .kind ≡ 4 → ⊥)
-        → 2 * w .a + boolByte (eqb (w .kind) 2) < length named
+        → atom-place (eqb (w .kind) 2) (w .a) < length named
     named-room x y z =
         omega
-        (arith, atom-within frame effects l (a .source) i (a .effect) w q x y z, a .room, byte-small (eqb (w .kind) 2))
+        (arith, atom-within frame effects l (a .source) i (a .effect) w q x y z, a .room, byte-below (eqb (w .kind) 2) (w .a))
 
     pub look-atom :
         (w .kind ≡ 0 → ⊥)
         → (w .kind ≡ 3 → ⊥)
         → (w .kind ≡ 4 → ⊥)
-        → Looked frame effects i l (set l (mark-place frame i) 0) named (set named (2 * w .a + boolByte (eqb (w .kind) 2)) 1)
+        → Looked frame effects i l (set l (mark-place frame i) 0) named (set named (atom-place (eqb (w .kind) 2) (w .a)) 1)
     unfolding gone
     look-atom x y z =
-        let p = 2 * w .a + boolByte (eqb (w .kind) 2) in
-        let there : p ≡ atom-place (eqb (w .kind) 2) (w .a) = byte-place (eqb (w .kind) 2) (w .a) in
+        let p = atom-place (eqb (w .kind) 2) (w .a) in
         let one = getD-set-same named p 1 0 (named-room x y z) in
         looked frame effects i l (gone frame l i room) named (set named p 1)
         (λ j h m e. m (sym (gone-other frame l i room (mark-place frame j) (λ z. omega arith)) ∙ e))
         (λ formulas clear v t alone m.
         unnamed-atom frame formulas effects l (a .source) i (a .effect) w q clear v y z
         (λ e c.
-        let now : getD (set named p 1) p 0 ≡ 0 = ap (λ (k : ℕ). getD (set named p 1) k 0) (there ∙ sym (ap₂ atom-place c e)) ∙ t in
+        let now : getD (set named p 1) p 0 ≡ 0 = ap (λ (k : ℕ). getD (set named p 1) k 0) (sym (ap₂ atom-place c e)) ∙ t in
         omega (arith, one, now)))
         (λ k t. zero-before named p k t)
         (gone-here frame l i room) (λ j h. gone-other frame l i room j (λ z. omega arith))

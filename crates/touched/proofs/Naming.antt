@@ -1,12 +1,11 @@
 -- Rows that do not name an atom, by their kind. Assumes nothing.
-use Prim.Native.Nat.{ℕ, _+_, _*_, _≤_, _<_}
+use Prim.Native.Nat.{ℕ, _+_, _*_, _<_}
 use native.Mathlib.Omega.{arith}
 use native.Mathlib.Decide.{ℕ-discrete}
-use mathlib.Core.Path.{_≡_, refl, sym, ap, ap₂, _∙_}
+use mathlib.Core.Path.{_≡_, sym, ap, ap₂, _∙_}
 use mathlib.Core.Bool.{Bool, true, false, cond}
 use mathlib.Core.List.{List}
 use lib.Dec.{eqb}
-use mir.Val.{boolByte}
 use borrow.Author.Tests.{eq-eqb, ne-eqb}
 use Rattle.task.specs.Table.{Row, row-at, effect-kind}
 use Rattle.normal_form.specs.Builder.{Build, give, bind, pair, opposite, falsity, truth}
@@ -21,10 +20,16 @@ use Rattle.conditions.proofs.Rows.{of-atom, of-both, of-under}
 use Rattle.conditions.proofs.Alone.{idle-pair, idle-guard, idle-empty, idle-atom}
 use Rattle.touched.specs.Touched.{Unnamed, atom-place}
 
--- the byte of an atom, by a bit
-pub byte-place : (clear : Bool) (v : ℕ) → 2 * v + boolByte clear ≡ atom-place clear v
-byte-place true v = refl
-byte-place false v = refl
+-- the byte of the atom that a row of kind k names, by cases
+pub clear-byte : (k v : ℕ) → k ≡ 2 → 2 * v + 1 ≡ atom-place (eqb k 2) v
+clear-byte k v e = rw (eq-eqb k 2 e)
+
+pub set-byte : (k v : ℕ) → (k ≡ 2 → ⊥) → 2 * v ≡ atom-place (eqb k 2) v
+set-byte k v n = rw (ne-eqb k 2 n)
+
+pub byte-below : (clear : Bool) (v : ℕ) → atom-place clear v < 2 * v + 2
+byte-below false v = omega arith
+byte-below true v = omega arith
 
 -- an atom of the same variable, but not of the same kind
 other-atom :

@@ -1,7 +1,7 @@
 -- What marking tells of the atoms, set v and clear v, that an effect does not name.
 use Prim.Native.Nat.{ℕ, _+_, _*_, _≤_, _<_}
 use mathlib.Core.Path.{_≡_}
-use mathlib.Core.Bool.{Bool, cond}
+use mathlib.Core.Bool.{Bool, true, false}
 use mathlib.Core.List.{List}
 use lib.ListN.{length, getD}
 use Rattle.formula_builder.specs.declared.Frame.{Frame}
@@ -10,7 +10,8 @@ pub use Rattle.conditions.specs.Conditions.{Unnamed}
 
 -- the byte of an atom: 2v for set v, 2v + 1 for clear v
 abbrev pub atom-place : Bool → ℕ → ℕ
-atom-place clear v = 2 * v + cond clear 1 0
+atom-place false v = 2 * v
+atom-place true v = 2 * v + 1
 
 -- where row j's mark is
 abbrev pub mark-place : Frame → ℕ → ℕ

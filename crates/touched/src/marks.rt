@@ -1,10 +1,12 @@
 // Marking, from the effect downwards.
 use formula_builder::Frame;
+use formula_builder::Words;
 use formula_builder::read_row;
 ghost use mathlib.Core.Path.{_≡_};
 ghost use mathlib.Core.Bool.{Bool};
 ghost use mathlib.Core.List.{List};
 ghost use Prim.Native.Nat.{ℕ, _+_, _*_, _≤_, _<_};
+ghost use lib.Dec.{eqb};
 ghost use lib.ListN.{length, getD};
 ghost use Rattle.touched.specs.Touched.{LooksAt, Looked, Marks, Unmarked, Unnamed, atom-place};
 
@@ -15,6 +17,17 @@ fn least(a: usize, b: usize) -> usize
         return a;
     }
     b
+}
+
+// The byte of the atom that a row names: 2v for set v, 2v + 1 for clear v.
+fn byte_of(w: Words) -> usize
+    ensures { λ r. ⌜ r ≡ atom-place (eqb (w .kind) 2) (w .a) ⌝ }
+{
+    let set = 2 * (w.a as usize);
+    if w.kind == 2 {
+        return set + 1;
+    }
+    set
 }
 
 // Looks at row i: if it is marked, the mark goes on to the rows that it names, or its atom is named. No row below low is marked;
@@ -52,13 +65,12 @@ fn look(
     if w.kind == 0 {
         return low;
     }
-    let clear = w.kind == 2;
-    let v = w.a as usize;
-    named[2 * v + clear as usize] = 1;
+    let atom = byte_of(w);
+    named[atom] = 1;
     low
 }
 
-// Marks in named each atom that effect e names: byte 2v for set v, 2v + 1 for clear v. A step for each row from e down to the least below it.
+// Marks in named each atom that effect e names. A step for each row from e down to the least below it.
 pub fn touched_by(effects: &[u16], e: usize, frame: Frame, scratch: &mut [u16], named: &mut [u8])
     requires { ⌜ Marks frame (now effects) (now scratch) (now named) e ⌝ }
     ensures { λ _. ⌜ (now (scratch .exit) ≡ now (scratch .entry)) × ((formulas : List ℕ) (clear : Bool) (v : ℕ) → getD (now (named .exit)) (atom-place clear v) 0 ≡ 0 → Unnamed frame formulas (now (effects .entry)) clear v e) ⌝ }

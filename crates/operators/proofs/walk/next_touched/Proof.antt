@@ -8,7 +8,7 @@ use mathlib.Core.Path.{_≡_}
 use mathlib.Core.Bool.{Bool, true, false}
 use lib.ListN.{getD}
 use Rattle.touched.specs.Touched.{atom-place}
-use Rattle.operators.proofs.Passing.{one-more-passed, both-passed, set-read}
+use Rattle.operators.proofs.Passing.{one-more-passed, both-passed}
 
 abbrev Inv-loop : tie.InvT-loop
 Inv-loop named from n v₀ v = (from ≤ v) × (v ≤ n) × ((clear : Bool) (j : ℕ) → from ≤ j → j < v → getD named (atom-place clear j) 0 ≡ 0)
@@ -26,7 +26,7 @@ shared-slice-read-if1 : tie.Need-shared-slice-read-if1 Inv-loop μ-loop
 shared-slice-read-if1 c = omega (arith, c .before .before .before .pre .1, c .before .loop-test .taken)
 
 returns : tie.Need-returns Inv-loop μ-loop
-returns c = record { above = c .before .before .before .loop .inv .0; below = c .before .before .before .loop .inv .1; passed = c .before .before .before .loop .inv .2; stopped = λ _ z. c .if1 .taken (set-read (c .before .before .before .before .args .named .now) (c .before .before .before .loop .v) (z false)) }
+returns c = record { above = c .before .before .before .loop .inv .0; below = c .before .before .before .loop .inv .1; passed = c .before .before .before .loop .inv .2; stopped = λ _ z. c .if1 .taken (z false) }
 
 mul-if2 : tie.Need-mul-if2 Inv-loop μ-loop
 mul-if2 c = omega (arith, c .before .before .before .before .pre .1, c .before .before .loop-test .taken, c .before .before .before .before .good)

@@ -11,6 +11,7 @@ use mathlib.Core.List.{[]}
 use lib.ListN.{set, length-set}
 use Rattle.touched.specs.Touched.{mark-place}
 use Rattle.touched.proofs.marks.least.Reads as least-reads
+use Rattle.touched.proofs.marks.byte_of.Reads as byte-of-reads
 
 -- src/marks.rt:15:16
 mul-base : tie.Need-mul-base
@@ -144,33 +145,20 @@ same-length-3 c = search needs
 returns-4 : tie.Need-returns-4
 returns-4 c = (look-empty (c .before .before .before .before .before .before .before .before .before .before .before .before .before .before .args .frame) (c .before .before .before .before .before .before .before .before .before .before .before .before .before .before .args .effects .now) (c .before .before .before .before .before .before .before .before .before .before .before .before .before .before .args .i) (c .before .before .before .before .before .before .before .before .before .before .before .before .before .before .args .scratch .now) (c .before .before .before .before .before .before .before .before .before .before .before .before .before .before .args .named .now) (c .before .before .before .before .before .before .before .before .before .before .before .before .before .before .pre) (c .before .before .before .before .before .before .read-row .result) (c .before .before .before .before .before .before .read-row .ensures) (c .if4 .taken), λ u. (unmarked-gone (c .before .before .before .before .before .before .before .before .before .before .before .before .before .before .args .frame) (c .before .before .before .before .before .before .before .before .before .before .before .before .before .before .args .scratch .now) (c .before .before .before .before .before .before .before .before .before .before .before .before .before .before .args .i) (c .before .before .before .before .before .before .before .before .before .before .before .before .before .before .args .low) u))
 
--- src/marks.rt:37:13
-cast-v : tie.Need-cast-v
-cast-v c = search needs
-
-mul-named : tie.Need-mul-named
-mul-named c = omega (arith, named-room (c .before .before .before .before .before .before .before .before .before .before .before .before .before .before .before .before .args .frame) (c .before .before .before .before .before .before .before .before .before .before .before .before .before .before .before .before .args .effects .now) (c .before .before .before .before .before .before .before .before .before .before .before .before .before .before .before .before .args .i) (c .before .before .before .before .before .before .before .before .before .before .before .before .before .before .before .before .args .scratch .now) (c .before .before .before .before .before .before .before .before .before .before .before .before .before .before .before .before .args .named .now) (c .before .before .before .before .before .before .before .before .before .before .before .before .before .before .before .before .pre) (c .before .before .before .before .before .before .before .before .read-row .result) (c .before .before .before .before .before .before .before .before .read-row .ensures) (c .before .before .if4 .left) (c .before .before .before .before .before .before .if2 .left) (c .before .before .before .before .if3 .left), c .before .before .before .before .before .before .before .before .before .before .before .before .before .before .before .before .good)
-
-cast-named : tie.Need-cast-named
-cast-named c = search needs
-
-add-named : tie.Need-add-named
-add-named c = omega (arith, named-room (c .before .before .before .before .before .before .before .before .before .before .before .before .before .before .before .before .args .frame) (c .before .before .before .before .before .before .before .before .before .before .before .before .before .before .before .before .args .effects .now) (c .before .before .before .before .before .before .before .before .before .before .before .before .before .before .before .before .args .i) (c .before .before .before .before .before .before .before .before .before .before .before .before .before .before .before .before .args .scratch .now) (c .before .before .before .before .before .before .before .before .before .before .before .before .before .before .before .before .args .named .now) (c .before .before .before .before .before .before .before .before .before .before .before .before .before .before .before .before .pre) (c .before .before .before .before .before .before .before .before .read-row .result) (c .before .before .before .before .before .before .before .before .read-row .ensures) (c .before .before .if4 .left) (c .before .before .before .before .before .before .if2 .left) (c .before .before .before .before .if3 .left), c .before .before .before .before .before .before .before .before .before .before .before .before .before .before .before .before .good)
+byte-of-requires : tie.Need-byte-of-requires
+byte-of-requires c κs = search needs
 
 slice-write-named : tie.Need-slice-write-named
-slice-write-named c = named-room (c .before .before .before .before .before .before .before .before .before .before .before .before .before .before .before .before .args .frame) (c .before .before .before .before .before .before .before .before .before .before .before .before .before .before .before .before .args .effects .now) (c .before .before .before .before .before .before .before .before .before .before .before .before .before .before .before .before .args .i) (c .before .before .before .before .before .before .before .before .before .before .before .before .before .before .before .before .args .scratch .now) (c .before .before .before .before .before .before .before .before .before .before .before .before .before .before .before .before .args .named .now) (c .before .before .before .before .before .before .before .before .before .before .before .before .before .before .before .before .pre) (c .before .before .before .before .before .before .before .before .read-row .result) (c .before .before .before .before .before .before .before .before .read-row .ensures) (c .before .before .if4 .left) (c .before .before .before .before .before .before .if2 .left) (c .before .before .before .before .if3 .left)
+slice-write-named c = rw (c .byte-of .ensures) (named-room (c .before .before .before .before .before .before .before .before .before .before .before .before .before .before .before .args .frame) (c .before .before .before .before .before .before .before .before .before .before .before .before .before .before .before .args .effects .now) (c .before .before .before .before .before .before .before .before .before .before .before .before .before .before .before .args .i) (c .before .before .before .before .before .before .before .before .before .before .before .before .before .before .before .args .scratch .now) (c .before .before .before .before .before .before .before .before .before .before .before .before .before .before .before .args .named .now) (c .before .before .before .before .before .before .before .before .before .before .before .before .before .before .before .pre) (c .before .before .before .before .before .before .before .read-row .result) (c .before .before .before .before .before .before .before .read-row .ensures) (c .before .if4 .left) (c .before .before .before .before .before .if2 .left) (c .before .before .before .if3 .left))
 
--- src/marks.rt:11:1
 same-length-4 : tie.Need-same-length-4
 same-length-4 c = search needs
 
--- src/marks.rt:11:1
 same-length-5 : tie.Need-same-length-5
 same-length-5 c = search needs
 
--- src/marks.rt:11:1
 returns-5 : tie.Need-returns-5
-returns-5 c = (look-atom (c .before .before .before .before .before .before .before .before .before .before .before .before .before .before .before .before .args .frame) (c .before .before .before .before .before .before .before .before .before .before .before .before .before .before .before .before .args .effects .now) (c .before .before .before .before .before .before .before .before .before .before .before .before .before .before .before .before .args .i) (c .before .before .before .before .before .before .before .before .before .before .before .before .before .before .before .before .args .scratch .now) (c .before .before .before .before .before .before .before .before .before .before .before .before .before .before .before .before .args .named .now) (c .before .before .before .before .before .before .before .before .before .before .before .before .before .before .before .before .pre) (c .before .before .before .before .before .before .before .before .read-row .result) (c .before .before .before .before .before .before .before .before .read-row .ensures) (c .before .before .if4 .left) (c .before .before .before .before .before .before .if2 .left) (c .before .before .before .before .if3 .left), λ u. unmarked-gone (c .before .before .before .before .before .before .before .before .before .before .before .before .before .before .before .before .args .frame) (c .before .before .before .before .before .before .before .before .before .before .before .before .before .before .before .before .args .scratch .now) (c .before .before .before .before .before .before .before .before .before .before .before .before .before .before .before .before .args .i) (c .before .before .before .before .before .before .before .before .before .before .before .before .before .before .before .before .args .low) u)
+returns-5 c = rw (c .byte-of .ensures) (look-atom (c .before .before .before .before .before .before .before .before .before .before .before .before .before .before .before .args .frame) (c .before .before .before .before .before .before .before .before .before .before .before .before .before .before .before .args .effects .now) (c .before .before .before .before .before .before .before .before .before .before .before .before .before .before .before .args .i) (c .before .before .before .before .before .before .before .before .before .before .before .before .before .before .before .args .scratch .now) (c .before .before .before .before .before .before .before .before .before .before .before .before .before .before .before .args .named .now) (c .before .before .before .before .before .before .before .before .before .before .before .before .before .before .before .pre) (c .before .before .before .before .before .before .before .read-row .result) (c .before .before .before .before .before .before .before .read-row .ensures) (c .before .if4 .left) (c .before .before .before .before .before .if2 .left) (c .before .before .before .if3 .left), λ u. unmarked-gone (c .before .before .before .before .before .before .before .before .before .before .before .before .before .before .before .args .frame) (c .before .before .before .before .before .before .before .before .before .before .before .before .before .before .before .args .scratch .now) (c .before .before .before .before .before .before .before .before .before .before .before .before .before .before .before .args .i) (c .before .before .before .before .before .before .before .before .before .before .before .before .before .before .before .args .low) u)
 
 pub look-spec : {M : Type 1} → statement M
 look-spec =
@@ -209,10 +197,7 @@ look-spec =
     returns-3
     same-length-3
     returns-4
-    cast-v
-    mul-named
-    cast-named
-    add-named
+    byte-of-requires
     slice-write-named
     same-length-4
     same-length-5
