@@ -12,7 +12,7 @@ use Rattle.formula_builder.specs.declared.Words.{Words}
 use Rattle.formula_builder.specs.declared.Frame.{Frame}
 use Rattle.formula_builder.specs.Held.{row-of}
 use Rattle.conditions.specs.Conditions.{column, Columns, outside, Spans}
-use Rattle.spans.specs.Columns.{Elsewhere, Meets, HandsOn, FindsRoots, FindsColumns, Settles, Settled, FoundColumns}
+use Rattle.spans.specs.Columns.{Elsewhere, Meets, HandsOn, FindsRoots, FindsColumns, Settles, Settled, SpacesOut, FoundColumns}
 use Rattle.spans.proofs.Finds.{both-lower, under-lower}
 
 -- Nothing is written, a word is written, one pass after another.
@@ -103,6 +103,21 @@ settled-by frame i last x r notes mid there e grows once within fresh =
       once = once;
       within = rw here within;
       fresh = rw here fresh;
+    }
+
+-- behind a pass over the rows that row i names
+pub settled-after :
+    {frame : Frame} {i last r : ℕ} {notes mid notes' : List ℕ}
+    → Elsewhere frame i notes mid
+    → Settled frame i last mid notes' r
+    → Settled frame i last notes notes' r
+settled-after {frame} {i} {last} {r} {notes} {mid} {notes'} e s =
+    record {
+      elsewhere = elsewhere-then {d = i} {e = i + 1} (omega arith) (omega arith) e (s .elsewhere);
+      grows = s .grows;
+      once = s .once;
+      within = s .within;
+      fresh = s .fresh;
     }
 
 -- The loop's invariant: the rows from i on have their columns, up to the last one.
@@ -226,6 +241,30 @@ settling-all n a long w x =
         apart = λ d e b c p q. x .apart d e (omega arith) (omega arith) b c p q;
       };
       elsewhere = elsewhere-then (omega arith) (omega arith) w (x .elsewhere);
+    }
+
+-- and the same behind a second pass
+pub spaced-all :
+    {frame : Frame} {first notes : List ℕ} {i last : ℕ}
+    → i ≤ 0
+    → SpacesOut frame first
+    → Settling frame first i last notes
+    → FoundColumns frame first notes
+spaced-all n a x =
+    record {
+      columns = record {
+        words = omega (arith, a .room, x .long);
+        apart = λ d e b c p q. x .apart d e (omega arith) (omega arith) b c p q;
+      };
+      elsewhere = x .elsewhere;
+    }
+
+pub found-then :
+    {frame : Frame} {a b c : List ℕ} → FoundColumns frame a b → FoundColumns frame b c → FoundColumns frame a c
+found-then x y =
+    record {
+      columns = y .columns;
+      elsewhere = elsewhere-then (omega arith) (omega arith) (x .elsewhere) (y .elsewhere);
     }
 
 -- and the spans stay

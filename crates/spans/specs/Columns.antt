@@ -39,6 +39,11 @@ pub record FindsColumns (frame : Frame) (effects operators : List ℕ) (count : 
   pub finds : FindsSpans frame effects notes
   pub roots : FindsRoots frame operators count notes
 
+-- Each row has a word for its column.
+pub record SpacesOut (frame : Frame) (notes : List ℕ) : Type 0 where
+  pub limit : frame .effects ≤ 4096
+  pub room : 3 * frame .effects ≤ length notes
+
 -- Row i is the next one, and so many columns are given.
 pub record Settles (frame : Frame) (effects notes : List ℕ) (i last : ℕ) : Type 0 where
   pub finds : FindsSpans frame effects notes

@@ -4,8 +4,8 @@
 use formula_builder::Frame;
 use formula_builder::Words;
 use formula_builder::read_row;
-ghost use Prim.Native.Nat.{_+_};
-ghost use Rattle.spans.specs.Columns.{Elsewhere, Meets, HandsOn, Settles, Settled, FindsRoots, FindsColumns, FoundColumns};
+ghost use Prim.Native.Nat.{_+_, _≤_, _<_};
+ghost use Rattle.spans.specs.Columns.{Elsewhere, Meets, HandsOn, Settles, Settled, SpacesOut, FindsRoots, FindsColumns, FoundColumns};
 
 // The word of a row, which was old, once a referrer with the word w names it. That word carries no promise: it only tells which rows are
 // worth a column.
@@ -73,16 +73,13 @@ fn is_worth(kind: u16, w: u16) -> bool {
     1024 <= w
 }
 
-// Row i, whose referrers have all named it, names its rows and gets its column, if it is worth one. Answers the last column given.
-fn settle(effects: &[u16], i: usize, last: u16, frame: Frame, notes: &mut [u16]) -> u16
-    requires { ⌜ Settles frame (now effects) (now notes) i last ⌝ }
+// Row i gets the next column, if it is to have one. Answers the last column given.
+fn give(i: usize, worth: bool, last: u16, frame: Frame, notes: &mut [u16]) -> u16
+    requires { ⌜ Meets frame (now notes) i × (last ≤ 4096) ⌝ }
     ensures { λ r. ⌜ Settled frame i last (now (notes .entry)) (now (notes .exit)) r ⌝ }
 {
-    let r = read_row(effects, i);
     let j = 2 * frame.effects + i;
-    let w = notes[j];
-    hand_on(r, w, i, frame, notes);
-    if is_worth(r.kind, w) {
+    if worth {
         notes[j] = last + 1;
         return last + 1;
     }
@@ -90,15 +87,26 @@ fn settle(effects: &[u16], i: usize, last: u16, frame: Frame, notes: &mut [u16])
     last
 }
 
-// The columns of all rows: one pass over the operators, then one over the effects, downwards, since the rows that a row names are lower. The
-// words of the columns are 0 before. As many steps as there are operators and effects.
-pub fn find_columns(
+// Row i, whose referrers have all named it, names its rows and gets its column, if it is worth one. Answers the last column given.
+fn settle(effects: &[u16], i: usize, last: u16, frame: Frame, notes: &mut [u16]) -> u16
+    requires { ⌜ Settles frame (now effects) (now notes) i last ⌝ }
+    ensures { λ r. ⌜ Settled frame i last (now (notes .entry)) (now (notes .exit)) r ⌝ }
+{
+    let r = read_row(effects, i);
+    let w = notes[2 * frame.effects + i];
+    hand_on(r, w, i, frame, notes);
+    give(i, is_worth(r.kind, w), last, frame, notes)
+}
+
+// Each row that is worth it gets a column: one pass over the operators, then one over the effects, downwards, since the rows that a row names
+// are lower. The words of the columns are 0 before. Answers how many columns there are.
+fn number_rows(
     effects: &[u16],
     operators: &[u16],
     count: usize,
     frame: Frame,
     notes: &mut [u16],
-)
+) -> u16
     requires { ⌜ FindsColumns frame (now effects) (now operators) count (now notes) ⌝ }
     ensures { λ _. ⌜ FoundColumns frame (now (notes .entry)) (now (notes .exit)) ⌝ }
 {
@@ -109,4 +117,55 @@ pub fn find_columns(
         i -= 1;
         last = settle(effects, i, last, frame, notes);
     }
+    last
+}
+
+// Of so many columns, each of two words a variable, every how manieth there is room for. Only that it is not 0 is promised.
+fn spacing(columns: u16, variables: usize, room: usize) -> u16
+    ensures { λ r. ⌜ 0 < r ⌝ }
+{
+    if variables == 0 {
+        return 1;
+    }
+    let most = room / 2 / variables;
+    if most == 0 {
+        return 1;
+    }
+    let passed = (columns as usize) / most;
+    if 4096 < passed {
+        return 4096;
+    }
+    (passed + 1) as u16
+}
+
+// Every q-th column stays, so that a walk from any row comes soon to one that is kept: all in front, none behind, would leave long walks.
+// As many steps as there are effects.
+fn space_out(q: u16, frame: Frame, notes: &mut [u16])
+    requires { ⌜ (0 < q) × SpacesOut frame (now notes) ⌝ }
+    ensures { λ _. ⌜ FoundColumns frame (now (notes .entry)) (now (notes .exit)) ⌝ }
+{
+    let mut i = frame.effects;
+    let mut last = 0;
+    while 0 < i {
+        i -= 1;
+        let c = notes[2 * frame.effects + i];
+        last = give(i, c != 0 && c % q == 0, last, frame, notes);
+    }
+}
+
+// The columns of the rows, as many as there is room for. As many steps as there are operators, and twice as there are effects.
+pub fn find_columns(
+    effects: &[u16],
+    operators: &[u16],
+    count: usize,
+    frame: Frame,
+    notes: &mut [u16],
+)
+    requires { ⌜ FindsColumns frame (now effects) (now operators) count (now notes) ⌝ }
+    ensures { λ _. ⌜ FoundColumns frame (now (notes .entry)) (now (notes .exit)) ⌝ }
+{
+    let columns = number_rows(effects, operators, count, frame, notes);
+    let room = notes.len() - 3 * frame.effects;
+    let q = spacing(columns, frame.variables, room);
+    space_out(q, frame, notes);
 }
