@@ -111,7 +111,7 @@ fn compile_through(
     )
 }
 
-// Through small room: 8.5 KiB.
+// Through small room: 8.25 KiB.
 fn compile_small(
     head: Head,
     initial: &[u8],
