@@ -35,7 +35,7 @@ use Rattle.layouts.proofs.LayWays.{put-padded, size}
 use Rattle.layouts.proofs.RunWays.{low-next}
 use Rattle.entries.specs.Entries.{own, CompileEntry, no-file, compile-given, compile-number, compile-entry, compile-entry-by}
 use Rattle.entries.specs.Giving.{ReadAs}
-use Rattle.entries.specs.CompileGiving.{CompileGives, CompileIn, FewRows, given-file, own-room, small-room, number-after, compile-through}
+use Rattle.entries.specs.CompileGiving.{CompileGives, CompileIn, SmallSource, given-file, own-room, small-room, number-after, compile-through}
 use Rattle.entries.proofs.ReadWays.{limits-room, same-reading}
 
 -- The file of tables that pass, and its length.
@@ -267,17 +267,18 @@ module _ (l : Lent) (kept : refusal l ≡ 0) where
           in
           rw (nothing-refused, ← t) g
 
--- a task of few rows through small room
+-- a source in small tables through small room
 pub small-settled :
     {l : Lent} (o n : ℕ) {code : ℕ} {out result : List ℕ}
-    → FewRows l
+    → SmallSource l
     → (code ≡ 15 → ⊥)
     → CompileGives (compile-through l small-room o n) code out result
     → CompileGives (compile-given (compile-number (task-of l) o n) (file-of (finished (task-of l))) o n) code out result
 unfolding scratch-kept small-room
-small-settled {l} o n rows d g =
-    settled l (rows .kept) small-room o n
-    (le-leb (2 * l .head .formulas + 2 * l .head .effects) 256 (omega (arith, rows .few)))
+small-settled {l} o n small d g =
+    let long = kept-rules l (small .kept) .0 in
+    settled l (small .kept) small-room o n
+    (le-leb (2 * l .head .formulas + 2 * l .head .effects) 512 (omega (arith, small .few, long .formulas, long .effects)))
     d g
 
 -- the two ways out by the file

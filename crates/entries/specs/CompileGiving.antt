@@ -29,10 +29,10 @@ unfoldable pub own-room : Room
 own-room =
     record { initial = 512; twins = 256; formulas = 12288; effects = 12288; operators = 768; scratch = 16384 }
 
--- small room, which is tried first for a task of few rows
+-- small room, which is tried first for a source in small tables
 unfoldable pub small-room : Room
 small-room =
-    record { initial = 512; twins = 256; formulas = 1536; effects = 1536; operators = 384; scratch = 256 }
+    record { initial = 512; twins = 256; formulas = 1536; effects = 1536; operators = 384; scratch = 512 }
 
 -- compiling's number, or without one 20 if the file or its length has no room
 unfoldable pub number-after : ℕ → List ℕ → (o r : ℕ) → ℕ
@@ -45,10 +45,10 @@ compile-through l room o r =
     let file = file-of (finished (task-of l)) in
     compile-given (number-after (compile-refusal l room) file o r) file o r
 
--- tables that pass, of few rows
-pub record FewRows (l : Lent) : Type 0 where
+-- tables that pass, and are small
+pub record SmallSource (l : Lent) : Type 0 where
   pub kept : refusal l ≡ 0
-  pub few : l .head .formulas + l .head .effects ≤ 128
+  pub few : length (l .formulas) + length (l .effects) ≤ 768
 
 -- tables that pass, and room for what compiling makes of them
 pub record CompileIn (l : Lent) (x : Tables) : Type 0 where

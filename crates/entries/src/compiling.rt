@@ -10,7 +10,7 @@ ghost use Rattle.normal_form.specs.Finished.{finished};
 ghost use Rattle.compiler.specs.Fills.{tables, room-of};
 ghost use Rattle.entries.specs.Entries.{no-file, compile-number, compile-given, compile-entry, compile-entry-by};
 ghost use Rattle.entries.specs.Giving.{small};
-ghost use Rattle.entries.specs.CompileGiving.{CompileGives, FewRows, given-file, small-room, compile-through, refused-compile};
+ghost use Rattle.entries.specs.CompileGiving.{CompileGives, SmallSource, given-file, small-room, compile-through, refused-compile};
 use compiler::CompileAnswer;
 use task::Head;
 use task_file::ReadAnswer;
@@ -111,7 +111,7 @@ fn compile_through(
     )
 }
 
-// Through small room: 8.5 KiB.
+// Through small room: 8.75 KiB.
 fn compile_small(
     head: Head,
     initial: &[u8],
@@ -130,7 +130,7 @@ fn compile_small(
     let mut table = [0u16; 1536];
     let mut rules = [0u16; 1536];
     let mut written = [0u16; 384];
-    let mut scratch = [0u16; 256];
+    let mut scratch = [0u16; 512];
     compile_through(
         head,
         initial,
@@ -187,8 +187,8 @@ fn compile_full(
     )
 }
 
-// Compiles few rows: through small room, and only if the compiled task has no room there, 15, through the full room.
-fn compile_few(
+// Compiles a source in small tables: through small room, and only if the compiled task has no room there, 15, through the full room.
+fn compile_short(
     head: Head,
     initial: &[u8],
     twins: &[u16],
@@ -198,7 +198,7 @@ fn compile_few(
     out: &mut [u8],
     result: &mut [u8],
 ) -> u32
-    requires { ⌜ FewRows (lent head (now initial) (now twins) (now formulas) (now effects) (now operators)) ⌝ }
+    requires { ⌜ SmallSource (lent head (now initial) (now twins) (now formulas) (now effects) (now operators)) ⌝ }
     ensures { λ r. ⌜ CompileGives (compile-given (compile-number (task-of (lent head (now (initial .entry)) (now (twins .entry)) (now (formulas .entry)) (now (effects .entry)) (now (operators .entry)))) (length (now (out .entry))) (length (now (result .entry)))) (file-of (finished (task-of (lent head (now (initial .entry)) (now (twins .entry)) (now (formulas .entry)) (now (effects .entry)) (now (operators .entry)))))) (length (now (out .entry))) (length (now (result .entry)))) r (now (out .exit)) (now (result .exit)) ⌝ }
 {
     let number = compile_small(
@@ -240,8 +240,8 @@ fn compile_read(
     requires { ⌜ refusal (lent head (now initial) (now twins) (now formulas) (now effects) (now operators)) ≡ 0 ⌝ }
     ensures { λ r. ⌜ CompileGives (compile-given (compile-number (task-of (lent head (now (initial .entry)) (now (twins .entry)) (now (formulas .entry)) (now (effects .entry)) (now (operators .entry)))) (length (now (out .entry))) (length (now (result .entry)))) (file-of (finished (task-of (lent head (now (initial .entry)) (now (twins .entry)) (now (formulas .entry)) (now (effects .entry)) (now (operators .entry)))))) (length (now (out .entry))) (length (now (result .entry)))) r (now (out .exit)) (now (result .exit)) ⌝ }
 {
-    if head.formulas as usize + head.effects as usize <= 128 {
-        return compile_few(
+    if formulas.len() + effects.len() <= 768 {
+        return compile_short(
             head,
             initial,
             twins,
@@ -336,7 +336,7 @@ fn compile_from_full(file: &[u8], out: &mut [u8], result: &mut [u8]) -> u32
 }
 
 // Compiles a task file: 0, the compiled task's file and its length, or the number and all 0.
-// Cost: one pass over the file, compiling, one pass over the compiled task. A short file is read as pnf_read does.
+// Cost: one pass over the file, compiling (twice for a short file whose compiled task is not small), one pass over the compiled task.
 #[no_mangle]
 pub extern "C" fn pnf_compile(file: &[u8], out: &mut [u8], result: &mut [u8]) -> u32
     ensures { λ r. ⌜ CompileGives (compile-entry (now (file .entry)) (length (now (out .entry))) (length (now (result .entry)))) r (now (out .exit)) (now (result .exit)) ⌝ }

@@ -187,8 +187,8 @@ module _ (l : Lent) (rows twins : ℕ) (passes : refusal l ≡ 0) where
 
     pub owns-many :
         Begins l rows twins effects x
-        → Owns l rows twins effects x (replicate 274432 0) (replicate 24576 0) (replicate 6912 0)
-    owns-many b = owns 274432 24576 b (omega (arith, effects-limit)) (omega (arith, b .lends .rows-limit))
+        → Owns l rows twins effects x (replicate 78848 0) (replicate 24576 0) (replicate 6912 0)
+    owns-many b = owns 78848 24576 b (omega (arith, effects-limit)) (omega (arith, b .lends .rows-limit))
 
     pub owns-few :
         Begins l rows twins effects x

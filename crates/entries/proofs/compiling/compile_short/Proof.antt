@@ -5,8 +5,8 @@ use Rattle.normal_form.specs.Finished.{finished}
 use Rattle.entries.specs.Entries.{compile-given, compile-number}
 use Rattle.entries.proofs.CompileWays.{small-settled, same-outputs}
 use borrow.Author.Needs.{needs}
-use Rattle.entries.proofs.compiling.compile_few.Statement.{statement}
-use Rattle.entries.proofs.compiling.compile_few.Tie as tie
+use Rattle.entries.proofs.compiling.compile_short.Statement.{statement}
+use Rattle.entries.proofs.compiling.compile_short.Tie as tie
 
 compile-small-requires : tie.Need-compile-small-requires
 compile-small-requires c κs = search needs
@@ -32,8 +32,8 @@ same-length-4 c = search needs
 returns-2 : tie.Need-returns-2
 returns-2 c = let a = c .before .before .before .before .before .before .before .before .before .before .before .before .before .before .before .before .before .before .before .before .before .before .args in same-outputs (λ o n. compile-given (compile-number (task-of (lent (a .head) (a .initial .now) (a .twins .now) (a .formulas .now) (a .effects .now) (a .operators .now))) o n) (file-of (finished (task-of (lent (a .head) (a .initial .now) (a .twins .now) (a .formulas .now) (a .effects .now) (a .operators .now))))) o n) (c .before .before .before .before .before .before .before .before .before .before .before .before .compile-small .kept .1 .1 .1 .1 .1 .1 .0) (c .before .before .before .before .before .before .before .before .before .before .before .before .compile-small .kept .1 .1 .1 .1 .1 .1 .1 .0) (c .before .before .before .before .compile-full .ensures)
 
-pub compile-few-spec : {M : Type 1} → statement M
-compile-few-spec =
+pub compile-short-spec : {M : Type 1} → statement M
+compile-short-spec =
     tie.close
     (tie.spec
     compile-small-requires
