@@ -23,7 +23,7 @@ const MEASURED: Size = Size {
 /// Longer calls at the limits are not made, but foretold from fewer operators.
 const PATIENCE: f64 = 3.0;
 
-/// The family that is the worst of all.
+/// The family that was the worst of all before the index had trees.
 const WORST: usize = FAMILIES.len() - 1;
 
 /// The library's seconds on this task.
