@@ -9,7 +9,7 @@ use saqwillo_tests::lent::Lent;
 use saqwillo_tests::task::*;
 
 use crate::calls::compiling as calls;
-use crate::compiling::{agree, compiled_task, needs, scratch_of};
+use crate::compiling::{agree, agree_both, compiled_task, needs, scratch_of};
 
 pub fn tests() -> Vec<Test> {
     let test = |name, body| Test {
@@ -20,6 +20,7 @@ pub fn tests() -> Vec<Test> {
     vec![
         test("at the limits and past them", at_the_limits),
         test("far past the limits", far_past_the_limits),
+        test("counts where small tables end", where_small_tables_end),
         test("every lent length", every_lent_length),
         test("lent lengths of large tasks", large_lent_lengths),
         test("scratch lengths", scratch_lengths),
@@ -96,6 +97,43 @@ fn at_the_limits(trial: &mut Trial) -> Verdict {
 
 /// Effect rows so many that their count passes 16 bits; wrapped, it would
 /// keep the limit again.
+/// Counts around those up to which compiling has small tables of its own, of
+/// the source and of what is built; each with all lent, and exactly enough.
+fn where_small_tables_end(trial: &mut Trial) -> Verdict {
+    for rows in 508..=515 {
+        agree_both(trial, &examples::conjunctions(rows))?;
+        agree(trial, (&examples::conjunctions(rows), &LARGEST, 2 * 515))?;
+    }
+    for (variables, effects, operators) in [
+        (127, 511, 63),
+        (128, 512, 64),
+        (129, 512, 64),
+        (128, 513, 64),
+        (128, 512, 65),
+        (60, 512, 64),
+        (60, 513, 64),
+    ] {
+        for deep in [0, 30, 60, 90] {
+            let shape = Shape {
+                variables,
+                twins: 0,
+                formulas: 512,
+                effects,
+                operators,
+                deep,
+                constants: 5,
+                conflicts: 10,
+                ground: 30,
+                leaves: 20,
+            };
+            let task = generate::task(&mut trial.random, &shape);
+            agree_both(trial, &task)?;
+            agree(trial, (&task, &LARGEST, scratch_of(&task)))?;
+        }
+    }
+    Ok(())
+}
+
 fn far_past_the_limits(trial: &mut Trial) -> Verdict {
     let counts = [65_536, 65_537, 69_632];
     let mut tasks = counts.map(effect_rows).to_vec();

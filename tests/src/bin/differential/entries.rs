@@ -33,6 +33,7 @@ pub fn tests() -> Vec<Test> {
         test("limits of compiling", limits_of_compiling),
         test("order of refusals", order_of_refusals),
         test("long sequences", long_sequences),
+        test("lengths where small tables end", where_small_tables_end),
         test("source and compiled alike", alike),
         Test {
             group: "corpus",
@@ -269,6 +270,29 @@ fn order_of_refusals(trial: &mut Trial) -> Verdict {
         trial.case();
         same_compile(&twins, out_length, result_length, 0xff)?;
         same_compile(&file(&damage::base()), out_length, result_length, 0xff)?;
+    }
+    Ok(())
+}
+
+/// Files, sequences and rows around those up to which an entry has small
+/// tables of its own.
+fn where_small_tables_end(trial: &mut Trial) -> Verdict {
+    for rows in (36..50).chain(250..262) {
+        let bytes = file(&examples::conjunctions(rows));
+        try_file(trial, &bytes)?;
+        for cut in 1..4 {
+            try_file(trial, &bytes[..bytes.len() - cut])?;
+        }
+    }
+    let running = examples::running();
+    let state = &running.tables.initial;
+    for numbers in 253..260 {
+        trial.case();
+        let moves: Vec<u16> = (0..numbers).map(|k| k % 2).collect();
+        let mut sequence = other::words(&moves);
+        same_run(&file(&running), state, &sequence, 16, 0xff)?;
+        sequence.push(0);
+        same_run(&file(&running), state, &sequence, 16, 0xff)?;
     }
     Ok(())
 }
