@@ -7,13 +7,14 @@ use mathlib.Core.List.{List, [], _∷_}
 use lib.ListN.{length, replicate}
 use Rattle.task.specs.Table.{Lent, Task, task-of}
 use Rattle.task.specs.Run.{Run, Progress, Stop, ended, stopped, goal-holds, operator-of, effect-of-operator, applicable, charge, after-step, answer, run-on, plain-run}
+use Rattle.steps.specs.declared.Taken.{Taken}
+use Rattle.steps.specs.Steps.{running, took, Takes}
+use Rattle.steps.proofs.Going.{goes-on, stops}
 use Rattle.plan.specs.declared.outcome.StepOutcome.{StepOutcome}
 use Rattle.plan.specs.declared.outcome.RunOutcome.{RunOutcome}
 use Rattle.plan.specs.declared.outcome.End.the-variants.{Refused}
-use Rattle.plan.specs.declared.steps.Taken.{Taken}
 use Rattle.plan.specs.Outcome.{early-refusal, run-refusal, cleared, step-refused, run-refused, step-told, run-answer, run-told, step-by, stepped, run-by, ran, StepGives, RunGives}
-use Rattle.plan.specs.Steps.{running, took, Takes, StepDone, RunDone}
-use Rattle.plan.proofs.Running.{goes-on, stops}
+use Rattle.plan.specs.Done.{StepDone, RunDone}
 
 -- the initial state and the twins play no part in a run
 module _ (l : Lent) where

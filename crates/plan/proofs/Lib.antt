@@ -1,9 +1,3 @@
-pub mod Passes
-pub mod Handing
-pub mod Valuing
-pub mod Marking
-pub mod Applying
-pub mod Taking
 pub mod Running
 pub mod Refusing
 pub mod Calls

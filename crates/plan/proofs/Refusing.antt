@@ -13,8 +13,8 @@ use Rattle.task.specs.Check.{refusal, unless}
 use Rattle.task.proofs.Bounded.{and-left, and-right, every-at}
 use Rattle.task.proofs.Held.{length-initial, length-formulas, length-effects, length-operators, formula-held, effect-held, operator-held, goal-held}
 use Rattle.task.proofs.Kept.{kept-rules}
+use Rattle.steps.specs.Steps.{TablesReady, Ready}
 use Rattle.plan.specs.Outcome.{state-kept, scratch-kept, sequence-kept, first-of, early-refusal, run-refusal}
-use Rattle.plan.specs.Steps.{TablesReady, Ready}
 
 first : (n rest : ℕ) → (n ≡ 0 → ⊥) → n ≡ first-of n rest
 first zero rest d = absurd (d refl)

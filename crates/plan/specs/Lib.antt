@@ -1,4 +1,2 @@
 pub mod Outcome
-pub mod Values
-pub mod Marks
-pub mod Steps
+pub mod Done

@@ -2,12 +2,13 @@
 ghost use Prim.Native.Nat.{_≤_};
 ghost use lib.ListN.{length};
 ghost use Rattle.task.specs.Table.{lent};
+ghost use Rattle.steps.specs.Steps.{running, Ready};
 ghost use Rattle.plan.specs.Outcome.{ran, RunGives};
-ghost use Rattle.plan.specs.Steps.{running, Ready, RunDone};
+ghost use Rattle.plan.specs.Done.{RunDone};
 use crate::outcome::End;
 use crate::outcome::RunOutcome;
-use crate::steps::holds;
-use crate::steps::take;
+use evaluating::holds;
+use steps::take;
 use task::Head;
 use task::clear::clear_bytes;
 

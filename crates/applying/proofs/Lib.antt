@@ -1,0 +1,4 @@
+pub mod Handing
+pub mod Marking
+pub mod Passes
+pub mod Applying

@@ -1,0 +1,73 @@
+// The operator of a step: it is looked up, tested and carried out.
+ghost use Prim.Native.Nat.{_*_, _≤_};
+ghost use mathlib.Core.Path.{_≡_};
+ghost use lib.ListN.{length, getD};
+ghost use Rattle.task.specs.Bounded.{upto};
+ghost use Rattle.task.specs.Check.{unless};
+ghost use Rattle.task.specs.Rules.{no-operator};
+ghost use Rattle.task.specs.Table.{operator-at};
+ghost use Rattle.steps.specs.Steps.{running, Ready, Takes};
+use crate::Taken;
+use task::Head;
+
+// The formula that operator `number` asks for, row 0 if it is not there. Constant time.
+fn precondition_of(count: u16, operators: &[u16], number: u16) -> usize
+    requires { ⌜ 3 * count ≤ length (now operators) ⌝ }
+    ensures { λ r. ⌜ r ≡ getD (upto count (operator-at (now (operators .entry)))) number no-operator .precondition ⌝ }
+{
+    if count <= number {
+        return 0;
+    }
+    operators[3 * (number as usize)] as usize
+}
+
+// What stops a step: 17 comes before 18. Constant time.
+fn stop_of(there: bool, applicable: bool) -> u16
+    ensures { λ r. ⌜ r ≡ unless there 17 (unless applicable 18 0) ⌝ }
+{
+    if !there {
+        return 17;
+    }
+    if !applicable {
+        return 18;
+    }
+    0
+}
+
+// Operator `number` is carried out if it is there and applicable. Linear in the formulas and the effects: each formula is evaluated
+// once, and those behind the precondition only if nothing stops the step.
+pub fn take(
+    head: Head,
+    formulas: &[u16],
+    effects: &[u16],
+    operators: &[u16],
+    state: &mut [u8],
+    number: u16,
+    scratch: &mut [u8],
+) -> Taken
+    requires { ⌜ Ready head (now formulas) (now effects) (now operators) (now state) (now scratch) ⌝ }
+    ensures { λ r. ⌜ Takes (running head (now (formulas .entry)) (now (effects .entry)) (now (operators .entry))) (now (state .entry)) number r (now (state .exit)) ⌝ }
+{
+    let count = head.formulas as usize;
+    let precondition = precondition_of(head.operators, operators, number);
+    let applicable = evaluating::holds(formulas, precondition, state, scratch);
+    let stop = stop_of(number < head.operators, applicable);
+    if stop != 0 {
+        return Taken { stop, charge: 0 };
+    }
+    let row = 3 * (number as usize);
+    let effect = operators[row + 1] as usize;
+    applying::carry_out(
+        formulas,
+        precondition + 1,
+        count,
+        effects,
+        effect,
+        state,
+        scratch,
+    );
+    Taken {
+        stop: 0,
+        charge: operators[row + 2] as u64,
+    }
+}
