@@ -1,11 +1,10 @@
-// Stepping and running plans.
+// Running plans. The single step is the stepper's, and is passed on.
 mod outcome;
 mod refusals;
 mod runs;
-mod single;
 
 pub use outcome::End;
 pub use outcome::RunOutcome;
-pub use outcome::StepOutcome;
 pub use runs::run;
-pub use single::step;
+pub use stepper::StepOutcome;
+pub use stepper::step;

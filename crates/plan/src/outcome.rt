@@ -1,12 +1,4 @@
-// What a step and a run answer.
-
-// A single step. Done: refusal 0, 1 step, its charge, and whether the goal holds after it. Refused: the number, and nothing else.
-pub struct StepOutcome {
-    pub refusal: u16,
-    pub steps: u32,
-    pub cost: u64,
-    pub goal: bool,
-}
+// What a run answers.
 
 // How a run came to its end.
 pub enum End {

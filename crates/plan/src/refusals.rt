@@ -1,58 +1,11 @@
-// What refuses a step or a run before an operator is looked at.
+// What refuses a run before an operator is looked at.
 ghost use mathlib.Core.Path.{_≡_};
-ghost use lib.ListN.{length, getD};
-ghost use lib.Dec.{leb};
-ghost use Rattle.task.specs.Bounded.{every};
 ghost use Rattle.task.specs.Table.{lent};
-ghost use Rattle.plan.specs.Outcome.{early-refusal, run-refusal};
+ghost use Rattle.plan.specs.Outcome.{run-refusal};
+use stepper::refused_early;
 use task::Head;
 
-// Whether every byte is 0 or 1. Linear.
-fn bits(state: &[u8]) -> bool
-    ensures { λ r. ⌜ r ≡ every (length (now (state .entry))) (λ v. leb (getD (now (state .entry)) v 0) 1) ⌝ }
-{
-    let mut v = 0;
-    while v < state.len() {
-        if 1 < state[v] {
-            return false;
-        }
-        v += 1;
-    }
-    true
-}
-
-// 0, or the first in order: the tables' own number, 16, 14. Linear in the tables and the state.
-pub fn refused_early(
-    head: Head,
-    initial: &[u8],
-    twins: &[u16],
-    formulas: &[u16],
-    effects: &[u16],
-    operators: &[u16],
-    state: &[u8],
-    scratch: &[u8],
-) -> u16
-    ensures { λ r. ⌜ r ≡ early-refusal (lent head (now (initial .entry)) (now (twins .entry)) (now (formulas .entry)) (now (effects .entry)) (now (operators .entry))) (now (state .entry)) (now (scratch .entry)) ⌝ }
-{
-    let number = task::check::check(head, initial, twins, formulas, effects, operators);
-    if number != 0 {
-        return number;
-    }
-    let variables = head.variables as usize;
-    if state.len() != variables {
-        return 16;
-    }
-    if !bits(state) {
-        return 16;
-    }
-    let rows = head.formulas as usize + head.effects as usize;
-    if scratch.len() < rows {
-        return 14;
-    }
-    0
-}
-
-// 0, or the first in order: the same, then 19.
+// 0, or the first in order: what refuses a step, then 19.
 pub fn refused_run(
     head: Head,
     initial: &[u8],

@@ -2,7 +2,7 @@
 use Prim.Native.Nat.{ℕ}
 use mathlib.Core.Path.{_≡_, ap, _∙_}
 use mathlib.Core.List.{List, [], _∷_}
-use Rattle.plan.specs.declared.outcome.StepOutcome.{StepOutcome}
+use Rattle.stepper.specs.declared.StepOutcome.{StepOutcome}
 use Rattle.plan.specs.declared.outcome.RunOutcome.{RunOutcome}
 use Rattle.plan.specs.Outcome.{Stepped, Ran, StepGives, RunGives}
 use Rattle.test_calls.specs.Buffers.{told, flag}

@@ -4,7 +4,7 @@ use mathlib.Core.Path.{_≡_}
 use mathlib.Core.Bool.{Bool}
 use mathlib.Core.List.{List, [], _∷_}
 use Rattle.plan.specs.Outcome.{Stepped, Ran}
-use Rattle.plan.specs.declared.outcome.StepOutcome.{StepOutcome}
+use Rattle.stepper.specs.declared.StepOutcome.{StepOutcome}
 use Rattle.plan.specs.declared.outcome.RunOutcome.{RunOutcome}
 use Rattle.plan.specs.declared.outcome.End.{End}
 use Rattle.plan.specs.declared.outcome.End.the-variants.{Ended, Stopped, Refused}

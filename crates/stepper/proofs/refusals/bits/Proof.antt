@@ -1,6 +1,6 @@
 -- `bits` tests every byte: the invariant is that those before passed. Assumes nothing.
-use Rattle.plan.proofs.refusals.bits.Statement.{statement}
-use Rattle.plan.proofs.refusals.bits.Tie as tie
+use Rattle.stepper.proofs.refusals.bits.Statement.{statement}
+use Rattle.stepper.proofs.refusals.bits.Tie as tie
 use Prim.Native.Nat.{ℕ, _≤_, _-_}
 use mathlib.Core.Path.{_≡_, sym}
 use mathlib.Core.Bool.{true}

@@ -1,10 +1,10 @@
 -- `step` gives what `stepped` gives, each way out by a law of Calls. Assumes nothing.
 use borrow.Author.Needs.{needs}
-use Rattle.plan.proofs.single.step.Statement.{statement}
-use Rattle.plan.proofs.single.step.Tie as tie
+use Rattle.stepper.proofs.single.step.Statement.{statement}
+use Rattle.stepper.proofs.single.step.Tie as tie
 use mathlib.Core.Path.{sym, _∙_}
-use Rattle.plan.proofs.Refusing.{ready}
-use Rattle.plan.proofs.Calls.{step-refuses, step-gives}
+use Rattle.stepper.proofs.Refusing.{ready}
+use Rattle.stepper.proofs.Calls.{step-refuses, step-gives}
 
 refused-early-requires : tie.Need-refused-early-requires
 refused-early-requires c κs = search needs

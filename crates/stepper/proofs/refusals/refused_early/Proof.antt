@@ -1,9 +1,9 @@
 -- `refused_early` gives the first number in order, each way out by a law of Refusing. Assumes nothing.
 use borrow.Author.Needs.{needs}
-use Rattle.plan.proofs.refusals.refused_early.Statement.{statement}
-use Rattle.plan.proofs.refusals.refused_early.Tie as tie
+use Rattle.stepper.proofs.refusals.refused_early.Statement.{statement}
+use Rattle.stepper.proofs.refusals.refused_early.Tie as tie
 use borrow.Author.Tests.{not-true, not-false}
-use Rattle.plan.proofs.Refusing.{refused-tables, refused-length, refused-bits, refused-room, not-refused}
+use Rattle.stepper.proofs.Refusing.{refused-tables, refused-length, refused-bits, refused-room, not-refused}
 
 check-requires : tie.Need-check-requires
 check-requires c κs = search needs

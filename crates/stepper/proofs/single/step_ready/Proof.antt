@@ -1,11 +1,11 @@
 -- `step_ready` tells the plain run of one number, from the laws of Calls. Assumes nothing.
 use borrow.Author.Needs.{needs}
-use Rattle.plan.proofs.single.step_ready.Statement.{statement}
-use Rattle.plan.proofs.single.step_ready.Tie as tie
+use Rattle.stepper.proofs.single.step_ready.Statement.{statement}
+use Rattle.stepper.proofs.single.step_ready.Tie as tie
 use mathlib.Core.Path.{_∙_}
 use Rattle.steps.proofs.Taking.{valuable, goal-told, ready-again}
 use Rattle.steps.proofs.Going.{taken-ready}
-use Rattle.plan.proofs.Calls.{step-stopped, step-finished}
+use Rattle.stepper.proofs.Calls.{step-stopped, step-finished}
 
 take-requires : tie.Need-take-requires
 take-requires c κs = search needs
