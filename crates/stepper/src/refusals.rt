@@ -1,25 +1,10 @@
 // What refuses a step before its operator is looked at.
 ghost use mathlib.Core.Path.{_≡_};
-ghost use lib.ListN.{length, getD};
-ghost use lib.Dec.{leb};
-ghost use Rattle.task.specs.Bounded.{every};
 ghost use Rattle.task.specs.Table.{lent};
 ghost use Rattle.stepper.specs.Stepped.{early-refusal};
 use task::Head;
-
-// Whether every byte is 0 or 1. Linear.
-fn bits(state: &[u8]) -> bool
-    ensures { λ r. ⌜ r ≡ every (length (now (state .entry))) (λ v. leb (getD (now (state .entry)) v 0) 1) ⌝ }
-{
-    let mut v = 0;
-    while v < state.len() {
-        if 1 < state[v] {
-            return false;
-        }
-        v += 1;
-    }
-    true
-}
+use task::check::bits;
+use task::check::check;
 
 // 0, or the first in order: the tables' own number, 16, 14. Linear in the tables and the state.
 pub fn refused_early(
@@ -34,7 +19,7 @@ pub fn refused_early(
 ) -> u16
     ensures { λ r. ⌜ r ≡ early-refusal (lent head (now (initial .entry)) (now (twins .entry)) (now (formulas .entry)) (now (effects .entry)) (now (operators .entry))) (now (state .entry)) (now (scratch .entry)) ⌝ }
 {
-    let number = task::check::check(head, initial, twins, formulas, effects, operators);
+    let number = check(head, initial, twins, formulas, effects, operators);
     if number != 0 {
         return number;
     }

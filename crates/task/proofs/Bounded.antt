@@ -1,6 +1,6 @@
 -- Laws of `every` and `upto`: what a loop over the numbers below a bound needs. Assumes nothing.
 use Prim.Native.Nat.{ℕ, zero, suc, _+_, _-_, _<_, _≤_}
-use native.Mathlib.Nat.{not-suc-le-zero, lt-irrefl}
+use native.Mathlib.Nat.{not-suc-le-zero, lt-irrefl, sub-zero}
 use native.Mathlib.Numerals.{add-one}
 use native.Mathlib.Omega.{arith}
 use mathlib.Core.Path.{_≡_, refl, sym, ap, _∙_}
@@ -8,8 +8,8 @@ use mathlib.Core.Bool.{Bool, true, false, _&&_, and-false, false≢true}
 use mathlib.Core.List.{List, [], _∷_, _++_}
 use mathlib.Core.Logic.{⊎-elim}
 use native.Mathlib.Decide.{decLt}
-use lib.ListN.{length, getD, length-append, List·getD-append}
-use lib.Seq.{getD-at}
+use lib.ListN.{length, getD, take, length-append, List·getD-append}
+use lib.Seq.{getD-at, getD-take, length-take-le}
 use Rattle.task.specs.Bounded.{every, upto}
 
 -- the two halves of a conjunction
@@ -66,6 +66,15 @@ pub every-same : (n : ℕ) (f g : ℕ → Bool) → ((j : ℕ) → j < n → f j
 unfolding every
 every-same zero f g h = refl
 every-same (suc n) f g h = rw (every-same n f g (λ j l. h j (omega arith)), h n (omega arith))
+
+-- a test of each number of the part 0 .. n of a list
+pub every-first :
+    (test : ℕ → Bool) (n : ℕ) (l : List ℕ)
+    → n ≤ length l
+    → every (length (take (n - 0) l)) (λ v. test (getD (take (n - 0) l) v 0)) ≡ every n (λ v. test (getD l v 0))
+every-first test n l h =
+    rw (sub-zero n, length-take-le n l h)
+    (every-same n (λ (v : ℕ). test (getD (take n l) v 0)) (λ (v : ℕ). test (getD l v 0)) (λ j b. ap test (getD-take n l j 0 b)))
 
 -- how a loop leaves: at a number that fails, or at the bound
 pub every-stops : (n : ℕ) (test : ℕ → Bool) (k : ℕ) → k < n → test k ≡ false → false ≡ every n test

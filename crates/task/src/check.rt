@@ -10,19 +10,26 @@ ghost use Rattle.task.specs.Tables.{words-kept, row-kept};
 use crate::Head;
 use crate::Table;
 
-// Whether the first `count` bytes are 0 or 1. Linear.
-fn bits_kept(initial: &[u8], count: usize) -> bool
-    requires { ⌜ count ≤ length (now initial) ⌝ }
-    ensures { λ r. ⌜ r ≡ every count (λ v. leb (getD (now (initial .entry)) v 0) 1) ⌝ }
+// Whether every byte is 0 or 1. Linear.
+pub fn bits(bytes: &[u8]) -> bool
+    ensures { λ r. ⌜ r ≡ every (length (now (bytes .entry))) (λ v. leb (getD (now (bytes .entry)) v 0) 1) ⌝ }
 {
     let mut v = 0;
-    while v < count {
-        if 1 < initial[v] {
+    while v < bytes.len() {
+        if 1 < bytes[v] {
             return false;
         }
         v += 1;
     }
     true
+}
+
+// Whether the first `count` bytes are 0 or 1. Linear.
+fn bits_kept(initial: &[u8], count: usize) -> bool
+    requires { ⌜ count ≤ length (now initial) ⌝ }
+    ensures { λ r. ⌜ r ≡ every count (λ v. leb (getD (now (initial .entry)) v 0) 1) ⌝ }
+{
+    bits(&initial[0..count])
 }
 
 // Whether each twin row names a variable below `bound` that no row before it names. Linear: a byte for each variable tells whether a

@@ -1,52 +1,26 @@
-use Prim.Native.Nat.{_≤_, _-_}
-use native.Mathlib.Omega.{arith}
-use mathlib.Core.Path.{_≡_}
-use mathlib.Core.Bool.{true}
-use lib.ListN.{getD}
+-- `bits_kept` tests the bytes in front. Assumes nothing.
+use borrow.Author.Needs.{needs}
+use Prim.Native.Nat.{ℕ}
+use mathlib.Core.Path.{_∙_}
 use lib.Dec.{leb}
-use borrow.Author.Tests.{le-leb, lt-leb}
-use Rattle.task.specs.Bounded.{every}
-use Rattle.task.proofs.Bounded.{every-none, every-more, every-stops, every-ends}
+use Rattle.task.proofs.Bounded.{every-first}
 use Rattle.task.proofs.check.bits_kept.Statement.{statement}
 use Rattle.task.proofs.check.bits_kept.Tie as tie
 
-abbrev Inv-loop : tie.InvT-loop
-Inv-loop initial count v₀ v = (v ≤ count) × (every v (λ k. leb (getD initial k 0) 1) ≡ true)
+sub-bits : tie.Need-sub-bits
+sub-bits c = search needs
 
-abbrev μ-loop : tie.MeasureT-loop
-μ-loop initial count v₀ v = count - v
+part-bits-start : tie.Need-part-bits-start
+part-bits-start c = search needs
 
-loop-holds : tie.Need-loop-holds Inv-loop μ-loop
-loop-holds c = (omega arith, every-none _)
+part-bits-end : tie.Need-part-bits-end
+part-bits-end c = search needs
 
-shared-slice-read-if1 : tie.Need-shared-slice-read-if1 Inv-loop μ-loop
-shared-slice-read-if1 c = omega arith
+bits-requires : tie.Need-bits-requires
+bits-requires c κs = search needs
 
-returns : tie.Need-returns Inv-loop μ-loop
-returns c = every-stops _ _ _ (c .before .before .loop-test .taken) (lt-leb _ _ (c .if1 .taken))
-
-add-v : tie.Need-add-v Inv-loop μ-loop
-add-v c = omega arith
-
-loop-less : tie.Need-loop-less Inv-loop μ-loop
-loop-less c = omega arith
-
-loop-again : tie.Need-loop-again Inv-loop μ-loop
-loop-again c = (omega arith, every-more _ _ (c .before .before .before .loop .inv .1) (le-leb _ _ (c .if1 .left)))
-
-returns-2 : tie.Need-returns-2 Inv-loop μ-loop
-returns-2 c = every-ends _ _ _ (c .before .loop .inv .0) (c .loop-test .left) (c .before .loop .inv .1)
+returns : tie.Need-returns
+returns c = (c .bits .ensures) ∙ every-first (λ (b : ℕ). leb b 1) (c .before .before .before .args .count) (c .before .before .before .args .initial .now) (c .before .before .before .pre)
 
 pub bits-kept-spec : {M : Type 1} → statement M
-bits-kept-spec =
-    tie.close
-    (tie.spec
-    Inv-loop
-    μ-loop
-    loop-holds
-    shared-slice-read-if1
-    returns
-    add-v
-    loop-less
-    loop-again
-    returns-2)
+bits-kept-spec = tie.close (tie.spec sub-bits part-bits-start part-bits-end bits-requires returns)
