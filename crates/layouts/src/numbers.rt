@@ -1,25 +1,10 @@
 // The state and the sequence that come in for a run.
+use task::check::bits;
 ghost use mathlib.Core.Path.{_≡_};
 ghost use Prim.Native.Nat.{_/_, _≤_};
-ghost use lib.ListN.{length, getD, take};
-ghost use lib.Dec.{leb};
-ghost use Rattle.task.specs.Bounded.{every};
+ghost use lib.ListN.{length, take};
 ghost use Rattle.layouts.specs.Layout.{numbers-of};
 ghost use Rattle.layouts.specs.Giving.{numbered};
-
-// Whether every byte is 0 or 1. Linear.
-fn bits(state: &[u8]) -> bool
-    ensures { λ r. ⌜ r ≡ every (length (now (state .entry))) (λ v. leb (getD (now (state .entry)) v 0) 1) ⌝ }
-{
-    let mut v = 0;
-    while v < state.len() {
-        if 1 < state[v] {
-            return false;
-        }
-        v += 1;
-    }
-    true
-}
 
 // 0, or the first in order: 16, 19, 20. Linear in the state.
 pub fn refused_run(variables: usize, state: &[u8], sequence: &[u8], room: usize) -> u32
