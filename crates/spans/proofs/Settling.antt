@@ -12,7 +12,7 @@ use Rattle.formula_builder.specs.declared.Words.{Words}
 use Rattle.formula_builder.specs.declared.Frame.{Frame}
 use Rattle.formula_builder.specs.Held.{row-of}
 use Rattle.conditions.specs.Conditions.{column, Columns, outside, Spans}
-use Rattle.spans.specs.Columns.{Elsewhere, Meets, HandsOn, FindsRoots, FindsColumns, Settles, Settled, SpacesOut, FoundColumns}
+use Rattle.spans.specs.Columns.{Elsewhere, Meets, HandsOn, FindsRoots, FindsColumns, Settles, Settled, Thins, FoundColumns}
 use Rattle.spans.proofs.Finds.{both-lower, under-lower}
 
 -- Nothing is written, a word is written, one pass after another.
@@ -72,16 +72,39 @@ meets-root frame operators first notes count k r f long h q =
     }
 
 pub hands-on :
-    (frame : Frame) (effects notes : List ℕ) (i last : ℕ) (r : Words)
-    → Settles frame effects notes i last
+    (frame : Frame) (effects notes : List ℕ) (i : ℕ) (r : Words)
+    → Settles frame effects notes i
     → row-of r ≡ row-at effects i
     → HandsOn frame notes i r
-hands-on frame effects notes i last r s q =
+hands-on frame effects notes i r s q =
     record {
-      meets = record { limit = s .finds .limit; room = s .room; effect = s .effect };
-      both = both-lower frame effects notes (s .finds) i (s .effect) r q;
-      under = under-lower frame effects notes (s .finds) i (s .effect) r q;
+      meets = record { limit = s .thins .finds .limit; room = s .thins .room; effect = s .effect };
+      both = both-lower frame effects notes (s .thins .finds) i (s .effect) r q;
+      under = under-lower frame effects notes (s .thins .finds) i (s .effect) r q;
     }
+
+-- The rows keep the rules in each pass.
+pub thins-then :
+    {frame : Frame} {effects first notes : List ℕ}
+    → length notes ≡ length first
+    → Thins frame effects first
+    → Thins frame effects notes
+thins-then long t =
+    record {
+      finds = record {
+        words = t .finds .words;
+        limit = t .finds .limit;
+        down = t .finds .down;
+        room = omega (arith, t .finds .room);
+      };
+      room = omega (arith, t .room);
+    }
+
+pub columns-thin :
+    {frame : Frame} {effects operators notes : List ℕ} {count : ℕ}
+    → FindsColumns frame effects operators count notes
+    → Thins frame effects notes
+columns-thin a = record { finds = a .finds; room = a .roots .room }
 
 -- Row i gets the word x, and r is the last column.
 pub settled-by :
@@ -152,19 +175,11 @@ pub settling-asks :
     → FindsColumns frame effects operators count entry
     → length first ≡ length entry
     → Settling frame first i last notes
-    → Settles frame effects notes k last
-settling-asks {frame} {effects} {operators} {entry} {first} {notes} {count} {i} {k} {last} n a long x =
-    record {
-      finds = record {
-        words = a .finds .words;
-        limit = a .finds .limit;
-        down = a .finds .down;
-        room = omega (arith, a .finds .room, x .long);
-      };
-      room = omega (arith, a .roots .room, x .long);
-      effect = omega (arith, x .few);
-      given = omega (arith, x .few, a .finds .limit);
-    }
+    → Settles frame effects notes k × (last ≤ 4096)
+settling-asks {frame} {effects} {operators} {entry} {first} {notes} {count} {i} {k} {last} n a long x = (
+  record { thins = thins-then (x .long ∙ long) (columns-thin a); effect = omega (arith, x .few) },
+  omega (arith, x .few, a .finds .limit),
+)
 
 kept-column :
     (frame : Frame) (k e : ℕ) (notes notes' : List ℕ)
@@ -225,47 +240,30 @@ settling-more {frame} {first} {notes} {notes'} {i} {k} {last} {r} n long x s =
         absurd (omega (arith, old e m c, s .fresh (omega (arith, w, p)), w))
     same d e h g b c p q (no l) (no m) = omega arith
 
--- all rows have theirs, behind the pass over the operators
+-- all rows have theirs
 pub settling-all :
-    {frame : Frame} {effects operators entry first notes : List ℕ} {count i last : ℕ}
-    → i ≤ 0
-    → FindsColumns frame effects operators count entry
-    → length first ≡ length entry
-    → Elsewhere frame (frame .effects) entry first
-    → Settling frame first i last notes
-    → FoundColumns frame entry notes
-settling-all n a long w x =
-    record {
-      columns = record {
-        words = omega (arith, a .roots .room, x .long);
-        apart = λ d e b c p q. x .apart d e (omega arith) (omega arith) b c p q;
-      };
-      elsewhere = elsewhere-then (omega arith) (omega arith) w (x .elsewhere);
-    }
-
--- and the same behind a second pass
-pub spaced-all :
     {frame : Frame} {first notes : List ℕ} {i last : ℕ}
     → i ≤ 0
-    → SpacesOut frame first
+    → 3 * frame .effects ≤ length first
     → Settling frame first i last notes
     → FoundColumns frame first notes
-spaced-all n a x =
+settling-all n room x =
     record {
       columns = record {
-        words = omega (arith, a .room, x .long);
+        words = omega (arith, x .long);
         apart = λ d e b c p q. x .apart d e (omega arith) (omega arith) b c p q;
       };
       elsewhere = x .elsewhere;
     }
 
-pub found-then :
-    {frame : Frame} {a b c : List ℕ} → FoundColumns frame a b → FoundColumns frame b c → FoundColumns frame a c
-found-then x y =
-    record {
-      columns = y .columns;
-      elsewhere = elsewhere-then (omega arith) (omega arith) (x .elsewhere) (y .elsewhere);
-    }
+-- behind another pass
+pub found-after :
+    {frame : Frame} {a b c : List ℕ}
+    → Elsewhere frame (frame .effects) a b
+    → FoundColumns frame b c
+    → FoundColumns frame a c
+found-after x y =
+    record { columns = y .columns; elsewhere = elsewhere-then (omega arith) (omega arith) x (y .elsewhere) }
 
 -- and the spans stay
 pub spans-stay :

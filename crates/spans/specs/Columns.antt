@@ -40,16 +40,19 @@ pub record FindsColumns (frame : Frame) (effects operators : List ℕ) (count : 
   pub roots : FindsRoots frame operators count notes
 
 -- Each row has a word for its column.
-pub record SpacesOut (frame : Frame) (notes : List ℕ) : Type 0 where
+pub record Renumbers (frame : Frame) (notes : List ℕ) : Type 0 where
   pub limit : frame .effects ≤ 4096
   pub room : 3 * frame .effects ≤ length notes
 
--- Row i is the next one, and so many columns are given.
-pub record Settles (frame : Frame) (effects notes : List ℕ) (i last : ℕ) : Type 0 where
+-- The rows keep the rules, too.
+pub record Thins (frame : Frame) (effects notes : List ℕ) : Type 0 where
   pub finds : FindsSpans frame effects notes
   pub room : 3 * frame .effects ≤ length notes
+
+-- Row i is the next one.
+pub record Settles (frame : Frame) (effects notes : List ℕ) (i : ℕ) : Type 0 where
+  pub thins : Thins frame effects notes
   pub effect : i < frame .effects
-  pub given : last ≤ 4096
 
 -- It has no column, or the next one; the rows behind it keep theirs.
 pub record Settled (frame : Frame) (i last : ℕ) (notes notes' : List ℕ) (r : ℕ) : Type 0 where

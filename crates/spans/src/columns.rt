@@ -1,11 +1,14 @@
 // The columns of effect rows. A row that more than one operator comes to from outside gets a number of its own, so that what is built of
 // it can be kept for all operators. While row e has no number yet, word 2E + e of the notes is 0 if no operator comes to it; else o + 1
-// for the first operator o that does, and 1024 more if referrers of different operators name it.
+// for the first operator o that does, and 1024 more if referrers of different operators name it. Where there is no room for all columns,
+// the passes of thin.rt choose, and the rows that are left are numbered anew.
+use crate::thin::is_column;
+use crate::thin::thin_to;
 use formula_builder::Frame;
 use formula_builder::Words;
 use formula_builder::read_row;
-ghost use Prim.Native.Nat.{_+_, _≤_, _<_};
-ghost use Rattle.spans.specs.Columns.{Elsewhere, Meets, HandsOn, Settles, Settled, SpacesOut, FindsRoots, FindsColumns, FoundColumns};
+ghost use Prim.Native.Nat.{_+_, _≤_};
+ghost use Rattle.spans.specs.Columns.{Elsewhere, Meets, HandsOn, Settles, Settled, Renumbers, FindsRoots, FindsColumns, FoundColumns};
 
 // The word of a row, which was old, once a referrer with the word w names it. That word carries no promise: it only tells which rows are
 // worth a column.
@@ -89,7 +92,7 @@ fn give(i: usize, worth: bool, last: u16, frame: Frame, notes: &mut [u16]) -> u1
 
 // Row i, whose referrers have all named it, names its rows and gets its column, if it is worth one. Answers the last column given.
 fn settle(effects: &[u16], i: usize, last: u16, frame: Frame, notes: &mut [u16]) -> u16
-    requires { ⌜ Settles frame (now effects) (now notes) i last ⌝ }
+    requires { ⌜ Settles frame (now effects) (now notes) i × (last ≤ 4096) ⌝ }
     ensures { λ r. ⌜ Settled frame i last (now (notes .entry)) (now (notes .exit)) r ⌝ }
 {
     let r = read_row(effects, i);
@@ -120,40 +123,34 @@ fn number_rows(
     last
 }
 
-// Of so many columns, each of two words a variable, every how manieth there is room for. Only that it is not 0 is promised.
-fn spacing(columns: u16, variables: usize, room: usize) -> u16
-    ensures { λ r. ⌜ 0 < r ⌝ }
-{
+// How many columns there is room for, each of two words a variable; no row has column 0, so its place is lost. Nothing is promised of it.
+fn most_columns(variables: usize, room: usize) -> usize {
     if variables == 0 {
-        return 1;
-    }
-    let most = room / 2 / variables;
-    if most == 0 {
-        return 1;
-    }
-    let passed = (columns as usize) / most;
-    if 4096 < passed {
         return 4096;
     }
-    (passed + 1) as u16
+    let places = room / 2 / variables;
+    if places == 0 {
+        return 0;
+    }
+    places - 1
 }
 
-// Every q-th column stays, so that a walk from any row comes soon to one that is kept: all in front, none behind, would leave long walks.
-// As many steps as there are effects.
-fn space_out(q: u16, frame: Frame, notes: &mut [u16])
-    requires { ⌜ (0 < q) × SpacesOut frame (now notes) ⌝ }
+// The rows that still have a column get new numbers, the others none. As many steps as there are effects.
+fn renumber(frame: Frame, notes: &mut [u16])
+    requires { ⌜ Renumbers frame (now notes) ⌝ }
     ensures { λ _. ⌜ FoundColumns frame (now (notes .entry)) (now (notes .exit)) ⌝ }
 {
     let mut i = frame.effects;
     let mut last = 0;
     while 0 < i {
         i -= 1;
-        let c = notes[2 * frame.effects + i];
-        last = give(i, c != 0 && c % q == 0, last, frame, notes);
+        let w = notes[2 * frame.effects + i];
+        last = give(i, is_column(w), last, frame, notes);
     }
 }
 
-// The columns of the rows, as many as there is room for. As many steps as there are operators, and twice as there are effects.
+// The columns of the rows, as many as there is room for. As many steps as there are operators and effects; where there is no room for all
+// columns, at most thirteen times as there are effects.
 pub fn find_columns(
     effects: &[u16],
     operators: &[u16],
@@ -166,6 +163,10 @@ pub fn find_columns(
 {
     let columns = number_rows(effects, operators, count, frame, notes);
     let room = notes.len() - 3 * frame.effects;
-    let q = spacing(columns, frame.variables, room);
-    space_out(q, frame, notes);
+    let most = most_columns(frame.variables, room);
+    if columns as usize <= most {
+        return;
+    }
+    thin_to(most, effects, frame, notes);
+    renumber(frame, notes);
 }

@@ -3,6 +3,7 @@
 mod columns;
 mod join;
 mod pass;
+mod thin;
 
 pub use columns::find_columns;
 pub use pass::find_spans;

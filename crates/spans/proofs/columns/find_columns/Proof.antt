@@ -3,38 +3,55 @@ use Rattle.spans.proofs.columns.find_columns.Statement.{statement}
 use Rattle.spans.proofs.columns.find_columns.Tie as tie
 use Rattle.spans.proofs.columns.find_columns.Reads as reads
 use Rattle.spans.proofs.columns.find_columns.Lts as lts
+use Rattle.spans.proofs.columns.most_columns.Reads as most-columns-reads
 use Rattle.spans.proofs.columns.number_rows.Reads as number-rows-reads
-use Rattle.spans.proofs.columns.space_out.Reads as space-out-reads
-use Rattle.spans.proofs.columns.spacing.Reads as spacing-reads
-use Rattle.spans.proofs.Settling.{found-then}
+use Rattle.spans.proofs.columns.renumber.Reads as renumber-reads
+use Rattle.spans.proofs.thin.thin_to.Reads as thin-to-reads
+use Rattle.spans.proofs.Settling.{columns-thin, found-after, thins-then}
 
--- src/columns.rt:167:9
+-- src/columns.rt:163:9
 number-rows-requires : tie.Need-number-rows-requires
 number-rows-requires c κs = search needs
 
--- src/columns.rt:168:30
+-- src/columns.rt:164:30
 mul-room : tie.Need-mul-room
 mul-room c = search needs
 
--- src/columns.rt:168:16
+-- src/columns.rt:164:16
 sub-room : tie.Need-sub-room
 sub-room c = search needs
 
--- src/columns.rt:169:9
-spacing-requires : tie.Need-spacing-requires
-spacing-requires c κs = search needs
+-- src/columns.rt:165:9
+most-columns-requires : tie.Need-most-columns-requires
+most-columns-requires c κs = search needs
 
--- src/columns.rt:170:5
-space-out-requires : tie.Need-space-out-requires
-space-out-requires c κs = search needs
+-- src/columns.rt:166:8
+cast-if1 : tie.Need-cast-if1
+cast-if1 c = search needs
 
--- src/columns.rt:157:1
+-- src/columns.rt:167:9
 same-length : tie.Need-same-length
 same-length c = search needs
 
--- src/columns.rt:157:1
+-- src/columns.rt:167:9
 returns : tie.Need-returns
-returns c = found-then (c .before .before .before .before .before .before .before .before .number-rows .ensures) (c .before .before .space-out .ensures)
+returns c = search needs
+
+-- src/columns.rt:169:5
+thin-to-requires : tie.Need-thin-to-requires
+thin-to-requires c κs = thins-then (c .before .before .before .before .before .before .number-rows .kept .1 .1 .1 .1 .0) (columns-thin (c .before .before .before .before .before .before .before .before .before .before .before .pre))
+
+-- src/columns.rt:170:5
+renumber-requires : tie.Need-renumber-requires
+renumber-requires c κs = search needs
+
+-- src/columns.rt:153:1
+same-length-2 : tie.Need-same-length-2
+same-length-2 c = search needs
+
+-- src/columns.rt:153:1
+returns-2 : tie.Need-returns-2
+returns-2 c = found-after (c .before .before .before .before .before .before .before .before .before .before .before .before .before .number-rows .ensures .elsewhere) (found-after (c .before .before .before .before .before .before .thin-to .ensures) (c .before .before .renumber .ensures))
 
 pub find-columns-spec : {M : Type 1} → statement M
 find-columns-spec =
@@ -43,7 +60,11 @@ find-columns-spec =
     number-rows-requires
     mul-room
     sub-room
-    spacing-requires
-    space-out-requires
+    most-columns-requires
+    cast-if1
     same-length
-    returns)
+    returns
+    thin-to-requires
+    renumber-requires
+    same-length-2
+    returns-2)

@@ -5,7 +5,7 @@ use Rattle.spans.proofs.columns.number_rows.Lts as lts
 use Rattle.spans.proofs.columns.meet_roots.Reads as meet-roots-reads
 use Rattle.spans.proofs.columns.settle.Reads as settle-reads
 use native.Mathlib.Omega.{arith}
-use Rattle.spans.proofs.Settling.{Settling, settling-none, settling-asks, settling-more, settling-all}
+use Rattle.spans.proofs.Settling.{Settling, settling-none, settling-asks, settling-more, settling-all, found-after}
 use mathlib.Core.Path.{_∙_}
 
 abbrev Inv-loop : tie.InvT-loop
@@ -44,7 +44,7 @@ same-length c = c .before .loop .inv .long ∙ c .before .before .before .before
 
 -- src/columns.rt:95:1
 returns : tie.Need-returns Inv-loop μ-loop
-returns c = settling-all (omega arith) (c .before .before .before .before .before .before .before .before .before .pre) (c .before .before .before .before .meet-roots .kept .1 .1 .1 .0) (c .before .before .before .before .meet-roots .ensures) (c .before .loop .inv)
+returns c = found-after (c .before .before .before .before .meet-roots .ensures) (settling-all (omega arith) (omega (arith, c .before .before .before .before .before .before .before .before .before .pre .roots .room, c .before .before .before .before .meet-roots .kept .1 .1 .1 .0)) (c .before .loop .inv))
 
 pub number-rows-spec : {M : Type 1} → statement M
 number-rows-spec =

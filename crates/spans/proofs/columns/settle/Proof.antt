@@ -31,7 +31,7 @@ slice-read-w c = search needs
 
 -- src/columns.rt:97:5
 hand-on-requires : tie.Need-hand-on-requires
-hand-on-requires c κs = hands-on (c .before .before .before .before .before .before .args .frame) (c .before .before .before .before .before .before .args .effects .now) (c .before .before .before .before .before .before .args .notes .now) (c .before .before .before .before .before .before .args .i) (c .before .before .before .before .before .before .args .last) (c .before .before .before .read-row .result) (c .before .before .before .before .before .before .pre) (c .before .before .before .read-row .ensures)
+hand-on-requires c κs = hands-on (c .before .before .before .before .before .before .args .frame) (c .before .before .before .before .before .before .args .effects .now) (c .before .before .before .before .before .before .args .notes .now) (c .before .before .before .before .before .before .args .i) (c .before .before .before .read-row .result) (c .before .before .before .before .before .before .pre .0) (c .before .before .before .read-row .ensures)
 
 -- src/columns.rt:98:13
 is-worth-requires : tie.Need-is-worth-requires
