@@ -18,37 +18,12 @@ use Rattle.normal_form.proofs.Compiled.{by-tables, by-twins, by-scratch, by-roo
 use Rattle.normal_form.proofs.ShapeAssembled.{assemble-effects}
 use Rattle.normal_form.proofs.ShapeFinished.{finished-operators}
 use Rattle.normal_form.proofs.ShapePassed.{finished-variables}
-use Rattle.filling.specs.declared.Passes.{Passes}
-use Rattle.filling.specs.Fills.{Tables, room-of, head-after, Fills}
-use Rattle.filling.proofs.Linked.{source, its-variables}
+use Rattle.lent_tables.specs.declared.Passes.{Passes}
+use Rattle.lent_tables.specs.Fills.{Tables, room-of, head-after, Blanked, Fills}
+use Rattle.lent_tables.proofs.Source.{its-variables}
+use Rattle.sizing.specs.Asks.{Passed}
 use Rattle.compiler.specs.declared.CompileAnswer.the-variants.{Compiled, Refused}
-use Rattle.compiler.specs.Left.{left, Blanked, Passed}
-
--- tables as long are cleared alike
-pub blanked-as : {x y z : Tables} → room-of y ≡ room-of x → Blanked y z → Blanked x z
-blanked-as e b =
-    record {
-      initial = b .initial ∙ ap (λ (r : Room). replicate (r .initial) 0) e;
-      twins = b .twins ∙ ap (λ (r : Room). replicate (r .twins) 0) e;
-      formulas = b .formulas ∙ ap (λ (r : Room). replicate (r .formulas) 0) e;
-      effects = b .effects ∙ ap (λ (r : Room). replicate (r .effects) 0) e;
-      operators = b .operators ∙ ap (λ (r : Room). replicate (r .operators) 0) e;
-      scratch = b .scratch ∙ ap (λ (r : Room). replicate (r .scratch) 0) e;
-    }
-
-pub same-room : {x y : Tables} → Blanked x y → room-of y ≡ room-of x
-same-room {x} {y} b = λ i.
-    record {
-      initial = (ap length (b .initial) ∙ length-replicate {A = ℕ} (length (x .initial)) 0) i;
-      twins = (ap length (b .twins) ∙ length-replicate {A = ℕ} (length (x .twins)) 0) i;
-      formulas = (ap length (b .formulas) ∙ length-replicate {A = ℕ} (length (x .formulas)) 0) i;
-      effects = (ap length (b .effects) ∙ length-replicate {A = ℕ} (length (x .effects)) 0) i;
-      operators = (ap length (b .operators) ∙ length-replicate {A = ℕ} (length (x .operators)) 0) i;
-      scratch = (ap length (b .scratch) ∙ length-replicate {A = ℕ} (length (x .scratch)) 0) i;
-    }
-
-pub blanked-self : {x y : Tables} → Blanked x y → Blanked y y
-blanked-self b = blanked-as (sym (same-room b)) b
+use Rattle.compiler.specs.Left.{left}
 
 module _ (l : Lent) (x : Tables) where
   -- a number, and every table 0
@@ -96,7 +71,7 @@ module _ (l : Lent) (x : Tables) where
 
     pub short-initial : length (x .initial) < l .head .variables → left (Refused 15) x ≡ compiling l (room-of x)
     short-initial h =
-        refuses-room (λ fit. omega (arith, fit .initial, finished-variables t, its-variables l 0 0 (p .passes))) (p .blank)
+        refuses-room (λ fit. omega (arith, fit .initial, finished-variables t, its-variables l (p .passes))) (p .blank)
 
     pub short-operators : length (x .operators) < 3 * l .head .operators → left (Refused 15) x ≡ compiling l (room-of x)
     short-operators h =
@@ -110,9 +85,6 @@ module _ (l : Lent) (x : Tables) where
 
     pub short-effects : length (x .effects) < 3 → left (Refused 15) x ≡ compiling l (room-of x)
     short-effects h = refuses-room (λ fit. omega (arith, fit .effects, one-effect)) (p .blank)
-
-    pub few-variables : l .head .variables ≤ 512
-    few-variables = omega (arith, source l 0 0 (p .passes) .limits .variables, its-variables l 0 0 (p .passes))
 
     module _ {y : Tables} {r : Passes} (f : Fills l x y r) where
       pub filled-over : {z : Tables} → r .full ≡ true → Blanked x z → left (Refused 15) z ≡ compiling l (room-of x)

@@ -4,7 +4,7 @@ use Rattle.filling.proofs.whole.fill_built.Reads as reads
 use Rattle.filling.proofs.whole.fill_built.Lts as lts
 use Rattle.building.proofs.begin.Reads as begin-reads
 use Rattle.building.proofs.take_operator.Reads as take-operator-reads
-use Rattle.filling.proofs.last.finish.Reads as finish-reads
+use Rattle.finishing.proofs.finish.Reads as finish-reads
 use borrow.Author.Needs.{needs}
 use Prim.Native.Nat.{_-_, _≤_}
 use mathlib.Core.Path.{_≡_, refl, _∙_}
@@ -13,8 +13,8 @@ use lib.ListN.{length}
 use Rattle.task.specs.Table.{lent}
 use Rattle.formula_builder.specs.Held.{store}
 use Rattle.building.specs.Taken.{size-at, Taken}
-use Rattle.filling.specs.Fills.{tables}
-use Rattle.filling.proofs.Linked.{first-taken, next-asks, last-asks, fills-as}
+use Rattle.lent_tables.specs.Fills.{tables}
+use Rattle.filling.proofs.Asked.{first-taken, next-asks, last-asks, fills-as}
 use Rattle.changes.specs.Stands.{Leaves}
 use Rattle.changes.proofs.Standing.{leaves-same}
 
