@@ -28,95 +28,48 @@ use Rattle.finishing.proofs.Blank.{zeros}
 use Rattle.finishing.proofs.Linked.{its-formulas, its-effects, precondition-below, effect-below}
 use Rattle.filling.specs.Begins.{Begins, Owns, Starts}
 
-module _ (l : Lent) (rows twins : ℕ) (passes : refusal l ≡ 0) where
+-- With all tables 0.
+module _ {l : Lent} {rows twins effects : ℕ} {x : Tables} (b : Begins l rows twins effects x) where
   abbrev t : Task
   t = task-of l
 
   abbrev frame : Frame
   frame = frame-of (l .head) rows twins
 
+  passes : refusal l ≡ 0
+  passes = b .lends .passes
+
   effects-down : EffectsDown (l .head .variables) (l .head .formulas) (effect-rows (frame-of (l .head) rows twins) (l .effects))
   effects-down = rw (its-effects l rows twins passes) at (rw (length-formulas l) at (rw (its-variables l passes) at (rules-effects t (source l passes))))
 
-  -- What the parts ask.
-  module _ (effects : ℕ) (x : Tables) where
-    module _ {notes built records : List ℕ} (o : Owns l rows twins effects x notes built records) where
-      pub finds : FindsSpans (frame-of (l .head) rows twins) (l .effects) notes
-      finds =
-          record {
-            words = long l passes .effects;
-            limit = few-effects l passes;
-            down = effects-down;
-            room = omega (arith, o .notes-space);
-          }
-
-      module _ {spanned : List ℕ} (s : FoundSpans (frame-of (l .head) rows twins) (l .effects) notes spanned) (same : length spanned ≡ length notes) where
-        pub finds-columns : FindsColumns (frame-of (l .head) rows twins) (l .effects) (l .operators) (l .head .operators) spanned
-        finds-columns =
+  blank-is : Blank (frame-of (l .head) rows twins) (l .formulas) (l .effects) (x .twins) (x .scratch)
+  blank-is =
+      record {
+        source =
             record {
-              finds =
-                  record {
-                    words = long l passes .effects;
-                    limit = few-effects l passes;
-                    down = effects-down;
-                    room = s .spans .words;
-                  };
-              roots =
-                  record {
-                    limit = few-effects l passes;
-                    room = omega (arith, o .notes-space, same);
-                    operators-limit = omega (arith, source l passes .limits .operators, length-operators l);
-                    words = long l passes .operators;
-                    effect = effect-below l rows twins passes;
-                  };
-            }
-
-        -- with the notes of the two passes
-        pub starts :
-            {found : List ℕ}
-            → FoundColumns (frame-of (l .head) rows twins) spanned found
-            → length found ≡ length spanned
-            → Starts l rows twins effects x found built records
-        starts {found} c kept =
+              words = long l passes .formulas;
+              memo = omega (arith, b .lends .memo);
+              limit = omega (arith, source l passes .limits .formulas, length-formulas l);
+              down = rw (its-formulas l rows twins passes) at (rw (its-variables l passes) at (rules-formulas t (source l passes)));
+            };
+        effect-source =
             record {
-              begins = o .begins;
-              noted = λ t.
-                  noted-blank (l .formulas) t (spans-stay frame (l .effects) spanned found kept (c .elsewhere) (s .spans)) (c .columns)
-                  (λ j h.
-                  c .elsewhere .behind j (omega arith) ∙ s .behind j (omega arith) ∙ o .blank-notes j);
-              fresh = o .fresh;
-              space = o .space;
-            }
+              words = long l passes .effects;
+              memo = b .lends .memo;
+              limit = few-effects l passes;
+              down = effects-down;
+            };
+        twins = b .lends .twins-space;
+        variables = b .lends .variables-limit;
+        blank-originals = zeros (x .twins) (b .blank-twins);
+        blank-scratch = zeros (x .scratch) (b .blank-scratch);
+      }
 
-  module _ (effects : ℕ) (x : Tables) (b : Begins l rows twins effects x) where
-    blank-is : Blank (frame-of (l .head) rows twins) (l .formulas) (l .effects) (x .twins) (x .scratch)
-    blank-is =
-        record {
-          source =
-              record {
-                words = long l passes .formulas;
-                memo = omega (arith, b .lends .memo);
-                limit = omega (arith, source l passes .limits .formulas, length-formulas l);
-                down = rw (its-formulas l rows twins passes) at (rw (its-variables l passes) at (rules-formulas t (source l passes)));
-              };
-          effect-source =
-              record {
-                words = long l passes .effects;
-                memo = b .lends .memo;
-                limit = few-effects l passes;
-                down = effects-down;
-              };
-          twins = b .lends .twins-space;
-          variables = b .lends .variables-limit;
-          blank-originals = zeros (x .twins) (b .blank-twins);
-          blank-scratch = zeros (x .scratch) (b .blank-scratch);
-        }
-
-    pub first-taken :
-        {table records : List ℕ} {p : Progress}
-        → Begun (frame-of (l .head) rows twins) table p
-        → Taken (frame-of (l .head) rows twins) (l .formulas) (l .effects) (l .operators) (store table (x .twins)) (x .scratch) records p
-    first-taken g = taken-none frame (l .formulas) (l .effects) (l .operators) blank-is g
+  pub first-taken :
+      {table records : List ℕ} {p : Progress}
+      → Begun (frame-of (l .head) rows twins) table p
+      → Taken (frame-of (l .head) rows twins) (l .formulas) (l .effects) (l .operators) (store table (x .twins)) (x .scratch) records p
+  first-taken g = taken-none frame (l .formulas) (l .effects) (l .operators) blank-is g
 
   pub next-asks :
       {notes table originals scratch records : List ℕ} {p : Progress}
@@ -138,15 +91,14 @@ module _ (l : Lent) (rows twins : ℕ) (passes : refusal l ≡ 0) where
 
   -- what the last part asks, behind so many operators
   pub last-asks :
-      {effects : ℕ} {x : Tables} {built originals scratch records : List ℕ} {p : Progress}
-      → Begins l rows twins effects x
+      {built originals scratch records : List ℕ} {p : Progress}
       → length originals ≡ length (x .twins)
       → length scratch ≡ length (x .scratch)
       → p .operators ≡ l .head .operators
       → 6912 ≤ length records
       → Taken (frame-of (l .head) rows twins) (l .formulas) (l .effects) (l .operators) (store built originals) scratch records p
       → Ends l rows twins effects (record { initial = x .initial; twins = originals; formulas = x .formulas; effects = x .effects; operators = x .operators; scratch = scratch }) built records p
-  last-asks {effects} {x} {built} {originals} {scratch} b w s all space k =
+  last-asks w s all space k =
       record {
         lends =
             record {
@@ -177,6 +129,58 @@ module _ (l : Lent) (rows twins : ℕ) (passes : refusal l ≡ 0) where
         taken = k;
         space = space;
       }
+
+-- With tables of 0 for notes, rows and records.
+module _ {l : Lent} {rows twins effects : ℕ} {x : Tables} {notes built records : List ℕ} (o : Owns l rows twins effects x notes built records) where
+  passed : refusal l ≡ 0
+  passed = o .begins .lends .passes
+
+  pub finds : FindsSpans (frame-of (l .head) rows twins) (l .effects) notes
+  finds =
+      record {
+        words = long l passed .effects;
+        limit = few-effects l passed;
+        down = effects-down (o .begins);
+        room = omega (arith, o .notes-space);
+      }
+
+  module _ {spanned : List ℕ} (s : FoundSpans (frame-of (l .head) rows twins) (l .effects) notes spanned) (same : length spanned ≡ length notes) where
+    pub finds-columns : FindsColumns (frame-of (l .head) rows twins) (l .effects) (l .operators) (l .head .operators) spanned
+    finds-columns =
+        record {
+          finds =
+              record {
+                words = long l passed .effects;
+                limit = few-effects l passed;
+                down = effects-down (o .begins);
+                room = s .spans .words;
+              };
+          roots =
+              record {
+                limit = few-effects l passed;
+                room = omega (arith, o .notes-space, same);
+                operators-limit = omega (arith, source l passed .limits .operators, length-operators l);
+                words = long l passed .operators;
+                effect = effect-below l rows twins passed;
+              };
+        }
+
+    -- with the notes of the two passes
+    pub starts :
+        {found : List ℕ}
+        → FoundColumns (frame-of (l .head) rows twins) spanned found
+        → length found ≡ length spanned
+        → Starts l rows twins effects x found built records
+    starts {found} c kept =
+        record {
+          begins = o .begins;
+          noted = λ t.
+              noted-blank (l .formulas) t (spans-stay (frame-of (l .head) rows twins) (l .effects) spanned found kept (c .elsewhere) (s .spans)) (c .columns)
+              (λ j h.
+              c .elsewhere .behind j (omega arith) ∙ s .behind j (omega arith) ∙ o .blank-notes j);
+          fresh = o .fresh;
+          space = o .space;
+        }
 
 -- tables as long are filled alike
 pub fills-as :

@@ -38,7 +38,7 @@ use Rattle.finishing.proofs.Copied.{copied-rows}
 use Rattle.finishing.proofs.Recalled.{in-order}
 use Rattle.finishing.proofs.Linked.{state-built, goal-built, goal-below, assembled-is, few-changes}
 
-module _ (l : Lent) (rows twins effects : ℕ) (x : Tables) (b : Lends l rows twins effects x) where
+module _ {l : Lent} {rows twins effects : ℕ} {x : Tables} (b : Lends l rows twins effects x) where
   abbrev t : Task
   t = task-of l
 
@@ -267,13 +267,13 @@ module _ (l : Lent) (rows twins effects : ℕ) (x : Tables) (b : Lends l rows tw
                   }
 
 -- Up to the goal.
-module _ (l : Lent) (rows twins effects : ℕ) (x : Tables) (built records : List ℕ) (p : Progress) (e : Ends l rows twins effects x built records p) where
+module _ {l : Lent} {rows twins effects : ℕ} {x : Tables} {built records : List ℕ} {p : Progress} (e : Ends l rows twins effects x built records p) where
   pub taken-full : {y : Tables} {z : Passes} → p .full ≡ true → z .full ≡ true → Fills l x y z
   taken-full q f =
-      fills-over l rows twins effects x (e .lends) f
+      fills-over (e .lends) f
       (λ fit.
       operators-full (frame-of (l .head) rows twins) (l .formulas) (l .effects) (l .operators) (l .head .operators) (l .head .goal) (e .all)
-      (e .taken) q (built-within l rows twins effects x (e .lends) fit)
+      (e .taken) q (built-within (e .lends) fit)
       (few-changes l rows twins (e .lends .passes) (fit .limits .effects)))
 
   pub all-kept : p .full ≡ false → AllKept (frame-of (l .head) rows twins) (l .formulas) (l .effects) (l .operators) records (l .head .operators) (p .records)

@@ -39,22 +39,22 @@ fill-small-requires c κs =
     front-begins (lent (s .args .head) (s .args .initial .now) (s .args .twins .now) (s .args .formulas .now) (s .args .effects .now) (s .args .operators .now)) (tables (s .args .values .now) (s .args .originals .now) (s .args .table .now) (s .args .out .now) (s .args .written .now) (s .args .scratch .now)) (c .before .before .before .before .before .before .before .before .before .least .result) (c .before .before .before .before .before .before .before .before .before .least .ensures .second) (s .pre .0) (c .before .before .before .before .before .before .before .most-twins .result) (c .before .before .before .before .before .before .least2 .result) (c .before .before .before .before .before .before .before .before .before .least .ensures .first) (s .pre .1) (c .before .before .before .before .before .before .before .most-twins .ensures) (c .before .before .before .before .before .before .least2 .ensures)
 
 same-length : tie.Need-same-length
-same-length c = search needs
+same-length c = c .before .before .before .before .before .before .before .before .before .before .before .before .fill-small .kept .1 .1 .1 .1 .1 .1 .1 .1 .1 .0
 
 same-length-2 : tie.Need-same-length-2
-same-length-2 c = search needs
+same-length-2 c = c .before .before .before .before .before .before .before .before .before .before .before .before .fill-small .kept .1 .1 .1 .1 .1 .1 .1 .1 .1 .1 .0
 
 same-length-3 : tie.Need-same-length-3
 same-length-3 c = search needs
 
 same-length-4 : tie.Need-same-length-4
-same-length-4 c = search needs
+same-length-4 c = c .before .before .before .before .before .before .before .before .before .before .before .before .fill-small .kept .1 .1 .1 .1 .1 .1 .1 .1 .1 .1 .1 .1 .0
 
 same-length-5 : tie.Need-same-length-5
-same-length-5 c = search needs
+same-length-5 c = c .before .before .before .before .before .before .before .before .before .before .before .before .fill-small .kept .1 .1 .1 .1 .1 .1 .1 .1 .1 .1 .1 .1 .1 .0
 
 same-length-6 : tie.Need-same-length-6
-same-length-6 c = search needs
+same-length-6 c = c .before .before .before .before .before .before .before .before .before .before .before .before .fill-small .kept .1 .1 .1 .1 .1 .1 .1 .1 .1 .1 .1 .1 .1 .1 .0
 
 returns : tie.Need-returns
 returns c =
