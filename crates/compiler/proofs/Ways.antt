@@ -18,39 +18,15 @@ use Rattle.normal_form.proofs.Compiled.{by-tables, by-twins, by-scratch, by-roo
 use Rattle.normal_form.proofs.ShapeAssembled.{assemble-effects}
 use Rattle.normal_form.proofs.ShapeFinished.{finished-operators}
 use Rattle.normal_form.proofs.ShapePassed.{finished-variables}
-use Rattle.filling.specs.declared.Passes.{Passes}
-use Rattle.filling.specs.Fills.{Tables, room-of, head-after, Fills}
-use Rattle.filling.proofs.Linked.{source, its-variables}
+use Rattle.lent_tables.specs.declared.Passes.{Passes}
+use Rattle.lent_tables.specs.Fills.{Tables, room-of, head-after, Blanked, Fills}
+use Rattle.lent_tables.proofs.Source.{its-variables}
+use Rattle.lent_tables.proofs.AsLong.{same-room}
+use Rattle.sizing.specs.Asks.{Passed}
 use Rattle.compiler.specs.declared.CompileAnswer.the-variants.{Compiled, Refused}
-use Rattle.compiler.specs.Left.{left, Blanked, Passed}
+use Rattle.compiler.specs.Left.{left}
 
--- tables as long are cleared alike
-pub blanked-as : {x y z : Tables} → room-of y ≡ room-of x → Blanked y z → Blanked x z
-blanked-as e b =
-    record {
-      initial = b .initial ∙ ap (λ (r : Room). replicate (r .initial) 0) e;
-      twins = b .twins ∙ ap (λ (r : Room). replicate (r .twins) 0) e;
-      formulas = b .formulas ∙ ap (λ (r : Room). replicate (r .formulas) 0) e;
-      effects = b .effects ∙ ap (λ (r : Room). replicate (r .effects) 0) e;
-      operators = b .operators ∙ ap (λ (r : Room). replicate (r .operators) 0) e;
-      scratch = b .scratch ∙ ap (λ (r : Room). replicate (r .scratch) 0) e;
-    }
-
-pub same-room : {x y : Tables} → Blanked x y → room-of y ≡ room-of x
-same-room {x} {y} b = λ i.
-    record {
-      initial = (ap length (b .initial) ∙ length-replicate {A = ℕ} (length (x .initial)) 0) i;
-      twins = (ap length (b .twins) ∙ length-replicate {A = ℕ} (length (x .twins)) 0) i;
-      formulas = (ap length (b .formulas) ∙ length-replicate {A = ℕ} (length (x .formulas)) 0) i;
-      effects = (ap length (b .effects) ∙ length-replicate {A = ℕ} (length (x .effects)) 0) i;
-      operators = (ap length (b .operators) ∙ length-replicate {A = ℕ} (length (x .operators)) 0) i;
-      scratch = (ap length (b .scratch) ∙ length-replicate {A = ℕ} (length (x .scratch)) 0) i;
-    }
-
-pub blanked-self : {x y : Tables} → Blanked x y → Blanked y y
-blanked-self b = blanked-as (sym (same-room b)) b
-
-module _ (l : Lent) (x : Tables) where
+module _ (l : Lent) {x : Tables} where
   -- a number, and every table 0
   pub refuses :
       {y : Tables} (n : ℕ)
@@ -82,66 +58,64 @@ module _ (l : Lent) (x : Tables) where
       {y : Tables}
       → refusal l ≡ 0
       → l .head .twins ≡ 0
-      → length (x .scratch) < 2 * l .head .formulas + 2 * l .head .effects
+      → length (y .scratch) < 2 * l .head .formulas + 2 * l .head .effects
       → Blanked x y
       → left (Refused 14) y ≡ compiling l (room-of x)
-  refuses-scratch e w h b = refuses 14 (by-scratch l (room-of x) e w h) b
+  refuses-scratch e w h b =
+      refuses 14 (by-scratch l (room-of x) e w (omega (arith, h, ap (λ (r : Room). r .scratch) (same-room b)))) b
 
-  module _ (p : Passed l x) where
-    abbrev t : Task
-    t = task-of l
+module _ {l : Lent} {x : Tables} (p : Passed l x) where
+  abbrev t : Task
+  t = task-of l
 
-    pub refuses-room : {y : Tables} → (Fits (finished (task-of l)) (room-of x) → ⊥) → Blanked x y → left (Refused 15) y ≡ compiling l (room-of x)
-    refuses-room n b = refuses 15 (by-room l (room-of x) (p .passes) (p .untwinned) (p .memo) n) b
+  pub refuses-room : {y : Tables} → (Fits (finished (task-of l)) (room-of x) → ⊥) → Blanked x y → left (Refused 15) y ≡ compiling l (room-of x)
+  refuses-room n b = refuses l 15 (by-room l (room-of x) (p .passes) (p .untwinned) (p .memo) n) b
 
-    pub short-initial : length (x .initial) < l .head .variables → left (Refused 15) x ≡ compiling l (room-of x)
-    short-initial h =
-        refuses-room (λ fit. omega (arith, fit .initial, finished-variables t, its-variables l 0 0 (p .passes))) (p .blank)
+  pub short-initial : length (x .initial) < l .head .variables → left (Refused 15) x ≡ compiling l (room-of x)
+  short-initial h =
+      refuses-room (λ fit. omega (arith, fit .initial, finished-variables t, its-variables l (p .passes))) (p .blank)
 
-    pub short-operators : length (x .operators) < 3 * l .head .operators → left (Refused 15) x ≡ compiling l (room-of x)
-    short-operators h =
-        refuses-room (λ fit. omega (arith, fit .operators, finished-operators t, length-operators l)) (p .blank)
+  pub short-operators : length (x .operators) < 3 * l .head .operators → left (Refused 15) x ≡ compiling l (room-of x)
+  short-operators h =
+      refuses-room (λ fit. omega (arith, fit .operators, finished-operators t, length-operators l)) (p .blank)
 
-    one-effect : 1 ≤ length (finished (task-of l) .effects)
-    unfolding finished assembled unassembled
-    one-effect =
-        longer (unassembled .effects) (assembled t .effects)
-        (assemble-effects (length (t .initial)) (built t .st .twins) unassembled (built t .value .operators))
+  one-effect : 1 ≤ length (finished (task-of l) .effects)
+  unfolding finished assembled unassembled
+  one-effect =
+      longer (unassembled .effects) (assembled t .effects)
+      (assemble-effects (length (t .initial)) (built t .st .twins) unassembled (built t .value .operators))
 
-    pub short-effects : length (x .effects) < 3 → left (Refused 15) x ≡ compiling l (room-of x)
-    short-effects h = refuses-room (λ fit. omega (arith, fit .effects, one-effect)) (p .blank)
+  pub short-effects : length (x .effects) < 3 → left (Refused 15) x ≡ compiling l (room-of x)
+  short-effects h = refuses-room (λ fit. omega (arith, fit .effects, one-effect)) (p .blank)
 
-    pub few-variables : l .head .variables ≤ 512
-    few-variables = omega (arith, source l 0 0 (p .passes) .limits .variables, its-variables l 0 0 (p .passes))
+  module _ {y : Tables} {r : Passes} (f : Fills l x y r) where
+    pub filled-over : {z : Tables} → r .full ≡ true → Blanked x z → left (Refused 15) z ≡ compiling l (room-of x)
+    filled-over q b = refuses-room (f .over q) b
 
-    module _ {y : Tables} {r : Passes} (f : Fills l x y r) where
-      pub filled-over : {z : Tables} → r .full ≡ true → Blanked x z → left (Refused 15) z ≡ compiling l (room-of x)
-      filled-over q b = refuses-room (f .over q) b
+    pub filled-done :
+        {s : List ℕ} {k : Head}
+        → r .full ≡ false
+        → k ≡ head-after (l .head) r
+        → s ≡ replicate (length (x .scratch)) 0
+        → left (Compiled k) (record { initial = y .initial; twins = y .twins; formulas = y .formulas; effects = y .effects; operators = y .operators; scratch = s })
+        ≡ compiling l (room-of x)
+    unfolding task-given
+    filled-done q n e =
+        let h = f .done q in
+        (λ i.
+        record {
+          answer = compiled-head ((n ∙ sym (h .head)) i);
+          initial = h .initial i;
+          twins = h .twins i;
+          formulas = h .formulas i;
+          effects = h .effects i;
+          operators = h .operators i;
+          scratch = e i;
+        })
+        ∙ sym (succeeds l (room-of x) (record { passes = p .passes; untwinned = p .untwinned; scratch = p .memo; fits = h .fits }))
 
-      pub filled-done :
-          {s : List ℕ} {k : Head}
-          → r .full ≡ false
-          → k ≡ head-after (l .head) r
-          → s ≡ replicate (length (x .scratch)) 0
-          → left (Compiled k) (record { initial = y .initial; twins = y .twins; formulas = y .formulas; effects = y .effects; operators = y .operators; scratch = s })
-          ≡ compiling l (room-of x)
-      unfolding task-given
-      filled-done q n e =
-          let h = f .done q in
-          (λ i.
-          record {
-            answer = compiled-head ((n ∙ sym (h .head)) i);
-            initial = h .initial i;
-            twins = h .twins i;
-            formulas = h .formulas i;
-            effects = h .effects i;
-            operators = h .operators i;
-            scratch = e i;
-          })
-          ∙ sym (succeeds l (room-of x) (record { passes = p .passes; untwinned = p .untwinned; scratch = p .memo; fits = h .fits }))
-
-      pub variables-fit : r .full ≡ false → l .head .variables + r .twins ≤ 512
-      unfolding head-of
-      variables-fit q =
-          let h = f .done q in
-          omega (arith, h .fits .limits .variables, ap (λ (k : Head). k .variables) (h .head))
+    pub variables-fit : r .full ≡ false → l .head .variables + r .twins ≤ 512
+    unfolding head-of
+    variables-fit q =
+        let h = f .done q in
+        omega (arith, h .fits .limits .variables, ap (λ (k : Head). k .variables) (h .head))

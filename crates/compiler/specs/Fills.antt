@@ -1,2 +1,2 @@
--- What the contracts mention of `filling`, passed on: the six lent tables, their lengths, and what filling them leaves.
-pub use Rattle.filling.specs.Fills.{Tables, tables, room-of, Holds, Fills}
+-- What the contracts mention of `lent_tables`, passed on: the six lent tables and their lengths.
+pub use Rattle.lent_tables.specs.Fills.{Tables, tables, room-of}

@@ -1,7 +1,7 @@
 // The compiling call.
 use crate::CompileAnswer;
 use crate::checked::compile_checked;
-use crate::clear::clear_all;
+use lent_tables::clear_all;
 use task::Head;
 use task::check::check;
 ghost use mathlib.Core.Path.{_≡_};

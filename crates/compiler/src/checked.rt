@@ -1,15 +1,16 @@
 // Compiling a source that passes, into tables that are all 0.
 use crate::CompileAnswer;
-use crate::clear::clear_all;
-use crate::sized::fill_lent;
-use filling::compiled_head;
+use lent_tables::clear_all;
+use lent_tables::compiled_head;
+use sizing::fill_lent;
 use task::Head;
 use task::clear::clear_words;
 ghost use mathlib.Core.Path.{_≡_};
 ghost use Rattle.task.specs.Table.{lent};
 ghost use Rattle.normal_form.specs.Compiled.{compiling};
 ghost use Rattle.compiler.specs.Fills.{tables, room-of};
-ghost use Rattle.compiler.specs.Left.{left, Passed};
+ghost use Rattle.compiler.specs.Left.{left};
+ghost use Rattle.sizing.specs.Asks.{Passed};
 
 // 15, with all 0, if the finished task passes a limit or a lent table. Costs what filling does, and a walk over what is lent.
 pub fn compile_checked(

@@ -1,9 +1,6 @@
 // Compiling a task to positive normal form: the call, refusals and all, over the parts that fill lent tables.
 mod call;
 mod checked;
-mod clear;
-mod least;
-mod sized;
 
 pub use call::compile;
 use task::Head;

@@ -1,4 +1,1 @@
-pub mod Recalled
-pub mod Linked
-pub mod Copied
-pub mod Filled
+pub mod Asked

@@ -1,1 +1,1 @@
-pub mod Fills
+pub mod Begins

@@ -1,12 +1,13 @@
 // All parts, into tables that are all 0.
-use crate::Passes;
-use crate::last::finish;
 use building::begin;
 use building::take_operator;
+use finishing::finish;
 use formula_builder::Frame;
+use lent_tables::Passes;
 use task::Head;
 ghost use Rattle.task.specs.Table.{lent};
-ghost use Rattle.filling.specs.Fills.{tables, Starts, Fills};
+ghost use Rattle.lent_tables.specs.Fills.{tables, Fills};
+ghost use Rattle.filling.specs.Begins.{Starts};
 
 // Begins, takes the operators in order, finishes. The tables have room for so many rows, twins and effect rows; rows are built in a table
 // of their own, which has their index. Costs what its parts do: one walk over every operator.

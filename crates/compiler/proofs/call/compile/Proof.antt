@@ -4,158 +4,121 @@ use Rattle.compiler.proofs.call.compile.Tie as tie
 use Rattle.compiler.proofs.call.compile.Reads as reads
 use Rattle.compiler.proofs.call.compile.Lts as lts
 use Rattle.compiler.proofs.checked.compile_checked.Reads as compile-checked-reads
-use Rattle.compiler.proofs.clear.clear_all.Reads as clear-all-reads
+use Rattle.lent_tables.proofs.clear_all.Reads as clear-all-reads
 use Rattle.task.proofs.check.check.Reads as check-reads
-use mathlib.Core.Path.{_≡_, sym, ap, _∙_}
-use native.Mathlib.Omega.{arith}
+use mathlib.Core.Path.{sym, ap, _∙_}
 use Rattle.task.specs.Table.{lent}
 use Rattle.normal_form.specs.Compiled.{compiling}
-use Rattle.filling.specs.Fills.{tables}
-use Rattle.compiler.proofs.Ways.{blanked-self, same-room, refuses-tables, refuses-twins, refuses-scratch}
+use Rattle.lent_tables.proofs.AsLong.{blanked-self, same-room}
+use Rattle.compiler.proofs.Ways.{refuses-tables, refuses-twins, refuses-scratch}
 
--- src/call.rt:31:5
 clear-all-requires : tie.Need-clear-all-requires
 clear-all-requires c κs = search needs
 
--- src/call.rt:32:9
 check-requires : tie.Need-check-requires
 check-requires c κs = search needs
 
--- src/call.rt:34:9
 same-length : tie.Need-same-length
 same-length c = c .before .before .before .before .before .before .before .before .before .before .before .before .before .before .clear-all .kept .0
 
--- src/call.rt:34:9
 same-length-2 : tie.Need-same-length-2
 same-length-2 c = c .before .before .before .before .before .before .before .before .before .before .before .before .before .before .clear-all .kept .1 .0
 
--- src/call.rt:34:9
 same-length-3 : tie.Need-same-length-3
 same-length-3 c = c .before .before .before .before .before .before .before .before .before .before .before .before .before .before .clear-all .kept .1 .1 .0
 
--- src/call.rt:34:9
 same-length-4 : tie.Need-same-length-4
 same-length-4 c = c .before .before .before .before .before .before .before .before .before .before .before .before .before .before .clear-all .kept .1 .1 .1 .0
 
--- src/call.rt:34:9
 same-length-5 : tie.Need-same-length-5
 same-length-5 c = c .before .before .before .before .before .before .before .before .before .before .before .before .before .before .clear-all .kept .1 .1 .1 .1 .0
 
--- src/call.rt:34:9
 same-length-6 : tie.Need-same-length-6
 same-length-6 c = c .before .before .before .before .before .before .before .before .before .before .before .before .before .before .clear-all .kept .1 .1 .1 .1 .1 .0
 
--- src/call.rt:34:9
 returns : tie.Need-returns
-returns c = refuses-tables (lent (c .before .before .before .before .before .before .before .before .before .before .before .before .before .before .before .before .before .before .before .before .before .before .before .before .before .before .before .before .before .before .before .before .args .head) (c .before .before .before .before .before .before .before .before .before .before .before .before .before .before .before .before .before .before .before .before .before .before .before .before .before .before .before .before .before .before .before .before .args .initial .now) (c .before .before .before .before .before .before .before .before .before .before .before .before .before .before .before .before .before .before .before .before .before .before .before .before .before .before .before .before .before .before .before .before .args .twins .now) (c .before .before .before .before .before .before .before .before .before .before .before .before .before .before .before .before .before .before .before .before .before .before .before .before .before .before .before .before .before .before .before .before .args .formulas .now) (c .before .before .before .before .before .before .before .before .before .before .before .before .before .before .before .before .before .before .before .before .before .before .before .before .before .before .before .before .before .before .before .before .args .effects .now) (c .before .before .before .before .before .before .before .before .before .before .before .before .before .before .before .before .before .before .before .before .before .before .before .before .before .before .before .before .before .before .before .before .args .operators .now)) (tables (c .before .before .before .before .before .before .before .before .before .before .before .before .before .before .before .before .before .before .before .before .before .before .before .before .before .before .before .before .before .before .before .before .args .values .now) (c .before .before .before .before .before .before .before .before .before .before .before .before .before .before .before .before .before .before .before .before .before .before .before .before .before .before .before .before .before .before .before .before .args .originals .now) (c .before .before .before .before .before .before .before .before .before .before .before .before .before .before .before .before .before .before .before .before .before .before .before .before .before .before .before .before .before .before .before .before .args .table .now) (c .before .before .before .before .before .before .before .before .before .before .before .before .before .before .before .before .before .before .before .before .before .before .before .before .before .before .before .before .before .before .before .before .args .out .now) (c .before .before .before .before .before .before .before .before .before .before .before .before .before .before .before .before .before .before .before .before .before .before .before .before .before .before .before .before .before .before .before .before .args .written .now) (c .before .before .before .before .before .before .before .before .before .before .before .before .before .before .before .before .before .before .before .before .before .before .before .before .before .before .before .before .before .before .before .before .args .scratch .now)) (c .before .check .result) (c .before .check .ensures) (λ e. omega arith) (c .before .before .before .before .before .before .before .before .before .before .before .before .before .before .clear-all .ensures)
+returns c = let s = c .before .before .before .before .before .before .before .before .before .before .before .before .before .before .before .before .before .before .before .before .before .before .before .before .before .before .before .before .before .before .before .before in refuses-tables (lent (s .args .head) (s .args .initial .now) (s .args .twins .now) (s .args .formulas .now) (s .args .effects .now) (s .args .operators .now)) (c .before .check .result) (c .before .check .ensures) (c .if1 .taken) (c .before .before .before .before .before .before .before .before .before .before .before .before .before .before .clear-all .ensures)
 
--- src/call.rt:37:9
 same-length-7 : tie.Need-same-length-7
 same-length-7 c = c .before .before .before .before .before .before .before .before .before .before .before .before .before .before .before .before .clear-all .kept .0
 
--- src/call.rt:37:9
 same-length-8 : tie.Need-same-length-8
 same-length-8 c = c .before .before .before .before .before .before .before .before .before .before .before .before .before .before .before .before .clear-all .kept .1 .0
 
--- src/call.rt:37:9
 same-length-9 : tie.Need-same-length-9
 same-length-9 c = c .before .before .before .before .before .before .before .before .before .before .before .before .before .before .before .before .clear-all .kept .1 .1 .0
 
--- src/call.rt:37:9
 same-length-10 : tie.Need-same-length-10
 same-length-10 c = c .before .before .before .before .before .before .before .before .before .before .before .before .before .before .before .before .clear-all .kept .1 .1 .1 .0
 
--- src/call.rt:37:9
 same-length-11 : tie.Need-same-length-11
 same-length-11 c = c .before .before .before .before .before .before .before .before .before .before .before .before .before .before .before .before .clear-all .kept .1 .1 .1 .1 .0
 
--- src/call.rt:37:9
 same-length-12 : tie.Need-same-length-12
 same-length-12 c = c .before .before .before .before .before .before .before .before .before .before .before .before .before .before .before .before .clear-all .kept .1 .1 .1 .1 .1 .0
 
--- src/call.rt:37:9
 returns-2 : tie.Need-returns-2
-returns-2 c = let z : c .before .before .before .check .result ≡ 0 = omega arith in refuses-twins (lent (c .before .before .before .before .before .before .before .before .before .before .before .before .before .before .before .before .before .before .before .before .before .before .before .before .before .before .before .before .before .before .before .before .before .before .args .head) (c .before .before .before .before .before .before .before .before .before .before .before .before .before .before .before .before .before .before .before .before .before .before .before .before .before .before .before .before .before .before .before .before .before .before .args .initial .now) (c .before .before .before .before .before .before .before .before .before .before .before .before .before .before .before .before .before .before .before .before .before .before .before .before .before .before .before .before .before .before .before .before .before .before .args .twins .now) (c .before .before .before .before .before .before .before .before .before .before .before .before .before .before .before .before .before .before .before .before .before .before .before .before .before .before .before .before .before .before .before .before .before .before .args .formulas .now) (c .before .before .before .before .before .before .before .before .before .before .before .before .before .before .before .before .before .before .before .before .before .before .before .before .before .before .before .before .before .before .before .before .before .before .args .effects .now) (c .before .before .before .before .before .before .before .before .before .before .before .before .before .before .before .before .before .before .before .before .before .before .before .before .before .before .before .before .before .before .before .before .before .before .args .operators .now)) (tables (c .before .before .before .before .before .before .before .before .before .before .before .before .before .before .before .before .before .before .before .before .before .before .before .before .before .before .before .before .before .before .before .before .before .before .args .values .now) (c .before .before .before .before .before .before .before .before .before .before .before .before .before .before .before .before .before .before .before .before .before .before .before .before .before .before .before .before .before .before .before .before .before .before .args .originals .now) (c .before .before .before .before .before .before .before .before .before .before .before .before .before .before .before .before .before .before .before .before .before .before .before .before .before .before .before .before .before .before .before .before .before .before .args .table .now) (c .before .before .before .before .before .before .before .before .before .before .before .before .before .before .before .before .before .before .before .before .before .before .before .before .before .before .before .before .before .before .before .before .before .before .args .out .now) (c .before .before .before .before .before .before .before .before .before .before .before .before .before .before .before .before .before .before .before .before .before .before .before .before .before .before .before .before .before .before .before .before .before .before .args .written .now) (c .before .before .before .before .before .before .before .before .before .before .before .before .before .before .before .before .before .before .before .before .before .before .before .before .before .before .before .before .before .before .before .before .before .before .args .scratch .now)) (sym (c .before .before .before .check .ensures) ∙ z) (λ e. omega arith) (c .before .before .before .before .before .before .before .before .before .before .before .before .before .before .before .before .clear-all .ensures)
+returns-2 c = let s = c .before .before .before .before .before .before .before .before .before .before .before .before .before .before .before .before .before .before .before .before .before .before .before .before .before .before .before .before .before .before .before .before .before .before in refuses-twins (lent (s .args .head) (s .args .initial .now) (s .args .twins .now) (s .args .formulas .now) (s .args .effects .now) (s .args .operators .now)) (sym (c .before .before .before .check .ensures) ∙ c .before .before .if1 .left) (c .if2 .taken) (c .before .before .before .before .before .before .before .before .before .before .before .before .before .before .before .before .clear-all .ensures)
 
--- src/call.rt:39:29
 cast-if3 : tie.Need-cast-if3
 cast-if3 c = search needs
 
--- src/call.rt:39:24
 mul-if3 : tie.Need-mul-if3
 mul-if3 c = search needs
 
--- src/call.rt:39:60
 cast-if3-2 : tie.Need-cast-if3-2
 cast-if3-2 c = search needs
 
--- src/call.rt:39:55
 mul-if3-2 : tie.Need-mul-if3-2
 mul-if3-2 c = search needs
 
--- src/call.rt:39:24
 add-if3 : tie.Need-add-if3
 add-if3 c = search needs
 
--- src/call.rt:40:9
 same-length-13 : tie.Need-same-length-13
 same-length-13 c = c .before .before .before .before .before .before .before .before .before .before .before .before .before .before .before .before .before .before .before .clear-all .kept .0
 
--- src/call.rt:40:9
 same-length-14 : tie.Need-same-length-14
 same-length-14 c = c .before .before .before .before .before .before .before .before .before .before .before .before .before .before .before .before .before .before .before .clear-all .kept .1 .0
 
--- src/call.rt:40:9
 same-length-15 : tie.Need-same-length-15
 same-length-15 c = c .before .before .before .before .before .before .before .before .before .before .before .before .before .before .before .before .before .before .before .clear-all .kept .1 .1 .0
 
--- src/call.rt:40:9
 same-length-16 : tie.Need-same-length-16
 same-length-16 c = c .before .before .before .before .before .before .before .before .before .before .before .before .before .before .before .before .before .before .before .clear-all .kept .1 .1 .1 .0
 
--- src/call.rt:40:9
 same-length-17 : tie.Need-same-length-17
 same-length-17 c = c .before .before .before .before .before .before .before .before .before .before .before .before .before .before .before .before .before .before .before .clear-all .kept .1 .1 .1 .1 .0
 
--- src/call.rt:40:9
 same-length-18 : tie.Need-same-length-18
 same-length-18 c = c .before .before .before .before .before .before .before .before .before .before .before .before .before .before .before .before .before .before .before .clear-all .kept .1 .1 .1 .1 .1 .0
 
--- src/call.rt:40:9
 returns-3 : tie.Need-returns-3
-returns-3 c = let z : c .before .before .before .before .before .before .check .result ≡ 0 = omega arith in refuses-scratch (lent (c .before .before .before .before .before .before .before .before .before .before .before .before .before .before .before .before .before .before .before .before .before .before .before .before .before .before .before .before .before .before .before .before .before .before .before .before .before .args .head) (c .before .before .before .before .before .before .before .before .before .before .before .before .before .before .before .before .before .before .before .before .before .before .before .before .before .before .before .before .before .before .before .before .before .before .before .before .before .args .initial .now) (c .before .before .before .before .before .before .before .before .before .before .before .before .before .before .before .before .before .before .before .before .before .before .before .before .before .before .before .before .before .before .before .before .before .before .before .before .before .args .twins .now) (c .before .before .before .before .before .before .before .before .before .before .before .before .before .before .before .before .before .before .before .before .before .before .before .before .before .before .before .before .before .before .before .before .before .before .before .before .before .args .formulas .now) (c .before .before .before .before .before .before .before .before .before .before .before .before .before .before .before .before .before .before .before .before .before .before .before .before .before .before .before .before .before .before .before .before .before .before .before .before .before .args .effects .now) (c .before .before .before .before .before .before .before .before .before .before .before .before .before .before .before .before .before .before .before .before .before .before .before .before .before .before .before .before .before .before .before .before .before .before .before .before .before .args .operators .now)) (tables (c .before .before .before .before .before .before .before .before .before .before .before .before .before .before .before .before .before .before .before .before .before .before .before .before .before .before .before .before .before .before .before .before .before .before .before .before .before .args .values .now) (c .before .before .before .before .before .before .before .before .before .before .before .before .before .before .before .before .before .before .before .before .before .before .before .before .before .before .before .before .before .before .before .before .before .before .before .before .before .args .originals .now) (c .before .before .before .before .before .before .before .before .before .before .before .before .before .before .before .before .before .before .before .before .before .before .before .before .before .before .before .before .before .before .before .before .before .before .before .before .before .args .table .now) (c .before .before .before .before .before .before .before .before .before .before .before .before .before .before .before .before .before .before .before .before .before .before .before .before .before .before .before .before .before .before .before .before .before .before .before .before .before .args .out .now) (c .before .before .before .before .before .before .before .before .before .before .before .before .before .before .before .before .before .before .before .before .before .before .before .before .before .before .before .before .before .before .before .before .before .before .before .before .before .args .written .now) (c .before .before .before .before .before .before .before .before .before .before .before .before .before .before .before .before .before .before .before .before .before .before .before .before .before .before .before .before .before .before .before .before .before .before .before .before .before .args .scratch .now)) (sym (c .before .before .before .before .before .before .check .ensures) ∙ z) (omega arith) (omega (arith, c .before .before .before .before .before .before .before .before .before .before .before .before .before .before .before .before .before .before .before .clear-all .kept .1 .1 .1 .1 .1 .0)) (c .before .before .before .before .before .before .before .before .before .before .before .before .before .before .before .before .before .before .before .clear-all .ensures)
+returns-3 c = let s = c .before .before .before .before .before .before .before .before .before .before .before .before .before .before .before .before .before .before .before .before .before .before .before .before .before .before .before .before .before .before .before .before .before .before .before .before .before in refuses-scratch (lent (s .args .head) (s .args .initial .now) (s .args .twins .now) (s .args .formulas .now) (s .args .effects .now) (s .args .operators .now)) (sym (c .before .before .before .before .before .before .check .ensures) ∙ c .before .before .before .before .before .if1 .left) (c .before .before .before .if2 .left) (c .if3 .taken) (c .before .before .before .before .before .before .before .before .before .before .before .before .before .before .before .before .before .before .before .clear-all .ensures)
 
--- src/call.rt:42:5
 compile-checked-requires : tie.Need-compile-checked-requires
-compile-checked-requires c κs = let z : c .before .before .before .before .before .before .before .before .before .before .before .before .check .result ≡ 0 = omega arith in record { passes = (sym (c .before .before .before .before .before .before .before .before .before .before .before .before .check .ensures) ∙ z); untwinned = omega arith; memo = omega arith; blank = blanked-self (c .before .before .before .before .before .before .before .before .before .before .before .before .before .before .before .before .before .before .before .before .before .before .before .before .before .clear-all .ensures) }
+compile-checked-requires c κs = record { passes = sym (c .before .before .before .before .before .before .before .before .before .before .before .before .check .ensures) ∙ c .before .before .before .before .before .before .before .before .before .before .before .if1 .left; untwinned = c .before .before .before .before .before .before .before .before .before .if2 .left; memo = c .before .before .before .before .before .before .if3 .left; blank = blanked-self (c .before .before .before .before .before .before .before .before .before .before .before .before .before .before .before .before .before .before .before .before .before .before .before .before .before .clear-all .ensures) }
 
--- src/call.rt:15:1
 same-length-19 : tie.Need-same-length-19
 same-length-19 c = c .before .before .before .before .before .before .before .before .before .before .before .before .compile-checked .kept .1 .1 .1 .1 .1 .1 .0 ∙ c .before .before .before .before .before .before .before .before .before .before .before .before .before .before .before .before .before .before .before .before .before .before .before .before .before .before .before .before .before .before .before .before .before .before .before .before .before .before .clear-all .kept .0
 
--- src/call.rt:15:1
 same-length-20 : tie.Need-same-length-20
 same-length-20 c = c .before .before .before .before .before .before .before .before .before .before .before .before .compile-checked .kept .1 .1 .1 .1 .1 .1 .1 .0 ∙ c .before .before .before .before .before .before .before .before .before .before .before .before .before .before .before .before .before .before .before .before .before .before .before .before .before .before .before .before .before .before .before .before .before .before .before .before .before .before .clear-all .kept .1 .0
 
--- src/call.rt:15:1
 same-length-21 : tie.Need-same-length-21
 same-length-21 c = c .before .before .before .before .before .before .before .before .before .before .before .before .compile-checked .kept .1 .1 .1 .1 .1 .1 .1 .1 .0 ∙ c .before .before .before .before .before .before .before .before .before .before .before .before .before .before .before .before .before .before .before .before .before .before .before .before .before .before .before .before .before .before .before .before .before .before .before .before .before .before .clear-all .kept .1 .1 .0
 
--- src/call.rt:15:1
 same-length-22 : tie.Need-same-length-22
 same-length-22 c = c .before .before .before .before .before .before .before .before .before .before .before .before .compile-checked .kept .1 .1 .1 .1 .1 .1 .1 .1 .1 .0 ∙ c .before .before .before .before .before .before .before .before .before .before .before .before .before .before .before .before .before .before .before .before .before .before .before .before .before .before .before .before .before .before .before .before .before .before .before .before .before .before .clear-all .kept .1 .1 .1 .0
 
--- src/call.rt:15:1
 same-length-23 : tie.Need-same-length-23
 same-length-23 c = c .before .before .before .before .before .before .before .before .before .before .before .before .compile-checked .kept .1 .1 .1 .1 .1 .1 .1 .1 .1 .1 .0 ∙ c .before .before .before .before .before .before .before .before .before .before .before .before .before .before .before .before .before .before .before .before .before .before .before .before .before .before .before .before .before .before .before .before .before .before .before .before .before .before .clear-all .kept .1 .1 .1 .1 .0
 
--- src/call.rt:15:1
 same-length-24 : tie.Need-same-length-24
 same-length-24 c = c .before .before .before .before .before .before .before .before .before .before .before .before .compile-checked .kept .1 .1 .1 .1 .1 .1 .1 .1 .1 .1 .1 .0 ∙ c .before .before .before .before .before .before .before .before .before .before .before .before .before .before .before .before .before .before .before .before .before .before .before .before .before .before .before .before .before .before .before .before .before .before .before .before .before .before .clear-all .kept .1 .1 .1 .1 .1 .0
 
--- src/call.rt:15:1
 returns-4 : tie.Need-returns-4
-returns-4 c = c .before .before .before .before .before .before .before .before .before .before .before .before .compile-checked .ensures ∙ ap (compiling (lent (c .before .before .before .before .before .before .before .before .before .before .before .before .before .before .before .before .before .before .before .before .before .before .before .before .before .before .before .before .before .before .before .before .before .before .before .before .before .before .before .before .before .before .before .before .before .before .before .before .before .before .before .before .before .before .before .before .args .head) (c .before .before .before .before .before .before .before .before .before .before .before .before .before .before .before .before .before .before .before .before .before .before .before .before .before .before .before .before .before .before .before .before .before .before .before .before .before .before .before .before .before .before .before .before .before .before .before .before .before .before .before .before .before .before .before .before .args .initial .now) (c .before .before .before .before .before .before .before .before .before .before .before .before .before .before .before .before .before .before .before .before .before .before .before .before .before .before .before .before .before .before .before .before .before .before .before .before .before .before .before .before .before .before .before .before .before .before .before .before .before .before .before .before .before .before .before .before .args .twins .now) (c .before .before .before .before .before .before .before .before .before .before .before .before .before .before .before .before .before .before .before .before .before .before .before .before .before .before .before .before .before .before .before .before .before .before .before .before .before .before .before .before .before .before .before .before .before .before .before .before .before .before .before .before .before .before .before .before .args .formulas .now) (c .before .before .before .before .before .before .before .before .before .before .before .before .before .before .before .before .before .before .before .before .before .before .before .before .before .before .before .before .before .before .before .before .before .before .before .before .before .before .before .before .before .before .before .before .before .before .before .before .before .before .before .before .before .before .before .before .args .effects .now) (c .before .before .before .before .before .before .before .before .before .before .before .before .before .before .before .before .before .before .before .before .before .before .before .before .before .before .before .before .before .before .before .before .before .before .before .before .before .before .before .before .before .before .before .before .before .before .before .before .before .before .before .before .before .before .before .before .args .operators .now))) (same-room (c .before .before .before .before .before .before .before .before .before .before .before .before .before .before .before .before .before .before .before .before .before .before .before .before .before .before .before .before .before .before .before .before .before .before .before .before .before .before .clear-all .ensures))
+returns-4 c = let s = c .before .before .before .before .before .before .before .before .before .before .before .before .before .before .before .before .before .before .before .before .before .before .before .before .before .before .before .before .before .before .before .before .before .before .before .before .before .before .before .before .before .before .before .before .before .before .before .before .before .before .before .before .before .before .before .before in c .before .before .before .before .before .before .before .before .before .before .before .before .compile-checked .ensures ∙ ap (compiling (lent (s .args .head) (s .args .initial .now) (s .args .twins .now) (s .args .formulas .now) (s .args .effects .now) (s .args .operators .now))) (same-room (c .before .before .before .before .before .before .before .before .before .before .before .before .before .before .before .before .before .before .before .before .before .before .before .before .before .before .before .before .before .before .before .before .before .before .before .before .before .before .clear-all .ensures))
 
 pub compile-spec : {M : Type 1} → statement M
 compile-spec =

@@ -3,125 +3,87 @@ use Rattle.compiler.proofs.checked.compile_checked.Statement.{statement
 use Rattle.compiler.proofs.checked.compile_checked.Tie as tie
 use Rattle.compiler.proofs.checked.compile_checked.Reads as reads
 use Rattle.compiler.proofs.checked.compile_checked.Lts as lts
-use Rattle.compiler.proofs.clear.clear_all.Reads as clear-all-reads
-use Rattle.compiler.proofs.sized.fill_lent.Reads as fill-lent-reads
-use Rattle.filling.proofs.compiled_head.Reads as compiled-head-reads
+use Rattle.lent_tables.proofs.clear_all.Reads as clear-all-reads
+use Rattle.sizing.proofs.fill_lent.Reads as fill-lent-reads
+use Rattle.lent_tables.proofs.compiled_head.Reads as compiled-head-reads
 use Rattle.task.proofs.clear.clear_words.Reads as clear-words-reads
 use Prim.Native.Nat.{ℕ}
 use mathlib.Core.Path.{ap, _∙_}
-use native.Mathlib.Omega.{arith}
 use lib.ListN.{replicate}
-use Rattle.task.specs.Table.{lent}
-use Rattle.filling.specs.Fills.{tables}
-use Rattle.compiler.proofs.Ways.{blanked-as, short-initial, short-operators, short-effects, filled-over, filled-done, variables-fit}
+use Rattle.lent_tables.proofs.AsLong.{as-long, blanked-as}
+use Rattle.compiler.proofs.Ways.{short-initial, short-operators, short-effects, filled-over, filled-done, variables-fit}
 
--- src/checked.rt:32:23
 cast-if1 : tie.Need-cast-if1
 cast-if1 c = search needs
 
--- src/checked.rt:33:9
 returns : tie.Need-returns
-returns c =
-    let s = c .before .before .before .before .before .before .before .before .before .before .before .before .before in
-    short-initial (lent (s .args .head) (s .args .initial .now) (s .args .twins .now) (s .args .formulas .now) (s .args .effects .now) (s .args .operators .now)) (tables (s .args .values .now) (s .args .originals .now) (s .args .table .now) (s .args .out .now) (s .args .written .now) (s .args .scratch .now)) (s .pre) (omega arith)
+returns c = short-initial (c .before .before .before .before .before .before .before .before .before .before .before .before .before .pre) (c .if1 .taken)
 
--- src/checked.rt:35:29
 cast-if2 : tie.Need-cast-if2
 cast-if2 c = search needs
 
--- src/checked.rt:35:24
 mul-if2 : tie.Need-mul-if2
 mul-if2 c = search needs
 
--- src/checked.rt:36:9
 returns-2 : tie.Need-returns-2
-returns-2 c =
-    let s = c .before .before .before .before .before .before .before .before .before .before .before .before .before .before .before in
-    short-operators (lent (s .args .head) (s .args .initial .now) (s .args .twins .now) (s .args .formulas .now) (s .args .effects .now) (s .args .operators .now)) (tables (s .args .values .now) (s .args .originals .now) (s .args .table .now) (s .args .out .now) (s .args .written .now) (s .args .scratch .now)) (s .pre) (omega arith)
+returns-2 c = short-operators (c .before .before .before .before .before .before .before .before .before .before .before .before .before .before .before .pre) (c .if2 .taken)
 
--- src/checked.rt:39:9
 returns-3 : tie.Need-returns-3
-returns-3 c =
-    let s = c .before .before .before .before .before .before .before .before .before .before .before .before .before .before .before .before in
-    short-effects (lent (s .args .head) (s .args .initial .now) (s .args .twins .now) (s .args .formulas .now) (s .args .effects .now) (s .args .operators .now)) (tables (s .args .values .now) (s .args .originals .now) (s .args .table .now) (s .args .out .now) (s .args .written .now) (s .args .scratch .now)) (s .pre) (omega arith)
+returns-3 c = short-effects (c .before .before .before .before .before .before .before .before .before .before .before .before .before .before .before .before .pre) (c .if3 .taken)
 
--- src/checked.rt:41:9
 fill-lent-requires : tie.Need-fill-lent-requires
-fill-lent-requires c κs = search needs
+fill-lent-requires c κs = record { passed = c .before .before .before .before .before .before .before .before .before .before .before .before .before .before .before .before .before .before .before .before .before .before .pre; initial-room = c .before .before .before .before .before .before .before .before .before .if1 .left; operators-room = c .before .before .before .before .before .before .before .if2 .left; effects-room = c .before .before .before .before .before .before .if3 .left }
 
--- src/checked.rt:56:9
 clear-all-requires : tie.Need-clear-all-requires
 clear-all-requires c κs = search needs
 
--- src/checked.rt:57:9
 same-length : tie.Need-same-length
-same-length c = search needs
+same-length c = c .before .before .before .before .before .before .before .before .before .before .before .before .clear-all .kept .0 ∙ c .before .before .before .before .before .before .before .before .before .before .before .before .before .before .before .before .before .before .before .before .before .before .before .before .before .before .before .before .before .before .before .before .fill-lent .kept .1 .1 .1 .1 .1 .1 .0
 
--- src/checked.rt:57:9
 same-length-2 : tie.Need-same-length-2
-same-length-2 c = search needs
+same-length-2 c = c .before .before .before .before .before .before .before .before .before .before .before .before .clear-all .kept .1 .0 ∙ c .before .before .before .before .before .before .before .before .before .before .before .before .before .before .before .before .before .before .before .before .before .before .before .before .before .before .before .before .before .before .before .before .fill-lent .kept .1 .1 .1 .1 .1 .1 .1 .0
 
--- src/checked.rt:57:9
 same-length-3 : tie.Need-same-length-3
-same-length-3 c = search needs
+same-length-3 c = c .before .before .before .before .before .before .before .before .before .before .before .before .clear-all .kept .1 .1 .0 ∙ c .before .before .before .before .before .before .before .before .before .before .before .before .before .before .before .before .before .before .before .before .before .before .before .before .before .before .before .before .before .before .before .before .fill-lent .kept .1 .1 .1 .1 .1 .1 .1 .1 .0
 
--- src/checked.rt:57:9
 same-length-4 : tie.Need-same-length-4
-same-length-4 c = search needs
+same-length-4 c = c .before .before .before .before .before .before .before .before .before .before .before .before .clear-all .kept .1 .1 .1 .0 ∙ c .before .before .before .before .before .before .before .before .before .before .before .before .before .before .before .before .before .before .before .before .before .before .before .before .before .before .before .before .before .before .before .before .fill-lent .kept .1 .1 .1 .1 .1 .1 .1 .1 .1 .0
 
--- src/checked.rt:57:9
 same-length-5 : tie.Need-same-length-5
-same-length-5 c = search needs
+same-length-5 c = c .before .before .before .before .before .before .before .before .before .before .before .before .clear-all .kept .1 .1 .1 .1 .0 ∙ c .before .before .before .before .before .before .before .before .before .before .before .before .before .before .before .before .before .before .before .before .before .before .before .before .before .before .before .before .before .before .before .before .fill-lent .kept .1 .1 .1 .1 .1 .1 .1 .1 .1 .1 .0
 
--- src/checked.rt:57:9
 same-length-6 : tie.Need-same-length-6
-same-length-6 c = search needs
+same-length-6 c = c .before .before .before .before .before .before .before .before .before .before .before .before .clear-all .kept .1 .1 .1 .1 .1 .0 ∙ c .before .before .before .before .before .before .before .before .before .before .before .before .before .before .before .before .before .before .before .before .before .before .before .before .before .before .before .before .before .before .before .before .fill-lent .kept .1 .1 .1 .1 .1 .1 .1 .1 .1 .1 .1 .0
 
--- src/checked.rt:57:9
 returns-4 : tie.Need-returns-4
-returns-4 c =
-    let s = c .before .before .before .before .before .before .before .before .before .before .before .before .before .before .before .before .before .before .before .before .before .before .before .before .before .before .before .before .before .before .before .before .before .before .before .before .before .before .before .before .before .before .before .before .before .before .before .before .before .before .before .before .before .before .before in
-    filled-over (lent (s .args .head) (s .args .initial .now) (s .args .twins .now) (s .args .formulas .now) (s .args .effects .now) (s .args .operators .now)) (tables (s .args .values .now) (s .args .originals .now) (s .args .table .now) (s .args .out .now) (s .args .written .now) (s .args .scratch .now)) (s .pre) (c .before .before .before .before .before .before .before .before .before .before .before .before .before .before .before .before .before .before .before .before .before .before .before .before .before .before .before .before .before .before .before .before .fill-lent .ensures) (c .before .before .before .before .before .before .before .before .before .before .before .before .before .before .before .before .before .before .before .if4 .taken) (blanked-as (λ i. record { initial = (c .before .before .before .before .before .before .before .before .before .before .before .before .before .before .before .before .before .before .before .before .before .before .before .before .before .before .before .before .before .before .before .before .fill-lent .kept .1 .1 .1 .1 .1 .1 .0) i; twins = (c .before .before .before .before .before .before .before .before .before .before .before .before .before .before .before .before .before .before .before .before .before .before .before .before .before .before .before .before .before .before .before .before .fill-lent .kept .1 .1 .1 .1 .1 .1 .1 .0) i; formulas = (c .before .before .before .before .before .before .before .before .before .before .before .before .before .before .before .before .before .before .before .before .before .before .before .before .before .before .before .before .before .before .before .before .fill-lent .kept .1 .1 .1 .1 .1 .1 .1 .1 .0) i; effects = (c .before .before .before .before .before .before .before .before .before .before .before .before .before .before .before .before .before .before .before .before .before .before .before .before .before .before .before .before .before .before .before .before .fill-lent .kept .1 .1 .1 .1 .1 .1 .1 .1 .1 .0) i; operators = (c .before .before .before .before .before .before .before .before .before .before .before .before .before .before .before .before .before .before .before .before .before .before .before .before .before .before .before .before .before .before .before .before .fill-lent .kept .1 .1 .1 .1 .1 .1 .1 .1 .1 .1 .0) i; scratch = (c .before .before .before .before .before .before .before .before .before .before .before .before .before .before .before .before .before .before .before .before .before .before .before .before .before .before .before .before .before .before .before .before .fill-lent .kept .1 .1 .1 .1 .1 .1 .1 .1 .1 .1 .1 .0) i }) (c .before .before .before .before .before .before .before .before .before .before .before .before .clear-all .ensures))
+returns-4 c = filled-over (c .before .before .before .before .before .before .before .before .before .before .before .before .before .before .before .before .before .before .before .before .before .before .before .before .before .before .before .before .before .before .before .before .before .before .before .before .before .before .before .before .before .before .before .before .before .before .before .before .before .before .before .before .before .before .before .pre) (c .before .before .before .before .before .before .before .before .before .before .before .before .before .before .before .before .before .before .before .before .before .before .before .before .before .before .before .before .before .before .before .before .fill-lent .ensures) (c .before .before .before .before .before .before .before .before .before .before .before .before .before .before .before .before .before .before .before .if4 .taken) (blanked-as (as-long (c .before .before .before .before .before .before .before .before .before .before .before .before .before .before .before .before .before .before .before .before .before .before .before .before .before .before .before .before .before .before .before .before .fill-lent .kept .1 .1 .1 .1 .1 .1)) (c .before .before .before .before .before .before .before .before .before .before .before .before .clear-all .ensures))
 
--- src/checked.rt:59:5
 clear-words-requires : tie.Need-clear-words-requires
 clear-words-requires c κs = search needs
 
--- src/checked.rt:60:29
 compiled-head-requires : tie.Need-compiled-head-requires
-compiled-head-requires c κs =
-    let s = c .before .before .before .before .before .before .before .before .before .before .before .before .before .before .before .before .before .before .before .before .before .before .before .before .before .before .before .before .before .before .before .before .before .before .before .before .before .before .before .before in
-    variables-fit (lent (s .args .head) (s .args .initial .now) (s .args .twins .now) (s .args .formulas .now) (s .args .effects .now) (s .args .operators .now)) (tables (s .args .values .now) (s .args .originals .now) (s .args .table .now) (s .args .out .now) (s .args .written .now) (s .args .scratch .now)) (s .pre) (c .before .before .before .before .before .before .before .before .before .before .before .before .before .before .before .before .before .fill-lent .ensures) (c .before .before .before .before .if4 .left)
+compiled-head-requires c κs = variables-fit (c .before .before .before .before .before .before .before .before .before .before .before .before .before .before .before .before .before .before .before .before .before .before .before .before .before .before .before .before .before .before .before .before .before .before .before .before .before .before .before .before .pre) (c .before .before .before .before .before .before .before .before .before .before .before .before .before .before .before .before .before .fill-lent .ensures) (c .before .before .before .before .if4 .left)
 
--- src/checked.rt:15:1
 same-length-7 : tie.Need-same-length-7
-same-length-7 c = search needs
+same-length-7 c = c .before .before .before .before .before .before .before .before .before .before .before .before .before .before .before .before .before .before .fill-lent .kept .1 .1 .1 .1 .1 .1 .0
 
--- src/checked.rt:15:1
 same-length-8 : tie.Need-same-length-8
-same-length-8 c = search needs
+same-length-8 c = c .before .before .before .before .before .before .before .before .before .before .before .before .before .before .before .before .before .before .fill-lent .kept .1 .1 .1 .1 .1 .1 .1 .0
 
--- src/checked.rt:15:1
 same-length-9 : tie.Need-same-length-9
-same-length-9 c = search needs
+same-length-9 c = c .before .before .before .before .before .before .before .before .before .before .before .before .before .before .before .before .before .before .fill-lent .kept .1 .1 .1 .1 .1 .1 .1 .1 .0
 
--- src/checked.rt:15:1
 same-length-10 : tie.Need-same-length-10
-same-length-10 c = search needs
+same-length-10 c = c .before .before .before .before .before .before .before .before .before .before .before .before .before .before .before .before .before .before .fill-lent .kept .1 .1 .1 .1 .1 .1 .1 .1 .1 .0
 
--- src/checked.rt:15:1
 same-length-11 : tie.Need-same-length-11
-same-length-11 c = search needs
+same-length-11 c = c .before .before .before .before .before .before .before .before .before .before .before .before .before .before .before .before .before .before .fill-lent .kept .1 .1 .1 .1 .1 .1 .1 .1 .1 .1 .0
 
--- src/checked.rt:15:1
 same-length-12 : tie.Need-same-length-12
-same-length-12 c = search needs
+same-length-12 c = c .before .before .before .clear-words .kept .0 ∙ c .before .before .before .before .before .before .before .before .before .before .before .before .before .before .before .before .before .before .fill-lent .kept .1 .1 .1 .1 .1 .1 .1 .1 .1 .1 .1 .0
 
--- src/checked.rt:15:1
 returns-5 : tie.Need-returns-5
-returns-5 c =
-    let s = c .before .before .before .before .before .before .before .before .before .before .before .before .before .before .before .before .before .before .before .before .before .before .before .before .before .before .before .before .before .before .before .before .before .before .before .before .before .before .before .before .before in
-    filled-done (lent (s .args .head) (s .args .initial .now) (s .args .twins .now) (s .args .formulas .now) (s .args .effects .now) (s .args .operators .now)) (tables (s .args .values .now) (s .args .originals .now) (s .args .table .now) (s .args .out .now) (s .args .written .now) (s .args .scratch .now)) (s .pre) (c .before .before .before .before .before .before .before .before .before .before .before .before .before .before .before .before .before .before .fill-lent .ensures) (c .before .before .before .before .before .if4 .left) (c .compiled-head .ensures) (c .before .before .before .clear-words .ensures ∙ ap (λ (m : ℕ). replicate m 0) (c .before .before .before .before .before .before .before .before .before .before .before .before .before .before .before .before .before .before .fill-lent .kept .1 .1 .1 .1 .1 .1 .1 .1 .1 .1 .1 .0))
+returns-5 c = filled-done (c .before .before .before .before .before .before .before .before .before .before .before .before .before .before .before .before .before .before .before .before .before .before .before .before .before .before .before .before .before .before .before .before .before .before .before .before .before .before .before .before .before .pre) (c .before .before .before .before .before .before .before .before .before .before .before .before .before .before .before .before .before .before .fill-lent .ensures) (c .before .before .before .before .before .if4 .left) (c .compiled-head .ensures) (c .before .before .before .clear-words .ensures ∙ ap (λ (m : ℕ). replicate m 0) (c .before .before .before .before .before .before .before .before .before .before .before .before .before .before .before .before .before .before .fill-lent .kept .1 .1 .1 .1 .1 .1 .1 .1 .1 .1 .1 .0))
 
 pub compile-checked-spec : {M : Type 1} → statement M
 compile-checked-spec =

@@ -1,0 +1,65 @@
+// Filling, with notes on the effect rows.
+use crate::whole::fill_built;
+use formula_builder::Frame;
+use lent_tables::Passes;
+use spans::find_columns;
+use spans::find_spans;
+use task::Head;
+ghost use Rattle.task.specs.Table.{lent};
+ghost use Rattle.lent_tables.specs.Fills.{tables, Fills};
+ghost use Rattle.filling.specs.Begins.{Owns};
+
+// Finds spans and columns, then fills. Costs two passes over the effects and one over the operators, and what filling does.
+pub fn fill_noted(
+    head: Head,
+    initial: &[u8],
+    twins: &[u16],
+    formulas: &[u16],
+    effects: &[u16],
+    operators: &[u16],
+    rows: usize,
+    most: usize,
+    room: usize,
+    values: &mut [u8],
+    originals: &mut [u16],
+    table: &mut [u16],
+    out: &mut [u16],
+    written: &mut [u16],
+    scratch: &mut [u16],
+    notes: &mut [u16],
+    built: &mut [u16],
+    records: &mut [u16],
+) -> Passes
+    requires { ⌜ Owns (lent head (now initial) (now twins) (now formulas) (now effects) (now operators)) rows most room (tables (now values) (now originals) (now table) (now out) (now written) (now scratch)) (now notes) (now built) (now records) ⌝ }
+    ensures { λ r. ⌜ Fills (lent head (now (initial .entry)) (now (twins .entry)) (now (formulas .entry)) (now (effects .entry)) (now (operators .entry))) (tables (now (values .entry)) (now (originals .entry)) (now (table .entry)) (now (out .entry)) (now (written .entry)) (now (scratch .entry))) (tables (now (values .exit)) (now (originals .exit)) (now (table .exit)) (now (out .exit)) (now (written .exit)) (now (scratch .exit))) r ⌝ }
+{
+    let frame = Frame {
+        variables: head.variables as usize,
+        formulas: head.formulas as usize,
+        effects: head.effects as usize,
+        rows: rows,
+        twins: most,
+    };
+    find_spans(effects, frame, notes);
+    find_columns(effects, operators, head.operators as usize, frame, notes);
+    fill_built(
+        head,
+        initial,
+        twins,
+        formulas,
+        effects,
+        notes,
+        operators,
+        rows,
+        most,
+        room,
+        values,
+        originals,
+        table,
+        out,
+        written,
+        scratch,
+        built,
+        records,
+    )
+}

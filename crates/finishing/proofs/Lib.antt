@@ -1,0 +1,5 @@
+pub mod Blank
+pub mod Recalled
+pub mod Linked
+pub mod Copied
+pub mod Filled

@@ -1,0 +1,71 @@
+-- The six lent tables, and what clearing and filling them leaves.
+use Prim.Native.Nat.{ℕ, _+_}
+use mathlib.Core.Path.{_≡_}
+use mathlib.Core.Bool.{true, false}
+use mathlib.Core.List.{List}
+use lib.ListN.{length, replicate}
+use Rattle.task.specs.declared.Head.{Head}
+use Rattle.task.specs.Table.{Lent, task-of}
+use Rattle.task.specs.Words.{words-of, operator-words, head-of}
+use Rattle.normal_form.specs.Finished.{finished}
+use Rattle.normal_form.specs.Compiled.{Room, Fits, padded}
+use Rattle.lent_tables.specs.declared.Passes.{Passes}
+
+-- the six lent tables
+pub record Tables : Type 0 where
+  pub initial : List ℕ
+  pub twins : List ℕ
+  pub formulas : List ℕ
+  pub effects : List ℕ
+  pub operators : List ℕ
+  pub scratch : List ℕ
+
+abbrev pub tables : (initial twins formulas effects operators scratch : List ℕ) → Tables
+tables i w f e o s = record { initial = i; twins = w; formulas = f; effects = e; operators = o; scratch = s }
+
+abbrev pub room-of : Tables → Room
+room-of x =
+    record {
+      initial = length (x .initial);
+      twins = length (x .twins);
+      formulas = length (x .formulas);
+      effects = length (x .effects);
+      operators = length (x .operators);
+      scratch = length (x .scratch);
+    }
+
+-- Tables as long as before, all 0.
+pub record Blanked (x y : Tables) : Type 0 where
+  pub initial : y .initial ≡ replicate (length (x .initial)) 0
+  pub twins : y .twins ≡ replicate (length (x .twins)) 0
+  pub formulas : y .formulas ≡ replicate (length (x .formulas)) 0
+  pub effects : y .effects ≡ replicate (length (x .effects)) 0
+  pub operators : y .operators ≡ replicate (length (x .operators)) 0
+  pub scratch : y .scratch ≡ replicate (length (x .scratch)) 0
+
+-- the head of the compiled task: operators keep their number
+abbrev pub head-after : Head → Passes → Head
+head-after h r =
+    record {
+      variables = h .variables + r .twins;
+      twins = r .twins;
+      formulas = r .rows;
+      effects = r .effects;
+      operators = h .operators;
+      goal = r .goal;
+    }
+
+-- The tables hold the finished task, which fits.
+pub record Holds (l : Lent) (x y : Tables) (r : Passes) : Type 0 where
+  pub fits : Fits (finished (task-of l)) (room-of x)
+  pub head : head-of (finished (task-of l)) ≡ head-after (l .head) r
+  pub initial : y .initial ≡ padded (length (x .initial)) (finished (task-of l) .initial)
+  pub twins : y .twins ≡ padded (length (x .twins)) (finished (task-of l) .originals)
+  pub formulas : y .formulas ≡ padded (length (x .formulas)) (words-of (finished (task-of l) .formulas))
+  pub effects : y .effects ≡ padded (length (x .effects)) (words-of (finished (task-of l) .effects))
+  pub operators : y .operators ≡ padded (length (x .operators)) (operator-words (finished (task-of l) .operators))
+
+-- They hold it, or it does not fit.
+pub record Fills (l : Lent) (x y : Tables) (r : Passes) : Type 0 where
+  pub done : r .full ≡ false → Holds l x y r
+  pub over : r .full ≡ true → Fits (finished (task-of l)) (room-of x) → ⊥

@@ -1,0 +1,22 @@
+-- How much is tried, and how much of the lent tables is used.
+use Prim.Native.Nat.{ℕ, _+_, _≤_}
+use mathlib.Core.Path.{_≡_}
+use mathlib.Core.Bool.{Bool, true}
+use Rattle.task.specs.declared.Head.{Head}
+
+-- a source that small tables may suffice for
+pub record Small (h : Head) (r : Bool) : Type 0 where
+  pub few-effects : r ≡ true → h .effects ≤ 512
+
+-- the lesser of two
+pub record Least (a b r : ℕ) : Type 0 where
+  pub first : r ≤ a
+  pub second : r ≤ b
+  pub most : (k : ℕ) → k ≤ a → k ≤ b → k ≤ r
+
+-- as many twins as the limit and two lengths allow
+pub record MostTwins (variables values originals r : ℕ) : Type 0 where
+  pub limit : variables + r ≤ 512
+  pub initial-space : variables + r ≤ values
+  pub twins-space : r ≤ originals
+  pub most : (k : ℕ) → variables + k ≤ 512 → variables + k ≤ values → k ≤ originals → k ≤ r

@@ -1,0 +1,209 @@
+// Filling, with three tables of its own: one in which rows are built, one of records, one of notes on the effect rows. All are cleared by
+// declaring them, so a small task has small ones.
+use filling::fill_noted;
+use lent_tables::Passes;
+use task::Head;
+ghost use Prim.Native.Nat.{_≤_};
+ghost use Rattle.task.specs.Table.{lent};
+ghost use Rattle.lent_tables.specs.Fills.{tables, Fills};
+ghost use Rattle.filling.specs.Begins.{Begins};
+ghost use Rattle.own_tables.specs.Few.{BeginsSmall};
+
+// The first has the words of 4,096 rows, two links for each, and 4,096 heads: 48 KiB, cleared. The second has three words for
+// each of 256 operators and 2,048 changes: 13.5 KiB, cleared. The third has three words for each of 4,096 effects, and for each of 65 columns
+// two for each of 512 variables: 154 KiB, cleared; fewer variables have more columns.
+fn fill_many(
+    head: Head,
+    initial: &[u8],
+    twins: &[u16],
+    formulas: &[u16],
+    effects: &[u16],
+    operators: &[u16],
+    rows: usize,
+    most: usize,
+    room: usize,
+    values: &mut [u8],
+    originals: &mut [u16],
+    table: &mut [u16],
+    out: &mut [u16],
+    written: &mut [u16],
+    scratch: &mut [u16],
+) -> Passes
+    requires { ⌜ Begins (lent head (now initial) (now twins) (now formulas) (now effects) (now operators)) rows most room (tables (now values) (now originals) (now table) (now out) (now written) (now scratch)) ⌝ }
+    ensures { λ r. ⌜ Fills (lent head (now (initial .entry)) (now (twins .entry)) (now (formulas .entry)) (now (effects .entry)) (now (operators .entry))) (tables (now (values .entry)) (now (originals .entry)) (now (table .entry)) (now (out .entry)) (now (written .entry)) (now (scratch .entry))) (tables (now (values .exit)) (now (originals .exit)) (now (table .exit)) (now (out .exit)) (now (written .exit)) (now (scratch .exit))) r ⌝ }
+{
+    let mut built = [0u16; 24576];
+    let mut records = [0u16; 6912];
+    let mut notes = [0u16; 78848];
+    fill_noted(
+        head,
+        initial,
+        twins,
+        formulas,
+        effects,
+        operators,
+        rows,
+        most,
+        room,
+        values,
+        originals,
+        table,
+        out,
+        written,
+        scratch,
+        &mut notes,
+        &mut built,
+        &mut records,
+    )
+}
+
+// The same for at most 512 effects, whose notes are small: 11 KiB, cleared.
+fn fill_few(
+    head: Head,
+    initial: &[u8],
+    twins: &[u16],
+    formulas: &[u16],
+    effects: &[u16],
+    operators: &[u16],
+    rows: usize,
+    most: usize,
+    room: usize,
+    values: &mut [u8],
+    originals: &mut [u16],
+    table: &mut [u16],
+    out: &mut [u16],
+    written: &mut [u16],
+    scratch: &mut [u16],
+) -> Passes
+    requires { ⌜ (Begins (lent head (now initial) (now twins) (now formulas) (now effects) (now operators)) rows most room (tables (now values) (now originals) (now table) (now out) (now written) (now scratch))) × (head .effects ≤ 512) ⌝ }
+    ensures { λ r. ⌜ Fills (lent head (now (initial .entry)) (now (twins .entry)) (now (formulas .entry)) (now (effects .entry)) (now (operators .entry))) (tables (now (values .entry)) (now (originals .entry)) (now (table .entry)) (now (out .entry)) (now (written .entry)) (now (scratch .entry))) (tables (now (values .exit)) (now (originals .exit)) (now (table .exit)) (now (out .exit)) (now (written .exit)) (now (scratch .exit))) r ⌝ }
+{
+    let mut built = [0u16; 24576];
+    let mut records = [0u16; 6912];
+    let mut notes = [0u16; 5632];
+    fill_noted(
+        head,
+        initial,
+        twins,
+        formulas,
+        effects,
+        operators,
+        rows,
+        most,
+        room,
+        values,
+        originals,
+        table,
+        out,
+        written,
+        scratch,
+        &mut notes,
+        &mut built,
+        &mut records,
+    )
+}
+
+// Few effects have small notes. Costs what filling does, and clearing its own tables.
+pub fn fill(
+    head: Head,
+    initial: &[u8],
+    twins: &[u16],
+    formulas: &[u16],
+    effects: &[u16],
+    operators: &[u16],
+    rows: usize,
+    most: usize,
+    room: usize,
+    values: &mut [u8],
+    originals: &mut [u16],
+    table: &mut [u16],
+    out: &mut [u16],
+    written: &mut [u16],
+    scratch: &mut [u16],
+) -> Passes
+    requires { ⌜ Begins (lent head (now initial) (now twins) (now formulas) (now effects) (now operators)) rows most room (tables (now values) (now originals) (now table) (now out) (now written) (now scratch)) ⌝ }
+    ensures { λ r. ⌜ Fills (lent head (now (initial .entry)) (now (twins .entry)) (now (formulas .entry)) (now (effects .entry)) (now (operators .entry))) (tables (now (values .entry)) (now (originals .entry)) (now (table .entry)) (now (out .entry)) (now (written .entry)) (now (scratch .entry))) (tables (now (values .exit)) (now (originals .exit)) (now (table .exit)) (now (out .exit)) (now (written .exit)) (now (scratch .exit))) r ⌝ }
+{
+    if head.effects <= 512 {
+        return fill_few(
+            head,
+            initial,
+            twins,
+            formulas,
+            effects,
+            operators,
+            rows,
+            most,
+            room,
+            values,
+            originals,
+            table,
+            out,
+            written,
+            scratch,
+        );
+    }
+    fill_many(
+        head,
+        initial,
+        twins,
+        formulas,
+        effects,
+        operators,
+        rows,
+        most,
+        room,
+        values,
+        originals,
+        table,
+        out,
+        written,
+        scratch,
+    )
+}
+
+// The same for at most 512 rows and 512 effects: 6 KiB, 13.5 KiB and 11 KiB, cleared.
+pub fn fill_small(
+    head: Head,
+    initial: &[u8],
+    twins: &[u16],
+    formulas: &[u16],
+    effects: &[u16],
+    operators: &[u16],
+    rows: usize,
+    most: usize,
+    room: usize,
+    values: &mut [u8],
+    originals: &mut [u16],
+    table: &mut [u16],
+    out: &mut [u16],
+    written: &mut [u16],
+    scratch: &mut [u16],
+) -> Passes
+    requires { ⌜ BeginsSmall (lent head (now initial) (now twins) (now formulas) (now effects) (now operators)) rows most room (tables (now values) (now originals) (now table) (now out) (now written) (now scratch)) ⌝ }
+    ensures { λ r. ⌜ Fills (lent head (now (initial .entry)) (now (twins .entry)) (now (formulas .entry)) (now (effects .entry)) (now (operators .entry))) (tables (now (values .entry)) (now (originals .entry)) (now (table .entry)) (now (out .entry)) (now (written .entry)) (now (scratch .entry))) (tables (now (values .exit)) (now (originals .exit)) (now (table .exit)) (now (out .exit)) (now (written .exit)) (now (scratch .exit))) r ⌝ }
+{
+    let mut built = [0u16; 3072];
+    let mut records = [0u16; 6912];
+    let mut notes = [0u16; 5632];
+    fill_noted(
+        head,
+        initial,
+        twins,
+        formulas,
+        effects,
+        operators,
+        rows,
+        most,
+        room,
+        values,
+        originals,
+        table,
+        out,
+        written,
+        scratch,
+        &mut notes,
+        &mut built,
+        &mut records,
+    )
+}
