@@ -2,8 +2,8 @@
 ghost use lib.ListN.{length};
 ghost use Rattle.layouts.specs.Giving.{Lays};
 ghost use Rattle.read_entry.specs.Entry.{read-entry};
+ghost use Rattle.compiled_file.specs.Giving.{CompileGives};
 ghost use Rattle.compile_entry.specs.Entry.{compile-entry};
-ghost use Rattle.compile_entry.specs.Giving.{CompileGives};
 ghost use Rattle.run_entry.specs.Entry.{run-entry};
 ghost use Rattle.run_entry.specs.Giving.{RunEntryGives};
 

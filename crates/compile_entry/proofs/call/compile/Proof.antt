@@ -1,7 +1,8 @@
 use lib.ListN.{length}
 use Rattle.compile_entry.specs.Entry.{compile-entry}
 use Rattle.own_tables.specs.Own.{small}
-use Rattle.compile_entry.proofs.CompileWays.{compile-settled, same-outputs}
+use Rattle.compiled_file.proofs.FileWays.{same-outputs}
+use Rattle.compile_entry.proofs.CompileWays.{compile-settled}
 use borrow.Author.Needs.{needs}
 use Rattle.compile_entry.proofs.call.compile.Statement.{statement}
 use Rattle.compile_entry.proofs.call.compile.Tie as tie

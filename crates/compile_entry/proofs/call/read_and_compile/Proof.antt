@@ -51,8 +51,8 @@ same-length-7 c = search needs
 returns : tie.Need-returns
 returns c = let a = c .before .before .before .before .before .before .before .before .before .before .before .before .before .before .before .before .before .before .before .before .before .before .before .before .before .before .before .before .before .before .before .before .before .before .args in let m = (lengths (length (a .initial .now)) (length (a .twins .now)) (length (a .formulas .now)) (length (a .effects .now)) (length (a .operators .now))) in compile-no-file m (a .file .now) (length (a .out .now)) (length (a .result .now)) (refused-as m (a .file .now) (c .before .before .before .before .before .before .before .before .before .before .before .before .before .before .before .before .before .before .before .before .read .ensures) (c .before .before .before .before .before .before .before .before .enum-told .given .1)) (c .before .before .before .before .before .before .before .not-read .ensures ∙ ap refused-number (c .before .before .before .before .before .before .before .before .enum-told .given .1)) (c .before .before .before .before .refuse .ensures)
 
-compile-read-requires : tie.Need-compile-read-requires
-compile-read-requires c κs = let a = c .before .before .before .before .before .before .before .before .before .before .before .before .before .before .before .before .before .before .before .before .before .before .before .before .before .before .before .before .before .before .before .before .before .before .args in (read-as (lengths (length (a .initial .now)) (length (a .twins .now)) (length (a .formulas .now)) (length (a .effects .now)) (length (a .operators .now))) (a .file .now) (c .before .before .before .before .before .before .before .before .before .before .before .before .before .before .before .before .before .before .before .before .read .ensures) (c .before .before .before .before .before .before .before .before .r .given .1) (bytes-from (a .file .now) (λ i. c .before .before .before .before .before .before .before .before .before .before .before .before .before .before .before .before .before .before .before .before .before .before .before .before .before .before .before .before .before .before .before .before .before .shared-slice-known .given i .fits))) .kept
+compile-tables-requires : tie.Need-compile-tables-requires
+compile-tables-requires c κs = let a = c .before .before .before .before .before .before .before .before .before .before .before .before .before .before .before .before .before .before .before .before .before .before .before .before .before .before .before .before .before .before .before .before .before .before .args in (read-as (lengths (length (a .initial .now)) (length (a .twins .now)) (length (a .formulas .now)) (length (a .effects .now)) (length (a .operators .now))) (a .file .now) (c .before .before .before .before .before .before .before .before .before .before .before .before .before .before .before .before .before .before .before .before .read .ensures) (c .before .before .before .before .before .before .before .before .r .given .1) (bytes-from (a .file .now) (λ i. c .before .before .before .before .before .before .before .before .before .before .before .before .before .before .before .before .before .before .before .before .before .before .before .before .before .before .before .before .before .before .before .before .before .shared-slice-known .given i .fits))) .kept
 
 same-length-8 : tie.Need-same-length-8
 same-length-8 c = search needs
@@ -76,7 +76,7 @@ same-length-14 : tie.Need-same-length-14
 same-length-14 c = search needs
 
 returns-2 : tie.Need-returns-2
-returns-2 c = let a = c .before .before .before .before .before .before .before .before .before .before .before .before .before .before .before .before .before .before .before .before .before .before .before .before .before .before .before .before .before .before .before .before .before .before .before .before .before .before .before .args in compile-read (length (a .out .now)) (length (a .result .now)) (read-as (lengths (length (a .initial .now)) (length (a .twins .now)) (length (a .formulas .now)) (length (a .effects .now)) (length (a .operators .now))) (a .file .now) (c .before .before .before .before .before .before .before .before .before .before .before .before .before .before .before .before .before .before .before .before .before .before .before .before .before .read .ensures) (c .before .before .before .before .before .before .before .before .before .before .before .before .before .r .given .1) (bytes-from (a .file .now) (λ i. c .before .before .before .before .before .before .before .before .before .before .before .before .before .before .before .before .before .before .before .before .before .before .before .before .before .before .before .before .before .before .before .before .before .before .before .before .before .before .shared-slice-known .given i .fits))) (c .before .before .before .before .compile-read .ensures)
+returns-2 c = let a = c .before .before .before .before .before .before .before .before .before .before .before .before .before .before .before .before .before .before .before .before .before .before .before .before .before .before .before .before .before .before .before .before .before .before .before .before .before .before .before .args in compile-read (length (a .out .now)) (length (a .result .now)) (read-as (lengths (length (a .initial .now)) (length (a .twins .now)) (length (a .formulas .now)) (length (a .effects .now)) (length (a .operators .now))) (a .file .now) (c .before .before .before .before .before .before .before .before .before .before .before .before .before .before .before .before .before .before .before .before .before .before .before .before .before .read .ensures) (c .before .before .before .before .before .before .before .before .before .before .before .before .before .r .given .1) (bytes-from (a .file .now) (λ i. c .before .before .before .before .before .before .before .before .before .before .before .before .before .before .before .before .before .before .before .before .before .before .before .before .before .before .before .before .before .before .before .before .before .before .before .before .before .before .shared-slice-known .given i .fits))) (c .before .before .before .before .compile-tables .ensures)
 
 pub read-and-compile-spec : {M : Type 1} → statement M
 read-and-compile-spec =
@@ -96,7 +96,7 @@ read-and-compile-spec =
     same-length-6
     same-length-7
     returns
-    compile-read-requires
+    compile-tables-requires
     same-length-8
     same-length-9
     same-length-10

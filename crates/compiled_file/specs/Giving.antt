@@ -1,4 +1,4 @@
--- What the code of compiling's entry asks and gives, in the terms of specs/Entry.
+-- What the code asks and gives, in the terms of specs/Filed.
 use Prim.Native.Nat.{ℕ, _+_, _≤_}
 use mathlib.Core.Path.{_≡_}
 use mathlib.Core.List.{List}
@@ -7,7 +7,7 @@ use Rattle.task.specs.Table.{Lent, task-of}
 use Rattle.task.specs.Check.{refusal}
 use Rattle.normal_form.specs.Finished.{finished}
 use Rattle.normal_form.specs.Compiled.{Room, compile-refusal}
-use Rattle.compile_entry.specs.Entry.{CompileEntry, compiled-by}
+use Rattle.compiled_file.specs.Filed.{CompileEntry, compiled-by}
 
 pub record CompileGives (w : CompileEntry) (r : ℕ) (out result : List ℕ) : Type 0 where
   pub told : r ≡ w .number

@@ -5,10 +5,10 @@ use Rattle.compiler.specs.Fills.{tables, room-of}
 use Rattle.compiler.specs.declared.CompileAnswer.{CompileAnswer}
 use Rattle.compiler.specs.Left.{answer-of}
 use Rattle.own_tables.specs.Answers.{refused-compile}
-use Rattle.compile_entry.proofs.CompileWays.{not-compiled, compiled-kept, compiled-given}
+use Rattle.compiled_file.proofs.CompileWays.{not-compiled, compiled-kept, compiled-given}
 use borrow.Author.Needs.{needs}
-use Rattle.compile_entry.proofs.call.compile_through.Statement.{statement}
-use Rattle.compile_entry.proofs.call.compile_through.Tie as tie
+use Rattle.compiled_file.proofs.compiling.compile_through.Statement.{statement}
+use Rattle.compiled_file.proofs.compiling.compile_through.Tie as tie
 
 compile-requires : tie.Need-compile-requires
 compile-requires c κs = search needs

@@ -1,10 +1,10 @@
 use mathlib.Core.Path.{_≡_, refl, sym, ap, _∙_}
 use native.Mathlib.Omega.{arith}
 use Rattle.task.specs.Table.{lent}
-use Rattle.compile_entry.proofs.CompileWays.{short-result, short-out, gives-file}
+use Rattle.compiled_file.proofs.FileWays.{short-result, short-out, gives-file}
 use borrow.Author.Needs.{needs}
-use Rattle.compile_entry.proofs.call.give_file.Statement.{statement}
-use Rattle.compile_entry.proofs.call.give_file.Tie as tie
+use Rattle.compiled_file.proofs.filing.give_file.Statement.{statement}
+use Rattle.compiled_file.proofs.filing.give_file.Tie as tie
 
 refuse-requires : tie.Need-refuse-requires
 refuse-requires c κs = search needs
