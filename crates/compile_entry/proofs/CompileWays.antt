@@ -1,6 +1,6 @@
 -- Compiling's entry: one law for each way out. Assumes nothing.
 use Prim.Native.Nat.{ℕ}
-use mathlib.Core.Path.{_≡_, refl, sym, ap, _∙_, subst}
+use mathlib.Core.Path.{_≡_, ap, _∙_, subst}
 use mathlib.Core.List.{List}
 use Rattle.task.specs.Table.{Lent, task-of}
 use Rattle.file_format.specs.Reading.{Lengths, Outcome, rejected, reading}

@@ -5,7 +5,6 @@ use Rattle.file_format.specs.Reading.{Outcome, accepted, rejected, reading}
 use Rattle.own_tables.specs.Own.{own}
 use Rattle.compiled_file.specs.Filed.{CompileEntry, no-file, compiled}
 
--- 13, 15, then 20: the file or its length has no room
 unfoldable pub compile-entry-by : Outcome → (out result : ℕ) → CompileEntry
 compile-entry-by (accepted t) o r = compiled t o r
 compile-entry-by (rejected k) o r = no-file k o r

@@ -1,5 +1,4 @@
 // The text of an input.
-ghost use mathlib.Core.Path.{_≡_};
 ghost use Rattle.compile_text.specs.Text.{text-of};
 ghost use Rattle.compile_text.specs.Giving.{Own, Gives};
 use crate::answers::number_line;

@@ -1,10 +1,9 @@
 -- Compiling through lent room: one law for each way out. Assumes nothing.
 use Prim.Native.Nat.{ℕ, zero, suc, _+_, _*_}
 use native.Mathlib.Omega.{arith}
-use mathlib.Core.Path.{_≡_, refl, sym, ap, _∙_, subst}
+use mathlib.Core.Path.{_≡_, sym, ap, _∙_, subst}
 use mathlib.Core.Bool.{true}
 use mathlib.Core.List.{List}
-use lib.ListN.{length}
 use borrow.Author.Tests.{le-leb}
 use Rattle.task.specs.declared.Head.{Head}
 use Rattle.task.specs.Table.{Lent, lent, task-of}
@@ -12,7 +11,7 @@ use Rattle.task.specs.Check.{refusal}
 use Rattle.task.proofs.Kept.{kept-rules}
 use Rattle.file_format.specs.Bytes.{file-of}
 use Rattle.normal_form.specs.Finished.{finished}
-use Rattle.normal_form.specs.Compiled.{Room, scratch-kept, compile-refusal, compiled-head, refused, Outcome, compiling, given}
+use Rattle.normal_form.specs.Compiled.{Room, scratch-kept, compile-refusal, refused, Outcome, compiling, given}
 use Rattle.normal_form.proofs.Compiled.{given-task, given-passes}
 use Rattle.compiler.specs.declared.CompileAnswer.{CompileAnswer}
 use Rattle.compiler.specs.declared.CompileAnswer.the-variants.{Compiled, Refused}

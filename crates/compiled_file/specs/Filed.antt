@@ -35,5 +35,6 @@ unfoldable pub compiled-by : ℕ → Task → (out result : ℕ) → CompileEntr
 compiled-by zero t o r = filed (file-of t) o r
 compiled-by (suc k) t o r = no-file (suc k) o r
 
+-- of a source: 13, 15, then 20
 unfoldable pub compiled : Task → (out result : ℕ) → CompileEntry
 compiled t o r = compiled-by (compile-number t) (finished t) o r

@@ -1,14 +1,12 @@
 -- Compiling into room of one's own: with scratch enough, room matters for 15 alone, and one's own for the limits alone. Assumes nothing.
 use Prim.Native.Nat.{ℕ, zero, suc, _+_, _*_}
 use native.Mathlib.Omega.{arith}
-use mathlib.Core.Path.{_≡_, refl, sym, ap, _∙_}
+use mathlib.Core.Path.{_≡_, refl, _∙_}
 use mathlib.Core.Bool.{Bool, true, false}
-use lib.ListN.{length}
 use lib.Dec.{eqb}
 use borrow.Author.Tests.{le-leb}
-use Rattle.task.specs.declared.Head.{Head}
 use Rattle.task.specs.Table.{Lent, Task, task-of}
-use Rattle.task.specs.Check.{counts-kept, unless, refusal}
+use Rattle.task.specs.Check.{counts-kept, refusal}
 use Rattle.task.specs.Words.{head-of}
 use Rattle.task.proofs.Bounded.{and-left}
 use Rattle.task.proofs.Held.{length-originals}

@@ -1,4 +1,3 @@
-use mathlib.Core.Path.{_≡_, refl, sym, ap, _∙_}
 use native.Mathlib.Omega.{arith}
 use Rattle.task.specs.Table.{lent}
 use Rattle.compiled_file.proofs.FileWays.{short-result, short-out, gives-file}
