@@ -16,7 +16,7 @@ use Rattle.file_format.specs.Reading.{Room, accepted, rejected, reading}
 use Rattle.file_format.proofs.RoundTrip.{read-written}
 use Rattle.normal_form.specs.Finished.{finished}
 use Rattle.printing.specs.Lines.{lines, refusal-line}
-use Rattle.own_tables.specs.Own.{own, compile-number}
+use Rattle.entry_tables.specs.Own.{own, compile-number}
 use Rattle.compile_text.specs.Text.{compiled-by, compiled-text, text-by, text-of}
 use Rattle.compile_text.proofs.TextWays.{cut-text}
 use Rattle.claims.specs.Statements.{Compiles}

@@ -4,7 +4,7 @@ use mathlib.Core.Path.{_≡_, ap, _∙_, subst}
 use mathlib.Core.List.{List}
 use Rattle.task.specs.Table.{Lent, task-of}
 use Rattle.file_format.specs.Reading.{Lengths, Outcome, rejected, reading}
-use Rattle.own_tables.proofs.Reading.{ReadAs, same-reading}
+use Rattle.entry_tables.proofs.Reading.{ReadAs, same-reading}
 use Rattle.compiled_file.specs.Filed.{no-file, compiled}
 use Rattle.compiled_file.specs.Giving.{CompileGives}
 use Rattle.compile_entry.specs.Entry.{compile-entry-by, compile-entry}

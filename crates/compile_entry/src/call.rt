@@ -2,7 +2,7 @@
 ghost use lib.ListN.{length};
 ghost use Rattle.file_format.specs.Reading.{reading};
 ghost use Rattle.task_file.specs.Answers.{lengths};
-ghost use Rattle.own_tables.specs.Own.{small};
+ghost use Rattle.entry_tables.specs.Own.{small};
 ghost use Rattle.compiled_file.specs.Giving.{CompileGives};
 ghost use Rattle.compile_entry.specs.Entry.{compile-entry-by, compile-entry};
 use task_file::ReadAnswer;
@@ -22,7 +22,7 @@ fn read_and_compile(
 {
     let r = task_file::read::read(file, initial, twins, formulas, effects, operators);
     let ReadAnswer::Read(head) = r else {
-        return compiled_file::refuse(own_tables::not_read(r) as u32, out, result);
+        return compiled_file::refuse(entry_tables::not_read(r) as u32, out, result);
     };
     compiled_file::compile_tables(
         head,

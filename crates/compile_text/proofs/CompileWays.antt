@@ -13,9 +13,9 @@ use Rattle.compiler.specs.declared.CompileAnswer.the-variants.{Compiled, Refuse
 use Rattle.compiler.specs.Fills.{Tables, tables, room-of}
 use Rattle.compiler.specs.Left.{answer-of, left}
 use Rattle.printing.specs.Lines.{lines, refusal-line}
-use Rattle.own_tables.specs.Own.{own-room, compile-number}
-use Rattle.own_tables.specs.Answers.{refused-compile}
-use Rattle.own_tables.proofs.Compiling.{own-number, number-told, not-zero}
+use Rattle.entry_tables.specs.Own.{own-room, compile-number}
+use Rattle.entry_tables.specs.Answers.{refused-compile}
+use Rattle.entry_tables.proofs.Compiling.{own-number, number-told, not-zero}
 use Rattle.compile_text.specs.Text.{compiled-by, compiled-text}
 use Rattle.compile_text.specs.Giving.{CompileIn, Gives}
 

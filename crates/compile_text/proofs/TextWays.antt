@@ -12,8 +12,8 @@ use Rattle.task_file.specs.declared.ReadAnswer.the-variants.{Read, Refused}
 use Rattle.task_file.specs.Answers.{lengths}
 use Rattle.task_file.specs.Outcome.{left, read-outcome}
 use Rattle.printing.specs.Lines.{refusal-line}
-use Rattle.own_tables.specs.Own.{own}
-use Rattle.own_tables.proofs.Reading.{ReadAs, read-as, refused-as}
+use Rattle.entry_tables.specs.Own.{own}
+use Rattle.entry_tables.proofs.Reading.{ReadAs, read-as, refused-as}
 use Rattle.compile_text.specs.Text.{compiled-text, text-by, text-of}
 use Rattle.compile_text.specs.Giving.{Own, Gives}
 use Rattle.compile_text.proofs.Cut.{cut-input}

@@ -6,7 +6,7 @@ use Rattle.task.specs.Table.{Task}
 use Rattle.file_format.specs.Reading.{Outcome, accepted, rejected, reading}
 use Rattle.normal_form.specs.Finished.{finished}
 use Rattle.printing.specs.Lines.{lines, refusal-line}
-use Rattle.own_tables.specs.Own.{own, compile-number}
+use Rattle.entry_tables.specs.Own.{own, compile-number}
 
 -- by compiling's number: the finished task's lines, or the number's
 unfoldable pub compiled-by : ℕ → Task → List ℕ

@@ -4,7 +4,7 @@ ghost use Rattle.task.specs.Table.{lent, task-of};
 ghost use Rattle.task.specs.Check.{refusal};
 ghost use Rattle.printing.specs.Lines.{lines, refusal-line};
 ghost use Rattle.compiler.specs.Left.{answer-of};
-ghost use Rattle.own_tables.specs.Answers.{refused-compile};
+ghost use Rattle.entry_tables.specs.Answers.{refused-compile};
 ghost use Rattle.compile_text.specs.Giving.{Gives, printed-length};
 use compiler::CompileAnswer;
 use printing::PrintAnswer;

@@ -20,7 +20,7 @@ fn text_through(
 {
     let r = task_file::read::read(file, initial, twins, formulas, effects, operators);
     let ReadAnswer::Read(head) = r else {
-        return number_line(own_tables::not_read(r), out);
+        return number_line(entry_tables::not_read(r), out);
     };
     compile_text(head, initial, twins, formulas, effects, operators, out)
 }

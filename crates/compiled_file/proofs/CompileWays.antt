@@ -17,9 +17,9 @@ use Rattle.compiler.specs.declared.CompileAnswer.{CompileAnswer}
 use Rattle.compiler.specs.declared.CompileAnswer.the-variants.{Compiled, Refused}
 use Rattle.compiler.specs.Fills.{tables}
 use Rattle.compiler.specs.Left.{answer-of, left}
-use Rattle.own_tables.specs.Own.{own-room, compile-number}
-use Rattle.own_tables.specs.Answers.{refused-compile}
-use Rattle.own_tables.proofs.Compiling.{own-number, same-refusal, number-told, not-zero}
+use Rattle.entry_tables.specs.Own.{own-room, compile-number}
+use Rattle.entry_tables.specs.Answers.{refused-compile}
+use Rattle.entry_tables.proofs.Compiling.{own-number, same-refusal, number-told, not-zero}
 use Rattle.compiled_file.specs.Filed.{no-file, filed, compiled-by, compiled}
 use Rattle.compiled_file.specs.Giving.{CompileGives, compile-through, small-room, SmallSource}
 

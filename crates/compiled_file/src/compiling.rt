@@ -5,7 +5,7 @@ ghost use Rattle.task.specs.Table.{lent, task-of};
 ghost use Rattle.task.specs.Check.{refusal};
 ghost use Rattle.compiler.specs.Fills.{tables, room-of};
 ghost use Rattle.compiler.specs.Left.{answer-of};
-ghost use Rattle.own_tables.specs.Answers.{refused-compile};
+ghost use Rattle.entry_tables.specs.Answers.{refused-compile};
 ghost use Rattle.compiled_file.specs.Filed.{compiled};
 ghost use Rattle.compiled_file.specs.Giving.{CompileGives, compile-through, small-room, SmallSource};
 use crate::filing::give_file;

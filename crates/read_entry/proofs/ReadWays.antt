@@ -8,7 +8,7 @@ use Rattle.task.specs.Table.{Lent, task-of}
 use Rattle.task.proofs.Kept.{kept-rules}
 use Rattle.task.proofs.Passed.{passed, counts-tested}
 use Rattle.file_format.specs.Reading.{Lengths, Outcome, rejected, reading}
-use Rattle.own_tables.proofs.Reading.{ReadAs, same-reading}
+use Rattle.entry_tables.proofs.Reading.{ReadAs, same-reading}
 use Rattle.layouts.specs.Layout.{tables-bytes, laid}
 use Rattle.layouts.specs.Giving.{Lays, flat-bytes, LayIn}
 use Rattle.layouts.proofs.LayWays.{flat-in}

@@ -2,7 +2,7 @@
 use Prim.Native.Nat.{ℕ}
 use mathlib.Core.List.{List}
 use Rattle.file_format.specs.Reading.{Outcome, accepted, rejected, reading}
-use Rattle.own_tables.specs.Own.{own}
+use Rattle.entry_tables.specs.Own.{own}
 use Rattle.layouts.specs.Layout.{tables-bytes, Laid, zeros, laid}
 
 -- 20: the buffer is shorter than the layout

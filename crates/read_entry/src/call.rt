@@ -3,7 +3,7 @@ ghost use lib.ListN.{length};
 ghost use Rattle.file_format.specs.Reading.{reading};
 ghost use Rattle.task_file.specs.Answers.{lengths};
 ghost use Rattle.layouts.specs.Giving.{Lays};
-ghost use Rattle.own_tables.specs.Own.{small};
+ghost use Rattle.entry_tables.specs.Own.{small};
 ghost use Rattle.read_entry.specs.Entry.{read-entry, read-entry-by};
 use task::clear::clear_bytes;
 use task_file::ReadAnswer;
@@ -23,7 +23,7 @@ fn read_through(
     let r = task_file::read::read(file, initial, twins, formulas, effects, operators);
     let ReadAnswer::Read(head) = r else {
         clear_bytes(tables);
-        return own_tables::not_read(r) as u32;
+        return entry_tables::not_read(r) as u32;
     };
     layouts::laying::lay(head, initial, twins, formulas, effects, operators, tables)
 }

@@ -21,7 +21,7 @@ use Rattle.normal_form.specs.Compiled.{padded}
 use Rattle.layouts.specs.Layout.{low-bytes, numbers-of, flag, stop-number, run-bytes}
 use Rattle.layouts.specs.Giving.{numbered, stop-of, plan-of, outcome-bytes, ResultGives}
 use Rattle.layouts.proofs.RunWays.{numbers-length, free-of}
-use Rattle.own_tables.proofs.Reading.{ReadAs, same-reading}
+use Rattle.entry_tables.proofs.Reading.{ReadAs, same-reading}
 use Rattle.run_entry.specs.Entry.{run-number, run-given, run-entry, run-entry-by}
 use Rattle.run_entry.specs.Giving.{RunEntryGives, FreeRun, RunIn, small-run, SmallRun}
 

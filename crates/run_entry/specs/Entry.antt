@@ -10,7 +10,7 @@ use Rattle.task.specs.Check.{unless}
 use Rattle.task.specs.Run.{plain-run}
 use Rattle.file_format.specs.Reading.{Outcome, accepted, rejected, reading}
 use Rattle.normal_form.specs.Compiled.{padded}
-use Rattle.own_tables.specs.Own.{own}
+use Rattle.entry_tables.specs.Own.{own}
 use Rattle.layouts.specs.Layout.{numbers-of, stop-number, run-bytes, zeros}
 
 pub record RunEntry : Type 0 where

@@ -6,7 +6,7 @@ ghost use Rattle.task.specs.Table.{lent, task-of};
 ghost use Rattle.task.specs.Check.{refusal};
 ghost use Rattle.file_format.specs.Reading.{reading};
 ghost use Rattle.task_file.specs.Answers.{lengths};
-ghost use Rattle.own_tables.specs.Own.{small};
+ghost use Rattle.entry_tables.specs.Own.{small};
 ghost use Rattle.run_entry.specs.Entry.{run-number, run-given, run-entry, run-entry-by};
 ghost use Rattle.run_entry.specs.Giving.{small-run, FreeRun, SmallRun, RunIn, RunEntryGives};
 use task::Head;
@@ -216,7 +216,7 @@ fn run_through(
     let r = task_file::read::read(file, initial, twins, formulas, effects, operators);
     let ReadAnswer::Read(head) = r else {
         clear_bytes(result);
-        return own_tables::not_read(r) as u32;
+        return entry_tables::not_read(r) as u32;
     };
     run_read(
         head,

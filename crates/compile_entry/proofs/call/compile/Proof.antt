@@ -1,6 +1,6 @@
 use lib.ListN.{length}
 use Rattle.compile_entry.specs.Entry.{compile-entry}
-use Rattle.own_tables.specs.Own.{small}
+use Rattle.entry_tables.specs.Own.{small}
 use Rattle.compiled_file.proofs.FileWays.{same-outputs}
 use Rattle.compile_entry.proofs.CompileWays.{compile-settled}
 use borrow.Author.Needs.{needs}

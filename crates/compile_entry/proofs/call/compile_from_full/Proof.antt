@@ -1,4 +1,4 @@
-use Rattle.own_tables.specs.Own.{own}
+use Rattle.entry_tables.specs.Own.{own}
 use Rattle.compile_entry.specs.Entry.{compile-entry, compile-entry-by}
 use borrow.Author.Needs.{needs}
 use Rattle.compile_entry.proofs.call.compile_from_full.Statement.{statement}

@@ -1,6 +1,6 @@
 use lib.ListN.{length}
 use Rattle.task.specs.Table.{lent}
-use Rattle.own_tables.specs.Own.{own-room}
+use Rattle.entry_tables.specs.Own.{own-room}
 use Rattle.compiled_file.proofs.CompileWays.{full-given}
 use borrow.Author.Needs.{needs}
 use Rattle.compiled_file.proofs.compiling.compile_full.Statement.{statement}

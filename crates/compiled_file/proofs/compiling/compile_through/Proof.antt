@@ -4,7 +4,7 @@ use Rattle.task.specs.Table.{lent}
 use Rattle.compiler.specs.Fills.{tables, room-of}
 use Rattle.compiler.specs.declared.CompileAnswer.{CompileAnswer}
 use Rattle.compiler.specs.Left.{answer-of}
-use Rattle.own_tables.specs.Answers.{refused-compile}
+use Rattle.entry_tables.specs.Answers.{refused-compile}
 use Rattle.compiled_file.proofs.CompileWays.{not-compiled, compiled-kept, compiled-given}
 use borrow.Author.Needs.{needs}
 use Rattle.compiled_file.proofs.compiling.compile_through.Statement.{statement}

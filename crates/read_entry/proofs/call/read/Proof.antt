@@ -1,5 +1,5 @@
 use lib.ListN.{length}
-use Rattle.own_tables.specs.Own.{small}
+use Rattle.entry_tables.specs.Own.{small}
 use Rattle.read_entry.proofs.ReadWays.{read-settled, read-again}
 use borrow.Author.Needs.{needs}
 use Rattle.read_entry.proofs.call.read.Statement.{statement}

@@ -1,4 +1,4 @@
-use Rattle.own_tables.specs.Own.{own}
+use Rattle.entry_tables.specs.Own.{own}
 use Rattle.read_entry.specs.Entry.{read-entry, read-entry-by}
 use borrow.Author.Needs.{needs}
 use Rattle.read_entry.proofs.call.read_full.Statement.{statement}

@@ -1,4 +1,4 @@
-use Rattle.own_tables.specs.Own.{small}
+use Rattle.entry_tables.specs.Own.{small}
 use borrow.Author.Needs.{needs}
 use Rattle.read_entry.proofs.call.read_small.Statement.{statement}
 use Rattle.read_entry.proofs.call.read_small.Tie as tie

@@ -1,5 +1,5 @@
 use lib.ListN.{length}
-use Rattle.own_tables.specs.Own.{small}
+use Rattle.entry_tables.specs.Own.{small}
 use Rattle.run_entry.proofs.RunWays.{run-settled, not-run, run-again}
 use borrow.Author.Needs.{needs}
 use Rattle.run_entry.proofs.call.run.Statement.{statement}

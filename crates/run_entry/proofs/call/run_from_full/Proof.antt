@@ -1,4 +1,4 @@
-use Rattle.own_tables.specs.Own.{own}
+use Rattle.entry_tables.specs.Own.{own}
 use Rattle.run_entry.specs.Entry.{run-entry, run-entry-by}
 use borrow.Author.Needs.{needs}
 use Rattle.run_entry.proofs.call.run_from_full.Statement.{statement}

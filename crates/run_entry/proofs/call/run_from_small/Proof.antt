@@ -1,4 +1,4 @@
-use Rattle.own_tables.specs.Own.{small}
+use Rattle.entry_tables.specs.Own.{small}
 use borrow.Author.Needs.{needs}
 use Rattle.run_entry.proofs.call.run_from_small.Statement.{statement}
 use Rattle.run_entry.proofs.call.run_from_small.Tie as tie

@@ -15,9 +15,9 @@ use Rattle.task.proofs.Passed.{passed, counts-tested}
 use Rattle.file_format.specs.Reading.{room}
 use Rattle.normal_form.specs.Finished.{finished}
 use Rattle.normal_form.specs.Compiled.{Room, scratch-kept, has-room, fits, compile-refusal, compiled-head, refused, nothing-given, task-given, outcome-by, compiling}
-use Rattle.own_tables.specs.Own.{own, own-room, compile-number}
-use Rattle.own_tables.specs.Answers.{refused-compile}
-use Rattle.own_tables.proofs.Reading.{limits-room}
+use Rattle.entry_tables.specs.Own.{own, own-room, compile-number}
+use Rattle.entry_tables.specs.Answers.{refused-compile}
+use Rattle.entry_tables.proofs.Reading.{limits-room}
 
 -- a task fits one's own room if it keeps the limits
 limits-alone : (t : Task) → fits t own-room ≡ counts-kept (head-of t)

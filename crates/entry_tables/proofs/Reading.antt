@@ -20,7 +20,7 @@ use Rattle.file_format.specs.Reading.{Lengths, room, head-read, head-kept, Outc
 use Rattle.task_file.specs.Outcome.{ReadOutcome, padded, outcome-of, left, read-outcome}
 use Rattle.file_format.proofs.Parse.{Bytes}
 use Rattle.file_format.proofs.RoundTrip.{Accepted, written-read}
-use Rattle.own_tables.specs.Own.{own}
+use Rattle.entry_tables.specs.Own.{own}
 
 -- Own tables have room for every head that keeps the limits.
 pub limits-room : (h : Head) → counts-kept h ≡ true → room own h ≡ true
