@@ -16,8 +16,8 @@ use Rattle.file_format.specs.Reading.{Room, accepted, rejected, reading}
 use Rattle.file_format.proofs.RoundTrip.{read-written}
 use Rattle.normal_form.specs.Finished.{finished}
 use Rattle.printing.specs.Lines.{lines, refusal-line}
-use Rattle.entries.specs.Entries.{own}
-use Rattle.compile_text.specs.Text.{compile-number, compiled-by, compiled-text, text-by, text-of}
+use Rattle.entry_tables.specs.Own.{own, compile-number}
+use Rattle.compile_text.specs.Text.{compiled-by, compiled-text, text-by, text-of}
 use Rattle.compile_text.proofs.TextWays.{cut-text}
 use Rattle.claims.specs.Statements.{Compiles}
 

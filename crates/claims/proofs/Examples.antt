@@ -21,8 +21,8 @@ use Rattle.file_format.specs.Reading.{room, head-read, head-kept, bit-of, spare
 use Rattle.printing.specs.Lines.{digits-within, decimal, word, line, numbered, values, initial-line, head-line, twin-lines, lines, refusal-line}
 use Rattle.printing.proofs.Examples.{bytes}
 use Rattle.plan.specs.Outcome.{state-kept, scratch-kept as run-scratch-kept, sequence-kept, early-refusal, run-refusal, run-refused, end-of, run-answer, run-told, run-by, ran}
-use Rattle.entries.specs.Entries.{own}
-use Rattle.compile_text.specs.Text.{compile-number, compiled-by, compiled-text, text-by, text-of}
+use Rattle.entry_tables.specs.Own.{own, compile-number}
+use Rattle.compile_text.specs.Text.{compiled-by, compiled-text, text-by, text-of}
 use Rattle.claims.specs.Examples.{outcome, Example, table}
 
 -- every entry of the table is told as it stands there

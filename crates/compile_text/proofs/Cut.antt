@@ -1,9 +1,9 @@
 -- Reading looks at 43,341 bytes at most, the length of the longest file: an input that is cut behind them gets the number of the whole.
 -- Assumes nothing.
-use Prim.Native.Nat.{ℕ, zero, suc, _+_, _-_, _*_, _/_, _≤_, _<_, min}
+use Prim.Native.Nat.{ℕ, _+_, _-_, _*_, _≤_}
 use native.Mathlib.Nat.{min-eq-left}
 use native.Mathlib.Omega.{arith}
-use mathlib.Core.Path.{_≡_, refl, sym, ap, _∙_}
+use mathlib.Core.Path.{_≡_, refl, ap, _∙_}
 use mathlib.Core.Bool.{Bool, true, false}
 use mathlib.Core.List.{List, [], _∷_, _++_}
 use lib.ListN.{length, take, drop, length-take, take-append-drop}
@@ -12,11 +12,11 @@ use lib.Dec.{leb}
 use borrow.Author.Tests.{leb-true, leb-false}
 use Rattle.task.specs.declared.Head.{Head}
 use Rattle.task.specs.Bounded.{upto}
-use Rattle.task.specs.Table.{Row, Operator, Task}
+use Rattle.task.specs.Table.{Row, Operator}
 use Rattle.task.specs.Check.{counts-kept, goal-kept, twin-kept, formula-kept, effect-kept, operator-kept}
 use Rattle.task.proofs.Passed.{Counts, counts-tested}
 use Rattle.file_format.specs.Bytes.{bytes-for}
-use Rattle.file_format.specs.Parse.{Parsed, parsed, refused, next, kept, byte-read, word-read, mapped-read, table-read}
+use Rattle.file_format.specs.Parse.{Parsed, next, kept, byte-read, word-read, mapped-read, table-read}
 use Rattle.file_format.specs.Reading.{Lengths, room, head-from, head-clear, head-read, head-kept, bit-of, spare-clear, initial-read, twin-read, row-clear, row-from, row-read, formula-read, effect-read, operator-clear, operator-from, operator-fields-read, operator-read, tables-read, task-read, at-end, reading}
 use Rattle.compile_text.proofs.Looks.{Same, both-refused, both-parsed, Looks, wider, pure-looks, kept-looks, next-looks, byte-looks, word-looks, mapped-looks, table-looks}
 

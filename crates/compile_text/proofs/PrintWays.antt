@@ -1,15 +1,15 @@
 -- Printing into the program's buffer: every text fits. Assumes nothing.
-use Prim.Native.Nat.{ℕ, zero, suc, _+_, _-_, _*_, _≤_, _<_}
+use Prim.Native.Nat.{ℕ, _+_, _-_, _*_, _≤_, _<_}
 use native.Mathlib.Nat.{min-eq-left}
 use native.Mathlib.Omega.{arith}
-use mathlib.Core.Path.{_≡_, refl, sym, ap, _∙_}
-use mathlib.Core.List.{List, [], _∷_, _++_}
+use mathlib.Core.Path.{_≡_, sym, ap, _∙_}
+use mathlib.Core.List.{List, _++_}
 use lib.ListN.{length, getD, replicate, length-append, length-take}
 use Rattle.task.specs.Table.{Lent, task-of}
 use Rattle.task.specs.Check.{refusal}
 use Rattle.normal_form.specs.Compiled.{padded}
 use Rattle.printing.specs.declared.PrintAnswer.{PrintAnswer}
-use Rattle.printing.specs.declared.PrintAnswer.the-variants.{Printed, Refused}
+use Rattle.printing.specs.declared.PrintAnswer.the-variants.{Printed}
 use Rattle.printing.specs.Lines.{lines, refusal-line}
 use Rattle.printing.specs.Printing.{Outcome, printing, printing-refusal}
 use Rattle.printing.specs.Printing.{Gives as Prints}

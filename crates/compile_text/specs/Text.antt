@@ -2,22 +2,13 @@
 -- "Sheets to try").
 use Prim.Native.Nat.{ℕ, zero, suc}
 use mathlib.Core.List.{List}
-use lib.ListN.{length}
-use lib.Dec.{eqb}
 use Rattle.task.specs.Table.{Task}
-use Rattle.task.specs.Check.{counts-kept, unless}
-use Rattle.task.specs.Words.{head-of}
 use Rattle.file_format.specs.Reading.{Outcome, accepted, rejected, reading}
 use Rattle.normal_form.specs.Finished.{finished}
 use Rattle.printing.specs.Lines.{lines, refusal-line}
-use Rattle.entries.specs.Entries.{own}
+use Rattle.entry_tables.specs.Own.{own, compile-number}
 
--- 13, then 15. The tables and the scratch are the program's own, with room for every task: neither 5 nor 14 is given, and 15 is about the
--- limits alone.
-unfoldable pub compile-number : Task → ℕ
-compile-number t = unless (eqb (length (t .originals)) 0) 13 (unless (counts-kept (head-of (finished t))) 15 0)
-
--- by the number: the finished task's lines, or the number's
+-- by compiling's number: the finished task's lines, or the number's
 unfoldable pub compiled-by : ℕ → Task → List ℕ
 compiled-by zero t = lines (finished t)
 compiled-by (suc n) t = refusal-line (suc n)
@@ -29,6 +20,6 @@ unfoldable pub text-by : Outcome → List ℕ
 text-by (accepted t) = compiled-text t
 text-by (rejected n) = refusal-line n
 
--- THE text of an input
+-- THE text of an input. The tables and the scratch are the program's own, with room for every task: neither 5 nor 14 is given.
 unfoldable pub text-of : List ℕ → List ℕ
 text-of file = text-by (reading own file)

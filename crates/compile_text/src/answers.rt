@@ -3,13 +3,12 @@ ghost use mathlib.Core.Path.{_≡_};
 ghost use Rattle.task.specs.Table.{lent, task-of};
 ghost use Rattle.task.specs.Check.{refusal};
 ghost use Rattle.printing.specs.Lines.{lines, refusal-line};
-ghost use Rattle.entries.specs.Giving.{refused-number};
-ghost use Rattle.entries.specs.CompileGiving.{refused-compile};
+ghost use Rattle.compiler.specs.Left.{answer-of};
+ghost use Rattle.entry_tables.specs.Answers.{refused-compile};
 ghost use Rattle.compile_text.specs.Giving.{Gives, printed-length};
 use compiler::CompileAnswer;
 use printing::PrintAnswer;
 use task::Head;
-use task_file::ReadAnswer;
 
 fn printed(r: PrintAnswer) -> usize
     ensures { λ n. ⌜ n ≡ printed-length r ⌝ }
@@ -20,17 +19,8 @@ fn printed(r: PrintAnswer) -> usize
     }
 }
 
-pub fn not_read(r: ReadAnswer) -> u16
-    ensures { λ n. ⌜ n ≡ refused-number r ⌝ }
-{
-    match r {
-        ReadAnswer::Read(_) => 0,
-        ReadAnswer::Refused(n) => n,
-    }
-}
-
 pub fn not_compiled(r: CompileAnswer) -> u16
-    ensures { λ n. ⌜ n ≡ refused-compile r ⌝ }
+    ensures { λ n. ⌜ n ≡ refused-compile (answer-of r) ⌝ }
 {
     match r {
         CompileAnswer::Compiled(_) => 0,

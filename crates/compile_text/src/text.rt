@@ -1,9 +1,6 @@
 // The text of an input.
-ghost use mathlib.Core.Path.{_≡_};
-ghost use Rattle.entries.specs.Giving.{Own};
 ghost use Rattle.compile_text.specs.Text.{text-of};
-ghost use Rattle.compile_text.specs.Giving.{Gives};
-use crate::answers::not_read;
+ghost use Rattle.compile_text.specs.Giving.{Own, Gives};
 use crate::answers::number_line;
 use crate::compiling::compile_text;
 use task_file::ReadAnswer;
@@ -23,7 +20,7 @@ fn text_through(
 {
     let r = task_file::read::read(file, initial, twins, formulas, effects, operators);
     let ReadAnswer::Read(head) = r else {
-        return number_line(not_read(r), out);
+        return number_line(entry_tables::not_read(r), out);
     };
     compile_text(head, initial, twins, formulas, effects, operators, out)
 }

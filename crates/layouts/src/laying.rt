@@ -6,7 +6,7 @@ ghost use Rattle.task_writer.specs.Putting.{Put};
 ghost use Rattle.layouts.specs.Layout.{laid};
 ghost use Rattle.layouts.specs.Giving.{Lays, LayIn, flat-bytes};
 use task::Head;
-use task_file::clear::clear_bytes;
+use task::clear::clear_bytes;
 use task_writer::put::put_byte;
 use task_writer::put_tables::put_words;
 

@@ -7,7 +7,7 @@ ghost use Rattle.layouts.specs.Layout.{low-bytes, flag};
 ghost use Rattle.layouts.specs.Giving.{stop-of, plan-of, ResultGives};
 use plan::End;
 use plan::RunOutcome;
-use task_file::clear::clear_bytes;
+use task::clear::clear_bytes;
 use task_writer::put::put_byte;
 
 // The `count` low bytes of a number, the lowest first. Linear in the count.

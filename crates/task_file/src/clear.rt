@@ -1,14 +1,5 @@
 // Clearing lent tables.
-ghost use mathlib.Core.Path.{_≡_};
-ghost use lib.ListN.{length, replicate};
 ghost use Rattle.task_file.specs.Answers.{Cleared};
-
-// All 0, by the loop of the check's crate. Linear.
-pub fn clear_bytes(bytes: &mut [u8])
-    ensures { λ r. ⌜ now (bytes .exit) ≡ replicate (length (now (bytes .entry))) 0 ⌝ }
-{
-    task::clear::clear_bytes(bytes);
-}
 
 // Every table of a task all 0. Linear.
 pub fn clear_tables(

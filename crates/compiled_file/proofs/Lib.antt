@@ -1,0 +1,2 @@
+pub mod FileWays
+pub mod CompileWays

@@ -1,3 +1,0 @@
-pub mod ReadWays
-pub mod RunWays
-pub mod CompileWays
