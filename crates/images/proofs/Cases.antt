@@ -1,30 +1,23 @@
--- What the code of images answers in each case. Assumes nothing.
-use Prim.Native.Nat.{ℕ, _+_, _-_, _*_, _≤_, _<_}
+-- What the code of images asks and answers at a row and at its first operand. Assumes nothing.
+use Prim.Native.Nat.{ℕ, _+_, _-_, _≤_, _<_}
 use native.Mathlib.Omega.{arith}
-use mathlib.Core.Path.{_≡_, refl, sym, ap, ap₂, _∙_}
-use mathlib.Core.Bool.{Bool, true, false}
+use native.Mathlib.Decide.{ℕ-discrete}
+use mathlib.Core.Path.{_≡_, refl, sym, ap, _∙_}
+use mathlib.Core.Bool.{Bool, true, false, not}
 use mathlib.Core.List.{List}
-use lib.ListN.{length}
+use lib.ListN.{length, getD}
 use Rattle.task.specs.Table.{Row, row-at}
-use Rattle.normal_form.specs.Builder.{Build, give, join, pair, row, variable-row, Polarity, plain, negated, opposite}
-use Rattle.normal_form.specs.Image.{literal}
-use Rattle.normal_form.specs.Growth.{Steady}
+use Rattle.normal_form.specs.Builder.{Build, pair, Polarity, plain, negated, opposite}
 use Rattle.normal_form.proofs.Growth.{steady-give}
-use Rattle.normal_form.proofs.Steady.{steady-literal}
 use Rattle.formula_builder.specs.declared.Words.{Words}
 use Rattle.formula_builder.specs.declared.Frame.{Frame}
 use Rattle.formula_builder.specs.declared.Size.{Size}
 use Rattle.formula_builder.specs.declared.Step.{Step}
-use Rattle.formula_builder.specs.Held.{Store, row-of, held, size-of, side, done-step, JoinReady, Builds}
+use Rattle.formula_builder.specs.Held.{Store, row-of, size-of, side, done-step, Ready, JoinReady, Builds}
 use Rattle.formula_builder.proofs.Steps.{builds-give}
-use Rattle.images.specs.declared.Sides.{Sides}
-use Rattle.images.specs.Images.{image-at, pair-at, equivalent-at, Notes, Asks, AsksPair, Images}
-use Rattle.images.proofs.Rows.{sides-by, crossed-by, constant-by, operands, negated-operand, unused-word, of-constant, of-variable, of-negation, of-pair, of-equivalent}
-use Rattle.images.proofs.Memos.{images-as, images-leaf}
-
-constant-small : (p : Polarity) (k : ℕ) → k < 2 → constant-by p k < 2
-constant-small plain k h = h
-constant-small negated k h = omega arith
+use Rattle.images.specs.Images.{image-at, keeps, first-at, pair-at, memo-place, is-row, Notes, Asks, AsksPair, AsksEquivalent, AsksRow, AsksUp, LeafReady, Images, Kept, Reaches}
+use Rattle.images.proofs.Rows.{operands, negated-operand, unused-word, first-none, first-own, first-other}
+use Rattle.images.proofs.Memos.{images-as, asks-next, images-leaf, images-known}
 
 -- what a join of two rows asks
 pub join-asks :
@@ -53,122 +46,185 @@ notes-ready scratch k b h =
           omega (arith, d .below, d .ready .rows .within, d .ready .rows .limit);
     }
 
--- Row i with the words w.
-module _ (frame : Frame) (formulas : List ℕ) (at : Size) (before : Store) (scratch : List ℕ) (i : ℕ) (a : Asks frame formulas at before scratch i) (w : Words) (e : row-of w ≡ row-at formulas i) where
-  kind-read : w .kind ≡ row-at formulas i .kind
-  kind-read = ap (λ (r : Row). r .kind) e
+-- Words that stay: nothing was written, two steps, and from a higher row on.
+pub kept-refl : (n : ℕ) (frame : Frame) (scratch : List ℕ) → Kept n frame scratch scratch
+kept-refl n frame scratch = record { same = λ q j h g. refl }
 
-  a-read : w .a ≡ row-at formulas i .a
-  a-read = ap (λ (r : Row). r .a) e
+pub kept-then : {n : ℕ} {frame : Frame} {s1 s2 s3 : List ℕ} → Kept n frame s1 s2 → Kept n frame s2 s3 → Kept n frame s1 s3
+kept-then x y = record { same = λ q j h g. y .same q j h g ∙ x .same q j h g }
 
-  b-read : w .b ≡ row-at formulas i .b
-  b-read = ap (λ (r : Row). r .b) e
+pub kept-from : {n m : ℕ} {frame : Frame} {s1 s2 : List ℕ} → n ≤ m → Kept n frame s1 s2 → Kept m frame s1 s2
+kept-from l x = record { same = λ q j h g. x .same q j (omega arith) g }
 
-  pub lower : w .kind ≡ 3 → w .a < i
-  lower k =
-      omega (arith, a-read, negated-operand frame formulas scratch (a .source) i (a .formula) (sym kind-read ∙ k))
+-- a lower row
+pub asks-lower :
+    {frame : Frame} {formulas : List ℕ} {at : Size} {before : Store} {scratch : List ℕ} {i j : ℕ}
+    → Asks frame formulas at before scratch i
+    → j < i
+    → Asks frame formulas at before scratch j
+asks-lower a h =
+    record { source = a .source; ready = a .ready; memo = a .memo; formula = omega (arith, a .formula) }
 
-  pub asks-operand : w .kind ≡ 3 → Asks frame formulas at before scratch (w .a)
-  asks-operand k =
-      record { source = a .source; ready = a .ready; memo = a .memo; formula = omega (arith, lower k, a .formula) }
+pub asks-row :
+    {frame : Frame} {formulas : List ℕ} {at : Size} {before : Store} {scratch : List ℕ} {i : ℕ}
+    → Asks frame formulas at before scratch i
+    → AsksRow frame formulas scratch i
+asks-row a = record { source = a .source; formula = a .formula }
 
-  pub asks-pair : 4 ≤ w .kind → AsksPair frame formulas at before scratch i
-  asks-pair k =
-      let o = operands frame formulas scratch (a .source) i (a .formula) (omega (arith, kind-read)) in
-      record { asks = a; left = o .0; right = o .1 }
+-- The memo has formula i.
+pub reaches-known :
+    (frame : Frame) (formulas : List ℕ) (at : Size) (before : Store) (scratch : List ℕ) (p : Polarity) (i w : ℕ)
+    → Asks frame formulas at before scratch i
+    → getD scratch (memo-place frame p i) 0 ≡ w
+    → is-row w ≡ true
+    → Reaches (image-at frame formulas p i) (i + 1) frame formulas at before before scratch scratch (done-step at (w - 1))
+reaches-known frame formulas at before scratch p i w a e is =
+    record { images = images-known frame formulas at before scratch p i w a e is; above = kept-refl (i + 1) frame scratch }
 
-  module _ (p : Polarity) where
-    pub case-constant :
-        w .kind < 2
-        → Images (image-at frame formulas p i) frame formulas at before before scratch scratch
-        (done-step at (constant-by p (w .kind)))
-    case-constant k =
-        images-as
-        (of-constant frame formulas scratch (a .source) i (a .formula) p (omega (arith, kind-read))
-        ∙ ap (λ (k : ℕ). give (constant-by p k)) (sym kind-read))
-        (images-leaf (steady-give (constant-by p (w .kind))) (a .memo)
-        (builds-give (constant-by p (w .kind)) (a .ready) (omega (arith, constant-small p (w .kind) k, a .ready .two))))
+-- what a row below j asks, after the step of j's first operand
+pub up-asks :
+    {frame : Frame} {formulas : List ℕ} {before : Store} {scratch : List ℕ} {j k : ℕ} {l : Step}
+    → AsksUp frame formulas before scratch j l
+    → l .full ≡ false
+    → k < j
+    → Asks frame formulas (size-of l) before scratch k
+up-asks u f h =
+    record {
+      source = u .row .source;
+      ready = u .ready f;
+      memo = u .memo f;
+      formula = omega (arith, u .row .formula);
+    }
 
-    module _ {after : Store} {r : Step} where
-      pub case-variable :
-          w .kind ≡ 2
-          → Builds (literal (frame .variables) p (w .a)) frame at before after r
-          → Images (image-at frame formulas p i) frame formulas at before after scratch scratch r
-      case-variable k b =
-          images-as
-          (of-variable frame formulas scratch (a .source) i (a .formula) p (sym kind-read ∙ k)
-          ∙ ap (literal (frame .variables) p) (sym a-read))
-          (images-leaf (steady-literal (frame .variables) p (w .a)) (a .memo) b)
+pub asks-join :
+    {frame : Frame} {formulas : List ℕ} {at : Size} {before : Store} {scratch : List ℕ} {i left right : ℕ}
+    → AsksEquivalent frame formulas at before scratch i left right
+    → JoinReady frame at (before .table) left right
+asks-join a =
+    let r = a .pair .asks .ready in
+    record { rows = r .rows; two = r .two; left = a .first; right = a .second }
 
-      module _ {scratch' : List ℕ} where
-        pub case-negation :
-            w .kind ≡ 3
-            → Images (image-at frame formulas (opposite p) (w .a)) frame formulas at before after scratch scratch' r
-            → Images (image-at frame formulas p i) frame formulas at before after scratch scratch' r
-        case-negation k x =
-            images-as
-            (of-negation frame formulas scratch (a .source) i (a .formula) p (sym kind-read ∙ k)
-            ∙ ap (image-at frame formulas (opposite p)) (sym a-read))
-            x
+-- Row i, whose two words w name formulas.
+module _ {frame : Frame} {formulas : List ℕ} {at : Size} {before : Store} {scratch : List ℕ} {i : ℕ} {w : Words} (a : AsksPair frame formulas at before scratch i) (e : row-of w ≡ row-at formulas i) where
+  pub pair-left : w .a < i
+  pair-left = omega (arith, ap (λ (r : Row). r .a) e, a .left)
 
-        pub case-pair :
-            4 ≤ w .kind
-            → w .kind < 7
-            → Images (pair-at frame formulas i (sides-by p (w .kind))) frame formulas at before after scratch scratch' r
-            → Images (image-at frame formulas p i) frame formulas at before after scratch scratch' r
-        case-pair l h x =
-            images-as
-            (of-pair frame formulas scratch (a .source) i (a .formula) p (omega (arith, kind-read)) (omega (arith, kind-read))
-            ∙ ap (λ (k : ℕ). pair-at frame formulas i (sides-by p k)) (sym kind-read))
-            x
-
-        pub case-equivalent :
-            7 ≤ w .kind
-            → Images (equivalent-at frame formulas i (crossed-by p)) frame formulas at before after scratch scratch' r
-            → Images (image-at frame formulas p i) frame formulas at before after scratch scratch' r
-        case-equivalent l x =
-            images-as (of-equivalent frame formulas scratch (a .source) i (a .formula) p (omega (arith, kind-read))) x
-
-  -- a variable's row, copied
-  pub case-copied :
-      {after : Store} {r : Step}
-      → 2 ≤ w .kind
-      → w .kind < 3
-      → Builds (row (row-of w)) frame at before after r
-      → Images (image-at frame formulas plain i) frame formulas at before after scratch scratch r
-  unfolding literal variable-row
-  case-copied l h b =
-      let k : w .kind ≡ 2 = omega arith in
-      let z : w .b ≡ 0 = b-read ∙ unused-word frame formulas scratch (a .source) i (a .formula) (sym kind-read ∙ k) in
-      case-variable plain k (rw (k, z) at b)
-
--- Row i's operands, with the words w.
-module _ (frame : Frame) (formulas : List ℕ) (at : Size) (before : Store) (scratch : List ℕ) (i : ℕ) (a : AsksPair frame formulas at before scratch i) (w : Words) (e : row-of w ≡ row-at formulas i) where
-  pub left-lower : w .a < i
-  left-lower = omega (arith, ap (λ (r : Row). r .a) e, a .left)
-
-  pub right-lower : w .b < i
-  right-lower = omega (arith, ap (λ (r : Row). r .b) e, a .right)
-
-  pub asks-left : Asks frame formulas at before scratch (w .a)
-  asks-left =
-      record {
-        source = a .asks .source;
-        ready = a .asks .ready;
-        memo = a .asks .memo;
-        formula = omega (arith, left-lower, a .asks .formula);
-      }
+  pub pair-right : w .b < i
+  pair-right = omega (arith, ap (λ (r : Row). r .b) e, a .right)
 
   pub pair-read :
-      (s : Sides)
-      → pair-at frame formulas i s
-      ≡ pair (side (s .or)) (image-at frame formulas (side (s .left)) (w .a)) (image-at frame formulas (side (s .right)) (w .b))
+      (crossed : Bool)
+      → pair-at frame formulas i crossed
+      ≡ pair plain (image-at frame formulas negated (w .a)) (image-at frame formulas (side (not crossed)) (w .b))
   unfolding pair-at
-  pair-read s = rw (← e)
+  pair-read crossed = rw (← e)
 
 pub past-three : (k : ℕ) → 3 ≤ k → (k ≡ 3 → ⊥) → 4 ≤ k
 past-three k h p = omega arith
 
--- a kind that is none of 0 to 3
-pub four : (k : ℕ) → 2 ≤ k → (k ≡ 2 → ⊥) → (k ≡ 3 → ⊥) → 4 ≤ k
-four k h p q = omega arith
+-- Row j with the words w.
+module _ (frame : Frame) (formulas scratch : List ℕ) (j : ℕ) (a : AsksRow frame formulas scratch j) (w : Words) (e : row-of w ≡ row-at formulas j) where
+  kind-read : w .kind ≡ row-at formulas j .kind
+  kind-read = ap (λ (r : Row). r .kind) e
+
+  a-read : w .a ≡ row-at formulas j .a
+  a-read = ap (λ (r : Row). r .a) e
+
+  b-read : w .b ≡ row-at formulas j .b
+  b-read = ap (λ (r : Row). r .b) e
+
+  pub right-lower : 4 ≤ w .kind → w .b < j
+  right-lower h =
+      let o = operands frame formulas scratch (a .source) j (a .formula) (omega (arith, kind-read)) in
+      omega (arith, b-read, o .1)
+
+  pub left-lower : 3 ≤ w .kind → w .a < j
+  left-lower h = go (ℕ-discrete (w .kind) 3)
+    where
+      go : Dec (w .kind ≡ 3) → w .a < j
+      go (yes k) =
+          omega (arith, a-read, negated-operand frame formulas scratch (a .source) j (a .formula) (sym kind-read ∙ k))
+      go (no k) =
+          let o = operands frame formulas scratch (a .source) j (a .formula) (omega (arith, kind-read)) in
+          omega (arith, a-read, o .0)
+
+  pub leaf-ready :
+      {at : Size} {before : Store} → w .kind < 3 → Ready frame at before → LeafReady frame at before (row-of w)
+  leaf-ready h r =
+      record {
+        ready = r;
+        kind = h;
+        unused = λ k. b-read ∙ unused-word frame formulas scratch (a .source) j (a .formula) (sym kind-read ∙ k);
+      }
+
+  pub asks-pair :
+      {at : Size} {before : Store} {scratch' : List ℕ}
+      → 4 ≤ w .kind
+      → Asks frame formulas at before scratch' j
+      → AsksPair frame formulas at before scratch' j
+  asks-pair h x =
+      let o = operands frame formulas scratch (a .source) j (a .formula) (omega (arith, kind-read)) in
+      record { asks = x; left = o .0; right = o .1 }
+
+  -- after both operands
+  pub asks-second :
+      {m : Build ℕ} {before after : Store} {scratch' : List ℕ} {l r : Step}
+      → AsksUp frame formulas before scratch j l
+      → l .full ≡ false
+      → 4 ≤ w .kind
+      → Images m frame formulas (size-of l) before after scratch scratch' r
+      → r .full ≡ false
+      → length scratch' ≡ length scratch
+      → AsksEquivalent frame formulas (size-of r) after scratch' j (l .row) (r .row)
+  asks-second u f four x g long =
+      let d = x .builds .done g in
+      record {
+        pair = asks-pair four (asks-next j (up-asks u f (right-lower four)) x g long (a .formula));
+        first = omega (arith, u .below f, d .grew);
+        second = d .below;
+      }
+
+  -- Its first operand.
+  module _ (p : Polarity) {at : Size} {before : Store} where
+    pub start-none :
+        w .kind < 3
+        → Asks frame formulas at before scratch j
+        → Reaches (first-at frame formulas p j) j frame formulas at before before scratch scratch (done-step at 0)
+    start-none h x =
+        record {
+          images =
+              images-as (first-none frame formulas p j (omega (arith, kind-read)))
+              (images-leaf (steady-give 0) (x .memo) (builds-give 0 (x .ready) (omega (arith, x .ready .two))));
+          above = kept-refl j frame scratch;
+        }
+
+    module _ {after : Store} {scratch' : List ℕ} {r : Step} where
+      pub start-own :
+          3 ≤ w .kind
+          → keeps p (w .kind) ≡ true
+          → Reaches (image-at frame formulas p (w .a)) (w .a + 1) frame formulas at before after scratch scratch' r
+          → Reaches (first-at frame formulas p j) j frame formulas at before after scratch scratch' r
+      start-own h k x =
+          record {
+            images =
+                images-as
+                (first-own frame formulas p j (omega (arith, kind-read)) (ap (keeps p) (sym kind-read) ∙ k)
+                ∙ ap (image-at frame formulas p) (sym a-read))
+                (x .images);
+            above = kept-from (omega (arith, left-lower h)) (x .above);
+          }
+
+      pub start-other :
+          3 ≤ w .kind
+          → keeps p (w .kind) ≡ false
+          → Reaches (image-at frame formulas (opposite p) (w .a)) (w .a + 1) frame formulas at before after scratch scratch' r
+          → Reaches (first-at frame formulas p j) j frame formulas at before after scratch scratch' r
+      start-other h k x =
+          record {
+            images =
+                images-as
+                (first-other frame formulas p j (omega (arith, kind-read)) (ap (keeps p) (sym kind-read) ∙ k)
+                ∙ ap (image-at frame formulas (opposite p)) (sym a-read))
+                (x .images);
+            above = kept-from (omega (arith, left-lower h)) (x .above);
+          }

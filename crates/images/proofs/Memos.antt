@@ -3,34 +3,49 @@ use Prim.Native.Nat.{ℕ, zero, suc, _+_, _-_, _*_, _≤_, _<_}
 use native.Mathlib.Omega.{arith}
 use native.Mathlib.Decide.{decLt, ℕ-discrete}
 use mathlib.Core.Path.{_≡_, refl, sym, ap, ap₂, _∙_}
-use mathlib.Core.Bool.{Bool, true, false, cond, true≢false}
+use mathlib.Core.Bool.{Bool, true, false, cond, not, true≢false}
 use mathlib.Core.List.{List, [], _∷_}
 use lib.ListN.{length, getD, set, length-set}
+use lib.Dec.{ltb, leb}
+use borrow.Author.Tests.{leb-true, eq-eqb, ne-eqb}
 use lib.Seq.{getD-set-same, getD-set-other}
 use Rattle.task.specs.Bounded.{upto}
 use Rattle.task.specs.Table.{row-at}
 use Rattle.task.proofs.Bounded.{length-upto}
-use Rattle.normal_form.specs.Builder.{St, Got, Build, bind, join, pair, Polarity, plain, negated}
+use Rattle.normal_form.specs.Builder.{St, Got, Build, give, bind, join, pair, Polarity, plain, negated, opposite}
 use Rattle.normal_form.specs.Growth.{Prefix, Grows, Steady}
-use Rattle.normal_form.proofs.Growth.{grows-refl, steady-bind, steady-join, steady-pair}
+use Rattle.normal_form.proofs.Growth.{grows-refl, steady-give, steady-bind, steady-join, steady-pair}
 use Rattle.normal_form.proofs.Steady.{steady-image}
 use Rattle.formula_builder.specs.declared.Frame.{Frame}
 use Rattle.formula_builder.specs.declared.Size.{Size}
 use Rattle.formula_builder.specs.declared.Step.{Step}
 use Rattle.formula_builder.specs.Held.{Store, held, size-of, side, done-step, Ready, Done, Builds}
 use Rattle.formula_builder.proofs.Steps.{builds-done, builds-as, builds-bind, builds-stop, prefix-length}
-use Rattle.images.specs.declared.Sides.{Sides}
-use Rattle.images.specs.Images.{tree, image-at, pair-at, equivalent-at, memo-place, Known, Memo, noted, Source, Asks, AsksPair, Images}
+use Rattle.images.specs.Images.{tree, image-at, keeps, first-at, pair-at, memo-place, Known, is-row, Memo, noted, Source, Asks, Images}
 
 pub steady-image-at : (frame : Frame) (formulas : List ℕ) (p : Polarity) (i : ℕ) → Steady (image-at frame formulas p i)
 unfolding image-at
 steady-image-at frame formulas p i = steady-image (frame .variables) p (tree frame formulas i)
 
-pub steady-pair-at : (frame : Frame) (formulas : List ℕ) (i : ℕ) (s : Sides) → Steady (pair-at frame formulas i s)
+pub steady-first-at : (frame : Frame) (formulas : List ℕ) (p : Polarity) (i : ℕ) → Steady (first-at frame formulas p i)
+unfolding first-at
+steady-first-at frame formulas p i =
+    go (ltb (row-at formulas i .kind) 3) (keeps p (row-at formulas i .kind))
+  where
+    go :
+        (leaf own : Bool)
+        → Steady
+        (cond leaf (give 0)
+        (cond own (image-at frame formulas p (row-at formulas i .a)) (image-at frame formulas (opposite p) (row-at formulas i .a))))
+    go true own = steady-give 0
+    go false true = steady-image-at frame formulas p (row-at formulas i .a)
+    go false false = steady-image-at frame formulas (opposite p) (row-at formulas i .a)
+
+pub steady-pair-at : (frame : Frame) (formulas : List ℕ) (i : ℕ) (crossed : Bool) → Steady (pair-at frame formulas i crossed)
 unfolding pair-at
-steady-pair-at frame formulas i s =
-    steady-pair (side (s .or)) (steady-image-at frame formulas (side (s .left)) (row-at formulas i .a))
-    (steady-image-at frame formulas (side (s .right)) (row-at formulas i .b))
+steady-pair-at frame formulas i crossed =
+    steady-pair plain (steady-image-at frame formulas negated (row-at formulas i .a))
+    (steady-image-at frame formulas (side (not crossed)) (row-at formulas i .b))
 
 -- what is known stays known
 pub known-grows : {m : Build ℕ} {s t : St} {r : ℕ} → Steady m → Grows s t → Known m s r → Known m t r
@@ -49,7 +64,7 @@ pub memo-grows :
     → Memo frame formulas scratch s
     → Memo frame formulas scratch t
 memo-grows {frame} {formulas} g m =
-    record { known = λ p i r h e. known-grows (steady-image-at frame formulas p i) g (m .known p i r h e) }
+    record { known = λ p i r h e few. known-grows (steady-image-at frame formulas p i) g (m .known p i r h e few) }
 
 -- a step that is done grows the state that the tables hold
 pub done-grows :
@@ -106,8 +121,9 @@ memo-noted frame formulas scratch s p i r h room k m = record { known = known }
         (q : Polarity) (j x : ℕ)
         → j < frame .formulas
         → getD (set scratch (memo-place frame p i) (r + 1)) (memo-place frame q j) 0 ≡ x + 1
+        → x < 4096
         → Known (image-at frame formulas q j) s x
-    known q j x g e = go (ℕ-discrete (memo-place frame q j) (memo-place frame p i))
+    known q j x g e few = go (ℕ-discrete (memo-place frame q j) (memo-place frame p i))
       where
         go : Dec (memo-place frame q j ≡ memo-place frame p i) → Known (image-at frame formulas q j) s x
         go (yes same) =
@@ -118,7 +134,7 @@ memo-noted frame formulas scratch s p i r h room k m = record { known = known }
             rw d (place-once frame (λ q j. Known (image-at frame formulas q j) s r) p q i j h g same k)
         go (no other) =
             m .known q j x g
-            (sym (getD-set-other scratch (memo-place frame p i) (memo-place frame q j) (r + 1) 0 other) ∙ e)
+            (sym (getD-set-other scratch (memo-place frame p i) (memo-place frame q j) (r + 1) 0 other) ∙ e) few
 
 module _ {m : Build ℕ} {frame : Frame} {formulas : List ℕ} {at : Size} {before after : Store} {scratch scratch' : List ℕ} {r : Step} where
   pub images-as :
@@ -214,16 +230,27 @@ module _ {left right : Build ℕ} {frame : Frame} {formulas : List ℕ} {at : Si
         (images-bind (λ b. join p (l .row) b) y g
         (images-leaf (steady-join p (l .row) (r .row)) (y .memo g) b))
 
+-- what the test of a word says
+pub row-word : (w : ℕ) → is-row w ≡ true → (0 < w) × (w ≤ 4096)
+row-word w e = go (ℕ-discrete w 0)
+  where
+    go : Dec (w ≡ 0) → (0 < w) × (w ≤ 4096)
+    go (yes z) = absurd (true≢false (sym e ∙ rw (eq-eqb w 0 z)))
+    go (no z) =
+        let small : leb w 4096 ≡ true = rw (ne-eqb w 0 z) at e in
+        (omega arith, leb-true w 4096 small)
+
 -- The memo has formula i.
 pub images-known :
     (frame : Frame) (formulas : List ℕ) (at : Size) (before : Store) (scratch : List ℕ) (p : Polarity) (i w : ℕ)
     → Asks frame formulas at before scratch i
     → getD scratch (memo-place frame p i) 0 ≡ w
-    → 0 < w
+    → is-row w ≡ true
     → Images (image-at frame formulas p i) frame formulas at before before scratch scratch (done-step at (w - 1))
 unfolding held
-images-known frame formulas at before scratch p i w a e h =
-    let k = a .memo .known p i (w - 1) (a .formula) (omega arith) in
+images-known frame formulas at before scratch p i w a e is =
+    let h = row-word w is in
+    let k = a .memo .known p i (w - 1) (a .formula) (omega (arith, e, h .0)) (omega (arith, h .0, h .1)) in
     let b : w - 1 < length (upto (at .rows) (row-at (before .table))) = k .below in
     record {
       builds =

@@ -1,17 +1,11 @@
 // Image and negated image of a source formula, by row number, with a memo in lent scratch: word i for row i's image,
-// word F + i for its negated image, each the row that was built plus 1, or 0.
+// word F + i for its negated image, each the row that was built plus 1; or 0, or 4097 + k, where nothing is known and the way came down from row k.
 mod cycle;
+mod leaves;
 mod memo;
-mod operands;
+mod sides;
+mod spine;
 
 pub use cycle::image;
-pub use cycle::negated_image;
-pub use cycle::sided;
 pub use memo::note;
-
-// How a row of two operands is built: joined by "or" or by "and", and whether the left and the right operand are negated.
-pub struct Sides {
-    pub or: bool,
-    pub left: bool,
-    pub right: bool,
-}
+pub use sides::sided;

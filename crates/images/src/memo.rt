@@ -1,9 +1,29 @@
 // The memo.
+use formula_builder::Frame;
 use formula_builder::Step;
 ghost use mathlib.Core.Path.{_≡_};
 ghost use Prim.Native.Nat.{ℕ, _≤_, _<_};
 ghost use lib.ListN.{length};
-ghost use Rattle.images.specs.Images.{noted, Notes};
+ghost use Rattle.formula_builder.specs.Held.{side};
+ghost use Rattle.images.specs.Images.{is-row, memo-place, noted, Notes};
+
+// Whether a word of the memo is a row, plus 1.
+pub fn is_row(w: u16) -> bool
+    ensures { λ r. ⌜ r ≡ is-row w ⌝ }
+{
+    if w == 0 {
+        return false;
+    }
+    w <= 4096
+}
+
+// Where the memo has the image of formula i, or its negated image.
+pub fn word_of(frame: Frame, i: usize, not: bool) -> usize
+    requires { ⌜ (i < frame .formulas) × (frame .formulas ≤ 4096) ⌝ }
+    ensures { λ r. ⌜ r ≡ memo-place frame (side not) i ⌝ }
+{
+    if not { frame.formulas + i } else { i }
+}
 
 // Notes the row that was built, unless there was no room.
 pub fn note(scratch: &mut [u16], k: usize, r: Step)

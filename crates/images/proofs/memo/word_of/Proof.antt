@@ -1,0 +1,20 @@
+use borrow.Author.Needs.{needs}
+use Rattle.images.proofs.memo.word_of.Statement.{statement}
+use Rattle.images.proofs.memo.word_of.Tie as tie
+use Rattle.images.proofs.memo.word_of.Reads as reads
+use Rattle.images.proofs.memo.word_of.Lts as lts
+
+-- src/memo.rt:25:14
+add-result : tie.Need-add-result
+add-result c = search needs
+
+-- src/memo.rt:21:1
+returns : tie.Need-returns
+returns c = rw (c .before .if1 .taken)
+
+-- src/memo.rt:21:1
+returns-2 : tie.Need-returns-2
+returns-2 c = search needs
+
+pub word-of-spec : {M : Type 1} → statement M
+word-of-spec = tie.close (tie.spec add-result returns returns-2)
