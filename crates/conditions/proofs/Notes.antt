@@ -38,7 +38,7 @@ noted-grows {frame} {formulas} {effects} g n =
       columns = n .columns;
       kept =
           record {
-            known = λ t e r h v p c w. known-grows (steady-condition-at frame formulas effects t e) g (n .kept .known t e r h v p c w);
+            known = λ t e r h v p c i w. known-grows (steady-condition-at frame formulas effects t e) g (n .kept .known t e r h v p c i w);
           };
     }
 
@@ -59,7 +59,7 @@ noted-blank {frame} {effects} {notes} formulas s spanned columns blank =
       columns = columns;
       kept =
           record {
-            known = λ t e r h v p c w.
+            known = λ t e r h v p c i w.
                 absurd
                 (impossible r
                 (sym
@@ -117,7 +117,7 @@ pub place-found :
     → k
     ≡ 3 * frame .effects
     + (getD notes (2 * frame .effects + e) 0 * (2 * frame .variables) + (2 * t .variable + boolByte (t .clear)))
-    → k < length notes
+    → k + frame .effects < length notes
     → KeptAt frame notes t e k
 unfolding column kept-place
 place-found frame notes t e k c p v q w =
@@ -210,17 +210,18 @@ module _ {frame : Frame} {notes : List ℕ} {t : Target} {e k : ℕ} (h : e < fr
         → u .variable < frame .variables
         → u .negated ≡ false
         → 0 < column frame notes d
+        → kept-place frame (column frame notes d) u + frame .effects < length notes
         → Dec (kept-place frame (column frame notes d) u ≡ k)
         → getD (set notes k (r + 1)) (kept-place frame (column frame notes d) u) 0 ≡ x + 1
         → Known (condition-at frame formulas effects u d) s x
-    read-back u d x g v m c (no other) w =
-        n .kept .known u d x g v m c
+    read-back u d x g v m c i (no other) w =
+        n .kept .known u d x g v m c i
         (sym (getD-set-other notes k (kept-place frame (column frame notes d) u) (r + 1) 0 other) ∙ w)
-    read-back u d x g v m c (yes same) w =
+    read-back u d x g v m c i (yes same) w =
         let z = places-apart frame (column frame notes d) (column frame notes e) u t v (p .variable) (same ∙ p .place) in
         let row : d ≡ e = n .columns .apart d e g h (p .has-column) (z .0) in
         let there : getD (set notes k (r + 1)) (kept-place frame (column frame notes d) u) 0 ≡ r + 1 =
-        rw same (getD-set-same notes k (r + 1) 0 (p .within)) in
+        rw same (getD-set-same notes k (r + 1) 0 (omega (arith, p .within))) in
         let value : x ≡ r = omega (arith, there, w) in
         rw (same-condition frame formulas effects u t d e (m ∙ sym (p .plain)) (z .1) (z .2) row, value) now
 
@@ -241,9 +242,9 @@ module _ {frame : Frame} {notes : List ℕ} {t : Target} {e k : ℕ} (h : e < fr
               };
           kept =
               record {
-                known = λ u d x g v m c w.
+                known = λ u d x g v m c i w.
                     let same = same-column (r + 1) d g in
-                    read-back u d x g v m (rw same at c) (ℕ-discrete (kept-place frame (column frame notes d) u) k)
+                    read-back u d x g v m (rw same at c) (rw (same, length-set notes k (r + 1)) at i) (ℕ-discrete (kept-place frame (column frame notes d) u) k)
                     (rw same at w);
               };
         }
@@ -253,6 +254,7 @@ module _ {frame : Frame} {notes : List ℕ} {t : Target} {e k : ℕ} (h : e < fr
       record {
         known = λ formulas effects s n w.
             n .kept .known t e (getD notes k 0 - 1) h (p .variable) (p .plain) (p .has-column)
+            (rw (p .place) at (p .within))
             (ap (λ j. getD notes j 0) (sym (p .place)) ∙ omega (arith, w));
       }
 

@@ -101,9 +101,9 @@ unfoldable pub kept-place : Frame → ℕ → Target → ℕ
 kept-place frame c t =
     3 * frame .effects + (c * (2 * frame .variables) + (2 * t .variable + cond (t .clear) 1 0))
 
--- Each row has a word for its column, and no two rows have the same.
+-- Each row has a word for its column, and one of the last words for a path down the rows; no two rows have the same column.
 pub record Columns (frame : Frame) (notes : List ℕ) : Type 0 where
-  pub words : 3 * frame .effects ≤ length notes
+  pub words : 4 * frame .effects ≤ length notes
   pub apart :
       (d e : ℕ)
       → d < frame .effects
@@ -112,7 +112,7 @@ pub record Columns (frame : Frame) (notes : List ℕ) : Type 0 where
       → column frame notes d ≡ column frame notes e
       → d ≡ e
 
--- Each condition that is kept, for whatever operator, is the row that building gives now, plus 1.
+-- Each condition that is kept, for whatever operator, is the row that building gives now, plus 1. None is kept in the words of the path.
 pub record Kept (frame : Frame) (formulas effects notes : List ℕ) (s : St) : Type 0 where
   pub known :
       (t : Target) (e r : ℕ)
@@ -120,6 +120,7 @@ pub record Kept (frame : Frame) (formulas effects notes : List ℕ) (s : St) : T
       → t .variable < frame .variables
       → t .negated ≡ false
       → 0 < column frame notes e
+      → kept-place frame (column frame notes e) t + frame .effects < length notes
       → getD notes (kept-place frame (column frame notes e) t) 0 ≡ r + 1
       → Known (condition-at frame formulas effects t e) s r
 
@@ -131,7 +132,7 @@ pub record Noted (frame : Frame) (formulas effects notes : List ℕ) (s : St) : 
 
 -- What looking into row e's column asks.
 pub record Looks (frame : Frame) (notes : List ℕ) (e : ℕ) : Type 0 where
-  pub words : 3 * frame .effects ≤ length notes
+  pub words : 4 * frame .effects ≤ length notes
   pub limit : frame .effects ≤ 4096
   pub variables : frame .variables ≤ 512
   pub effect : e < frame .effects
@@ -142,7 +143,7 @@ pub record KeptAt (frame : Frame) (notes : List ℕ) (t : Target) (e k : ℕ) : 
   pub variable : t .variable < frame .variables
   pub has-column : 0 < column frame notes e
   pub place : k ≡ kept-place frame (column frame notes e) t
-  pub within : k < length notes
+  pub within : k + frame .effects < length notes
 
 -- Word w is 0, or what the notes keep of target t and row e.
 pub record Recalls (frame : Frame) (notes : List ℕ) (t : Target) (e w : ℕ) : Type 0 where

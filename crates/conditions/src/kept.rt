@@ -8,7 +8,8 @@ ghost use mathlib.Core.Bool.{false};
 ghost use Prim.Native.Nat.{_<_};
 ghost use Rattle.conditions.specs.Conditions.{Looks, KeptAt, Recalls, Keeps};
 
-// The word that keeps the condition of target t and effect e; 0, if none does. Only plain conditions are kept, and only as far as the notes reach.
+// The word that keeps the condition of target t and effect e; 0, if none does. Only plain conditions are kept, and only
+// as far as the notes reach: their last E words are for a path.
 fn place(notes: &[u16], frame: Frame, t: Target, e: usize) -> usize
     requires { ⌜ Looks frame (now notes) e ⌝ }
     ensures { λ k. ⌜ (0 < k → KeptAt frame (now (notes .entry)) t e k) ⌝ }
@@ -25,7 +26,7 @@ fn place(notes: &[u16], frame: Frame, t: Target, e: usize) -> usize
         return 0;
     }
     let k = 3 * frame.effects + ((c as usize) * (2 * frame.variables) + (2 * v + t.clear as usize));
-    if notes.len() <= k {
+    if notes.len() - frame.effects <= k {
         return 0;
     }
     k

@@ -1,6 +1,7 @@
 // The condition under which an effect sets or clears a variable, by the effect's row number, with a memo in lent scratch:
 // word 2F + e for effect e, the row that was built plus 1, or 0. The memo serves one target. The notes serve all operators: words 2e and 2e + 1
 // are the span of effect e, word 2E + e its column, and behind those each column above 0 keeps the conditions that were built, two words for each variable.
+// The last E words of the notes are for a path down the rows.
 mod cycle;
 mod kept;
 mod touch;

@@ -19,7 +19,7 @@ pub record Begins (l : Lent) (rows twins effects : ℕ) (x : Tables) : Type 0 wh
 -- All tables are 0, and so are the one in which rows are built and the one for notes; there is room for records.
 pub record Owns (l : Lent) (rows twins effects : ℕ) (x : Tables) (notes built records : List ℕ) : Type 0 where
   pub begins : Begins l rows twins effects x
-  pub notes-space : 3 * l .head .effects ≤ length notes
+  pub notes-space : 4 * l .head .effects ≤ length notes
   pub blank-notes : Zeros notes
   pub fresh : Fresh (frame-of (l .head) rows twins) built
   pub space : 6912 ≤ length records

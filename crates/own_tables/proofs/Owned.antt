@@ -13,7 +13,7 @@ module _ {l : Lent} {rows twins effects : ℕ} {x : Tables} where
   owns :
       (notes built : ℕ)
       → Begins l rows twins effects x
-      → 3 * l .head .effects ≤ notes
+      → 4 * l .head .effects ≤ notes
       → 6 * rows ≤ built
       → Owns l rows twins effects x (replicate notes 0) (replicate built 0) (replicate 6912 0)
   owns notes built b n h =

@@ -17,7 +17,7 @@ pub record Elsewhere (frame : Frame) (i : ℕ) (notes notes' : List ℕ) : Type 
 -- Row e has a word for its column.
 pub record Meets (frame : Frame) (notes : List ℕ) (e : ℕ) : Type 0 where
   pub limit : frame .effects ≤ 4096
-  pub room : 3 * frame .effects ≤ length notes
+  pub room : 4 * frame .effects ≤ length notes
   pub effect : e < frame .effects
 
 -- So do the rows that row i names, which are lower.
@@ -29,7 +29,7 @@ pub record HandsOn (frame : Frame) (notes : List ℕ) (i : ℕ) (r : Words) : Ty
 -- Each operator's effect is one of the rows.
 pub record FindsRoots (frame : Frame) (operators : List ℕ) (count : ℕ) (notes : List ℕ) : Type 0 where
   pub limit : frame .effects ≤ 4096
-  pub room : 3 * frame .effects ≤ length notes
+  pub room : 4 * frame .effects ≤ length notes
   pub operators-limit : count ≤ 256
   pub words : 3 * count ≤ length operators
   pub effect : (k : ℕ) → k < count → row-at operators k .a < frame .effects
@@ -42,12 +42,12 @@ pub record FindsColumns (frame : Frame) (effects operators : List ℕ) (count : 
 -- Each row has a word for its column.
 pub record Renumbers (frame : Frame) (notes : List ℕ) : Type 0 where
   pub limit : frame .effects ≤ 4096
-  pub room : 3 * frame .effects ≤ length notes
+  pub room : 4 * frame .effects ≤ length notes
 
 -- The rows keep the rules, too.
 pub record Thins (frame : Frame) (effects notes : List ℕ) : Type 0 where
   pub finds : FindsSpans frame effects notes
-  pub room : 3 * frame .effects ≤ length notes
+  pub room : 4 * frame .effects ≤ length notes
 
 -- Row i is the next one.
 pub record Settles (frame : Frame) (effects notes : List ℕ) (i : ℕ) : Type 0 where

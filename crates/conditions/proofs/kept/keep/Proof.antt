@@ -16,7 +16,7 @@ returns : tie.Need-returns
 returns c = keep-none (c .before .before .before .before .args .frame) (c .before .before .before .before .args .notes .now) (c .before .before .before .before .args .t) (c .before .before .before .before .args .e) (c .before .before .before .before .args .r)
 
 note-requires : tie.Need-note-requires
-note-requires c κs = record { room = c .before .before .place .ensures (omega (arith, c .before .if1 .left)) .within; small = c .before .before .before .before .before .pre .1 }
+note-requires c κs = record { room = omega (arith, c .before .before .place .ensures (omega (arith, c .before .if1 .left)) .within); small = c .before .before .before .before .before .pre .1 }
 
 same-length-2 : tie.Need-same-length-2
 same-length-2 c = c .before .before .note .kept .0

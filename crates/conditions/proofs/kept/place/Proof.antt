@@ -60,12 +60,15 @@ add-k-2 c = omega (arith, c .before .before .before .before .before .before .bef
 add-k-3 : tie.Need-add-k-3
 add-k-3 c = omega (arith, c .before .before .before .before .before .before .before .before .before .before .pre .limit, c .before .before .before .before .before .before .before .before .before .before .pre .variables, c .before .before .before .if3 .left, place-small (getD (c .before .before .before .before .before .before .before .before .before .before .args .notes .now) (2 * c .before .before .before .before .before .before .before .before .before .before .args .frame .effects + c .before .before .before .before .before .before .before .before .before .before .args .e) 0) (c .before .before .before .before .before .before .before .before .before .before .args .frame .variables) (omega (arith, c .before .before .before .before .before .before .before .before .shared-slice-known .given (2 * c .before .before .before .before .before .before .before .before .before .before .args .frame .effects + c .before .before .before .before .before .before .before .before .before .before .args .e))) (c .before .before .before .before .before .before .before .before .before .before .pre .variables), byte-small (c .before .before .before .before .before .before .before .before .before .before .args .t .clear))
 
+sub-if4 : tie.Need-sub-if4
+sub-if4 c = omega (arith, c .before .before .before .before .before .before .before .before .before .before .before .pre .words)
+
 returns-4 : tie.Need-returns-4
-returns-4 c = place-none (c .before .before .before .before .before .before .before .before .before .before .before .args .frame) (c .before .before .before .before .before .before .before .before .before .before .before .args .notes .now) (c .before .before .before .before .before .before .before .before .before .before .before .args .t) (c .before .before .before .before .before .before .before .before .before .before .before .args .e)
+returns-4 c = place-none (c .before .before .before .before .before .before .before .before .before .before .before .before .args .frame) (c .before .before .before .before .before .before .before .before .before .before .before .before .args .notes .now) (c .before .before .before .before .before .before .before .before .before .before .before .before .args .t) (c .before .before .before .before .before .before .before .before .before .before .before .before .args .e)
 
 returns-5 : tie.Need-returns-5
-returns-5 c = λ h. place-found (c .before .before .before .before .before .before .before .before .before .before .before .args .frame) (c .before .before .before .before .before .before .before .before .before .before .before .args .notes .now) (c .before .before .before .before .before .before .before .before .before .before .before .args .t) (c .before .before .before .before .before .before .before .before .before .before .before .args .e) _ (c .before .before .before .before .before .before .before .before .if1 .left) (c .before .before .before .before .before .before .before .if2 .left) (c .before .before .before .before .if3 .left) refl (c .if4 .left)
+returns-5 c = λ h. place-found (c .before .before .before .before .before .before .before .before .before .before .before .before .args .frame) (c .before .before .before .before .before .before .before .before .before .before .before .before .args .notes .now) (c .before .before .before .before .before .before .before .before .before .before .before .before .args .t) (c .before .before .before .before .before .before .before .before .before .before .before .before .args .e) _ (c .before .before .before .before .before .before .before .before .before .if1 .left) (c .before .before .before .before .before .before .before .before .if2 .left) (c .before .before .before .before .before .if3 .left) refl (omega (arith, c .if4 .left, c .before .before .before .before .before .before .before .before .before .before .before .before .pre .words))
 
 pub place-spec : {M : Type 1} → statement M
 place-spec =
-    tie.close (tie.spec mul-c add-c mul-c-2 shared-slice-read-c returns returns-2 cast-v returns-3 mul-k cast-k mul-k-2 mul-k-3 mul-k-4 cast-k-2 add-k add-k-2 add-k-3 returns-4 returns-5)
+    tie.close (tie.spec mul-c add-c mul-c-2 shared-slice-read-c returns returns-2 cast-v returns-3 mul-k cast-k mul-k-2 mul-k-3 mul-k-4 cast-k-2 add-k add-k-2 add-k-3 sub-if4 returns-4 returns-5)

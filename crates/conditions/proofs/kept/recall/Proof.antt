@@ -15,7 +15,7 @@ mul-result : tie.Need-mul-result
 mul-result c = omega (arith, c .before .before .before .good, c .before .place .ensures (omega (arith, c .if1 .left)) .within)
 
 shared-slice-read-result : tie.Need-shared-slice-read-result
-shared-slice-read-result c = c .before .before .place .ensures (omega (arith, c .before .if1 .left)) .within
+shared-slice-read-result c = omega (arith, c .before .before .place .ensures (omega (arith, c .before .if1 .left)) .within)
 
 returns-2 : tie.Need-returns-2
 returns-2 c = recall-kept (c .before .before .before .before .pre .effect) (c .before .before .place .ensures (omega (arith, c .before .if1 .left)))
