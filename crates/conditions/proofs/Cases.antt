@@ -1,238 +1,345 @@
--- What the code of effect conditions answers in each case. Assumes nothing.
-use Prim.Native.Nat.{ℕ, _+_, _*_, _≤_, _<_}
+-- What is seen of a row, and what the code answers on the way up, in each case. Assumes nothing.
+use Prim.Native.Nat.{ℕ, _+_, _-_, _*_, _≤_, _<_}
 use native.Mathlib.Omega.{arith}
-use mathlib.Core.Path.{_≡_, refl, sym, ap, ap₂, _∙_}
+use mathlib.Core.Path.{_≡_, refl, sym, ap, _∙_}
 use mathlib.Core.Bool.{Bool, true, false, cond, not}
 use mathlib.Core.List.{List}
-use lib.ListN.{length}
+use lib.ListN.{length, getD}
 use lib.Dec.{eqb}
 use borrow.Author.Tests.{eq-eqb, ne-eqb}
+use Rattle.task.specs.Bounded.{upto}
 use Rattle.task.specs.Table.{Row, row-at, effect-kind}
-use Rattle.task.specs.Semantics.{Formula}
-use Rattle.normal_form.specs.Builder.{Build, give, bind, join, pair, Polarity, plain, negated, opposite, falsity, truth}
-use Rattle.normal_form.specs.Image.{image}
+use Rattle.task.proofs.Bounded.{length-upto}
+use Rattle.normal_form.specs.Builder.{Build, give, bind, join, Polarity, plain, negated, falsity, truth}
 use Rattle.normal_form.specs.Conditions.{guarded}
 use Rattle.normal_form.specs.Growth.{Steady}
-use Rattle.normal_form.proofs.Growth.{steady-give, steady-join}
+use Rattle.normal_form.proofs.Growth.{steady-give, steady-bind, steady-join, steady-cond}
 use Rattle.normal_form.proofs.Steady.{steady-guarded}
 use Rattle.formula_builder.specs.declared.Words.{Words}
 use Rattle.formula_builder.specs.declared.Frame.{Frame}
 use Rattle.formula_builder.specs.declared.Size.{Size}
 use Rattle.formula_builder.specs.declared.Step.{Step}
-use Rattle.formula_builder.specs.Held.{Store, row-of, held, size-of, side, done-step, JoinReady, Builds}
-use Rattle.formula_builder.proofs.Steps.{builds-give, builds-done, falsity-small}
-use Rattle.images.specs.Images.{tree, image-at, Images, Asks as AsksImage}
-use Rattle.images.proofs.Memos.{steady-image-at}
+use Rattle.formula_builder.specs.Held.{Store, row-of, held, size-of, side, JoinReady, Builds}
+use Rattle.formula_builder.proofs.Steps.{builds-done, falsity-small}
+use Rattle.images.specs.Images.{tree, image-at, Known, noted, Images}
+use Rattle.images.proofs.Memos.{known-grows, done-grows, done-known, images-as, images-leaf, images-bind, images-stop}
 use Rattle.conditions.specs.declared.Target.{Target}
-use Rattle.conditions.specs.Conditions.{atom-of, acts, condition-at, EffectMemo, outside, Asks, AsksRow, Conditions}
-use Rattle.conditions.proofs.Rows.{both-lower, under-lower, of-atom, of-both, of-under}
-use Rattle.conditions.proofs.Memos.{conditions-as, conditions-leaf, conditions-bind, conditions-stop, conditions-of-images}
+use Rattle.conditions.specs.Conditions.{atom-of, acts, condition-at, outside, Recalls, Keeps, Asks, Conditions}
+use Rattle.conditions.specs.Paths.{spine, right-of, onward, Sees, AsksRight, AsksUnder, AsksOnward, Climbs}
+use Rattle.conditions.proofs.Rows.{both-lower, under-lower, under-else, of-atom, of-spine}
+use Rattle.conditions.proofs.Notes.{steady-condition-at, stays-refl, stays-trans, stays-fewer}
+use Rattle.conditions.proofs.Memos.{conditions-as, conditions-wider, conditions-of-images, conditions-leaf, conditions-bind, conditions-stop, conditions-known, memo-known, conditions-noted}
 
 pub truth-small : (p : Polarity) → truth p < 2
 truth-small plain = omega arith
 truth-small negated = omega arith
 
-side-not : (b : Bool) → opposite (side b) ≡ side (not b)
-side-not true = refl
-side-not false = refl
+-- What is seen of row e.
+module _ (frame : Frame) (effects notes scratch : List ℕ) (t : Target) (e : ℕ) where
+  sees-word :
+      (w : ℕ)
+      → 0 < w
+      → ((formulas : List ℕ) (at : Size) (before : Store)
+      → Asks frame formulas effects notes t at before scratch e
+      → Known (condition-at frame formulas effects t e) (held at before) (w - 1))
+      → Sees frame effects notes scratch t e w
+  sees-word w h k = record { known = λ formulas at before a g. k formulas at before a; composed = λ q. absurd (omega (arith, h, q)) }
 
--- The variable lies outside row e's span.
-pub case-outside :
-    {notes : List ℕ} (frame : Frame) (formulas effects : List ℕ) (t : Target) (at : Size) (before : Store) (scratch : List ℕ) (e : ℕ)
-    → Asks frame formulas effects notes t at before scratch e
-    → true ≡ outside notes (t .variable) e
-    → Conditions (condition-at frame formulas effects t e) frame formulas effects notes t e at before before scratch scratch
-    (done-step at (falsity (side (t .negated))))
-case-outside frame formulas effects t at before scratch e a h =
-    let x = falsity (side (t .negated)) in
-    conditions-as (a .noted .spanned .alone formulas (t .variable) e (a .effect) (sym h) .idle t refl)
-    (conditions-leaf (steady-give x) (a .noted) (a .memo) (a .effect-memo)
-    (builds-give x (a .ready) (omega (arith, falsity-small (side (t .negated)), a .ready .two))))
+  -- a constant
+  sees-constant :
+      (x : ℕ)
+      → x < 2
+      → ((formulas : List ℕ) (at : Size) (before : Store)
+      → Asks frame formulas effects notes t at before scratch e
+      → condition-at frame formulas effects t e ≡ give x)
+      → Sees frame effects notes scratch t e (x + 1)
+  unfolding held give
+  sees-constant x h k =
+      sees-word (x + 1) (omega arith)
+      (λ formulas at before a.
+      let same : x + 1 - 1 ≡ x = omega arith in
+      rw same
+      (record {
+        again = ap (λ (m : Build ℕ). m (held at before)) (k formulas at before a);
+        below = rw (length-upto (at .rows) (row-at (before .table))) (omega (arith, h, a .ready .two));
+      }))
 
--- Row e with the words w.
-module _ {notes : List ℕ} (frame : Frame) (formulas effects : List ℕ) (t : Target) (at : Size) (before : Store) (scratch : List ℕ) (e : ℕ) (a : Asks frame formulas effects notes t at before scratch e) (w : Words) (q : row-of w ≡ row-at effects e) where
-  pub asks-row : (k : ℕ) → w .kind ≡ k → AsksRow k frame formulas effects notes t at before scratch e
-  asks-row k h = record { asks = a; is-kind = ap (λ (r : Row). r .kind) (sym q) ∙ h }
+  pub sees-outside : true ≡ outside notes (t .variable) e → Sees frame effects notes scratch t e (falsity (side (t .negated)) + 1)
+  sees-outside h =
+      sees-constant (falsity (side (t .negated))) (falsity-small (side (t .negated)))
+      (λ formulas at before a. a .noted .spanned .alone formulas (t .variable) e (a .effect) (sym h) .idle t refl)
 
-  module _ (three : w .kind ≡ 3 → ⊥) (four : w .kind ≡ 4 → ⊥) where
-    -- its condition is a constant, by whether it is the atom
-    constant :
-        (b : Bool)
-        → b ≡ acts (atom-of t) (effect-kind (w .kind)) (w .a)
-        → condition-at frame formulas effects t e ≡ give (cond b (truth (side (t .negated))) (falsity (side (t .negated))))
-    constant b h =
-        of-atom frame formulas effects scratch (a .effect-source) e (a .effect) t
-        (λ k. three (ap (λ (r : Row). r .kind) q ∙ k))
-        (λ k. four (ap (λ (r : Row). r .kind) q ∙ k))
-        ∙ ap
-        (λ (r : Row).
-        give
-        (cond (acts (atom-of t) (effect-kind (r .kind)) (r .a)) (truth (side (t .negated))) (falsity (side (t .negated)))))
-        (sym q)
-        ∙ ap (λ (x : Bool). give (cond x (truth (side (t .negated))) (falsity (side (t .negated))))) (sym h)
+  pub sees-memo :
+      0 < getD scratch (2 * frame .formulas + e) 0 → Sees frame effects notes scratch t e (getD scratch (2 * frame .formulas + e) 0)
+  sees-memo h =
+      sees-word (getD scratch (2 * frame .formulas + e) 0) h
+      (λ formulas at before a. memo-known frame formulas effects t at before scratch e a h)
 
-    pub case-acts :
-        true ≡ acts (atom-of t) (effect-kind (w .kind)) (w .a)
-        → Conditions (condition-at frame formulas effects t e) frame formulas effects notes t e at before before scratch scratch
-        (done-step at (truth (side (t .negated))))
-    case-acts h =
-        let x = truth (side (t .negated)) in
-        conditions-as (constant true h)
-        (conditions-leaf (steady-give x) (a .noted) (a .memo) (a .effect-memo)
-        (builds-give x (a .ready) (omega (arith, truth-small (side (t .negated)), a .ready .two))))
+  pub sees-kept : (w : ℕ) → Recalls frame notes t e w → 0 < w → Sees frame effects notes scratch t e w
+  sees-kept w r h = sees-word w h (λ formulas at before a. r .known formulas effects (held at before) (a .noted) h)
 
-    pub case-idle :
-        false ≡ acts (atom-of t) (effect-kind (w .kind)) (w .a)
-        → Conditions (condition-at frame formulas effects t e) frame formulas effects notes t e at before before scratch scratch
-        (done-step at (falsity (side (t .negated))))
-    case-idle h =
-        let x = falsity (side (t .negated)) in
-        conditions-as (constant false h)
-        (conditions-leaf (steady-give x) (a .noted) (a .memo) (a .effect-memo)
-        (builds-give x (a .ready) (omega (arith, falsity-small (side (t .negated)), a .ready .two))))
+  -- by its words
+  module _ (w : Words) (q : row-of w ≡ row-at effects e) where
+    pub sees-none : 3 ≤ w .kind → Sees frame effects notes scratch t e 0
+    sees-none h =
+        record {
+          known = λ formulas at before a g. absurd (omega (arith, g));
+          composed = λ _. omega (arith, ap (λ (r : Row). r .kind) q, h);
+        }
 
--- Both effects that row e names.
-module _ {notes : List ℕ} (frame : Frame) (formulas effects : List ℕ) (t : Target) (at : Size) (before : Store) (scratch : List ℕ) (e : ℕ) (a : AsksRow 3 frame formulas effects notes t at before scratch e) (w : Words) (q : row-of w ≡ row-at effects e) where
-  lower : (row-at effects e .a < e) × (row-at effects e .b < e)
-  lower = both-lower frame formulas effects scratch (a .asks .effect-source) e (a .asks .effect) (a .is-kind)
+    module _ (low : w .kind < 3) where
+      constant :
+          (b : Bool)
+          → b ≡ acts (atom-of t) (effect-kind (w .kind)) (w .a)
+          → (formulas : List ℕ) (at : Size) (before : Store)
+          → Asks frame formulas effects notes t at before scratch e
+          → condition-at frame formulas effects t e ≡ give (cond b (truth (side (t .negated))) (falsity (side (t .negated))))
+      constant b h formulas at before a =
+          of-atom frame formulas effects scratch (a .effect-source) e (a .effect) t
+          (λ k. omega (arith, ap (λ (r : Row). r .kind) q, low, k))
+          (λ k. omega (arith, ap (λ (r : Row). r .kind) q, low, k))
+          ∙ ap
+          (λ (r : Row).
+          give
+          (cond (acts (atom-of t) (effect-kind (r .kind)) (r .a)) (truth (side (t .negated))) (falsity (side (t .negated)))))
+          (sym q)
+          ∙ ap (λ (x : Bool). give (cond x (truth (side (t .negated))) (falsity (side (t .negated))))) (sym h)
 
-  pub left-lower : w .a < e
-  left-lower = omega (arith, ap (λ (r : Row). r .a) q, lower .0)
+      pub sees-acts :
+          true ≡ acts (atom-of t) (effect-kind (w .kind)) (w .a) → Sees frame effects notes scratch t e (truth (side (t .negated)) + 1)
+      sees-acts h = sees-constant (truth (side (t .negated))) (truth-small (side (t .negated))) (constant true h)
 
-  pub right-lower : w .b < e
-  right-lower = omega (arith, ap (λ (r : Row). r .b) q, lower .1)
+      pub sees-idle :
+          false ≡ acts (atom-of t) (effect-kind (w .kind)) (w .a) → Sees frame effects notes scratch t e (falsity (side (t .negated)) + 1)
+      sees-idle h = sees-constant (falsity (side (t .negated))) (falsity-small (side (t .negated))) (constant false h)
 
-  pub both-read :
-      condition-at frame formulas effects t e
-      ≡ pair (side (not (t .negated))) (condition-at frame formulas effects t (w .a)) (condition-at frame formulas effects t (w .b))
-  both-read =
-      of-both frame formulas effects scratch (a .asks .effect-source) e (a .asks .effect) t (a .is-kind)
-      ∙ rw (side-not (t .negated), ← q)
+-- Formula a over the condition s of the inner effect.
+module _ {frame : Frame} {formulas : List ℕ} {s : Step} {before : Store} {scratch : List ℕ} {a : ℕ} (t : Target) (x : AsksUnder frame formulas s before scratch a) where
+  pub under-folded : s .row ≡ falsity (side (t .negated)) → Images (guarded (frame .variables) (side (t .negated)) (tree frame formulas a) (s .row)) frame formulas (size-of s) before before scratch scratch s
+  unfolding guarded give
+  under-folded h =
+      images-as (rw (eq-eqb (s .row) (falsity (side (t .negated))) h))
+      (images-leaf (steady-give (s .row)) (x .asks .memo)
+      (builds-done (x .going) (record { value = refl; state = refl; ready = x .asks .ready; below = x .inner; grew = omega arith })))
 
--- what a step asks of a lower effect
-pub asks-lower :
-    {frame : Frame} {formulas effects notes : List ℕ} {t : Target} {at : Size} {before : Store} {scratch : List ℕ} {e : ℕ} (d : ℕ)
-    → Asks frame formulas effects notes t at before scratch e
-    → d < e
-    → Asks frame formulas effects notes t at before scratch d
-asks-lower d a h =
-    record {
-      source = a .source;
-      effect-source = a .effect-source;
-      noted = a .noted;
-      ready = a .ready;
-      memo = a .memo;
-      effect-memo = a .effect-memo;
-      effect = omega (arith, a .effect);
-    }
+  module _ (h : s .row ≡ falsity (side (t .negated)) → ⊥) {after : Store} {s2 : List ℕ} {f : Step} (y : Images (image-at frame formulas (side (t .negated)) a) frame formulas (size-of s) before after scratch s2 f) where
+    joins :
+        guarded (frame .variables) (side (t .negated)) (tree frame formulas a) (s .row)
+        ≡ bind (image-at frame formulas (side (t .negated)) a) (λ z. join (side (t .negated)) z (s .row))
+    unfolding guarded image-at
+    joins = rw (ne-eqb (s .row) (falsity (side (t .negated))) h)
 
--- The effect that row e names, under its formula.
-module _ {notes : List ℕ} (frame : Frame) (formulas effects : List ℕ) (t : Target) (at : Size) (before : Store) (scratch : List ℕ) (e : ℕ) (a : AsksRow 4 frame formulas effects notes t at before scratch e) (w : Words) (q : row-of w ≡ row-at effects e) where
-  inner : (row-at effects e .a < frame .formulas) × (row-at effects e .b < e)
-  inner = under-lower frame formulas effects scratch (a .asks .effect-source) e (a .asks .effect) (a .is-kind)
+    pub under-full : f .full ≡ true → Images (guarded (frame .variables) (side (t .negated)) (tree frame formulas a) (s .row)) frame formulas (size-of s) before after scratch s2 f
+    under-full k =
+        images-as joins
+        (images-stop (λ z. join (side (t .negated)) z (s .row)) (λ z. steady-join (side (t .negated)) z (s .row)) y k)
 
-  pub inner-lower : w .b < e
-  inner-lower = omega (arith, ap (λ (r : Row). r .b) q, inner .1)
+    module _ (k : f .full ≡ false) where
+      pub under-join-asks : JoinReady frame (size-of f) (after .table) (f .row) (s .row)
+      under-join-asks =
+          let m = y .builds .done k in
+          record { rows = m .ready .rows; two = m .ready .two; left = m .below; right = omega (arith, x .inner, m .grew) }
 
-  pub formula-there : w .a < frame .formulas
-  formula-there = omega (arith, ap (λ (r : Row). r .a) q, inner .0)
+      pub under-done :
+          {last : Store} {z : Step}
+          → Builds (join (side (t .negated)) (f .row) (s .row)) frame (size-of f) after last z
+          → Images (guarded (frame .variables) (side (t .negated)) (tree frame formulas a) (s .row)) frame formulas (size-of s) before last scratch s2 z
+      under-done b =
+          images-as joins
+          (images-bind (λ z. join (side (t .negated)) z (s .row)) y k
+          (images-leaf (steady-join (side (t .negated)) (f .row) (s .row)) (y .memo k) b))
 
-  guard : ℕ → Build ℕ
-  guard c = guarded (frame .variables) (side (t .negated)) (tree frame formulas (w .a)) c
+-- The right effect d, with the condition s of the left one.
+module _ {frame : Frame} {formulas effects notes : List ℕ} {t : Target} {s : Step} {before : Store} {scratch : List ℕ} {d n : ℕ} (x : AsksRight frame formulas effects notes t s before scratch d n) where
+  -- it is known
+  module _ {w : ℕ} (k : Known (condition-at frame formulas effects t d) (held (size-of s) before) w) where
+    pub known-join-asks : JoinReady frame (size-of s) (before .table) (s .row) w
+    unfolding held
+    known-join-asks =
+        let b : w < length (upto (s .rows) (row-at (before .table))) = k .below in
+        record {
+          rows = x .asks .ready .rows;
+          two = x .asks .ready .two;
+          left = x .left;
+          right = rw (length-upto (s .rows) (row-at (before .table))) at b;
+        }
 
-  steady-guard : (c : ℕ) → Steady (guard c)
-  unfolding guard
-  steady-guard c = steady-guarded (frame .variables) (side (t .negated)) (tree frame formulas (w .a)) c
+    pub right-known :
+        {last : Store} {z : Step}
+        → Builds (join (side (not (t .negated))) (s .row) w) frame (size-of s) before last z
+        → Climbs (right-of frame formulas effects t d (s .row)) frame formulas effects notes notes t d n (size-of s) before last scratch scratch z
+    unfolding right-of
+    right-known b =
+        record {
+          conditions =
+              conditions-bind (λ r. join (side (not (t .negated))) (s .row) r)
+              (conditions-known frame formulas effects t (size-of s) before scratch d w (x .asks) k) refl
+              (conditions-leaf (steady-join (side (not (t .negated))) (s .row) w) (x .asks .noted) (x .asks .memo) (x .asks .effect-memo) b);
+          stays = stays-refl frame notes n;
+        }
 
-  under-read : condition-at frame formulas effects t e ≡ bind (condition-at frame formulas effects t (w .b)) guard
-  unfolding guard
-  under-read =
-      of-under frame formulas effects scratch (a .asks .effect-source) e (a .asks .effect) t (a .is-kind)
-      ∙ ap
-      (λ (r : Row).
-      bind (condition-at frame formulas effects t (r .b))
-      (λ c. guarded (frame .variables) (side (t .negated)) (tree frame formulas (r .a)) c))
-      (sym q)
+  -- it is built
+  module _ {notes' : List ℕ} {after : Store} {s2 : List ℕ} {r : Step} (y : Climbs (condition-at frame formulas effects t d) frame formulas effects notes notes' t d n (size-of s) before after scratch s2 r) where
+    pub right-full :
+        r .full ≡ true
+        → Climbs (right-of frame formulas effects t d (s .row)) frame formulas effects notes notes' t d n (size-of s) before after scratch s2 r
+    unfolding right-of
+    right-full g =
+        record {
+          conditions =
+              conditions-stop (λ r. join (side (not (t .negated))) (s .row) r) (λ r. steady-join (side (not (t .negated))) (s .row) r)
+              (y .conditions) g;
+          stays = y .stays;
+        }
 
-  folds : (c : ℕ) → c ≡ falsity (side (t .negated)) → guard c ≡ give c
-  unfolding guard guarded
-  folds c h = rw (eq-eqb c (falsity (side (t .negated))) h)
+    module _ (g : r .full ≡ false) where
+      pub right-join-asks : JoinReady frame (size-of r) (after .table) (s .row) (r .row)
+      right-join-asks =
+          let m = y .conditions .builds .done g in
+          record { rows = m .ready .rows; two = m .ready .two; left = omega (arith, x .left, m .grew); right = m .below }
 
-  joins :
-      (c : ℕ)
-      → (c ≡ falsity (side (t .negated)) → ⊥)
-      → guard c ≡ bind (image-at frame formulas (side (t .negated)) (w .a)) (λ x. join (side (t .negated)) x c)
-  unfolding guard guarded image-at
-  joins c h = rw (ne-eqb c (falsity (side (t .negated))) h)
-
-  module _ {notes' : List ℕ} {mid : Store} {s2 : List ℕ} {c : Step} (x : Conditions (condition-at frame formulas effects t (w .b)) frame formulas effects notes' t e at before mid scratch s2 c) where
-    pub inner-full :
-        c .full ≡ true
-        → Conditions (condition-at frame formulas effects t e) frame formulas effects notes' t e at before mid scratch s2 c
-    inner-full g = conditions-as under-read (conditions-stop guard steady-guard x g)
-
-    module _ (g : c .full ≡ false) where
-      pub inner-folded :
-          c .row ≡ falsity (side (t .negated))
-          → Conditions (condition-at frame formulas effects t e) frame formulas effects notes' t e at before mid scratch s2 c
-      unfolding give
-      inner-folded h =
-          let d = x .builds .done g in
-          conditions-as under-read
-          (conditions-bind guard x g
-          (conditions-as (folds (c .row) h)
-          (conditions-leaf (steady-give (c .row)) (x .noted g) (x .memo g) (x .effect-memo g)
-          (builds-done g (record { value = refl; state = refl; ready = d .ready; below = d .below; grew = omega arith })))))
-
-      pub asks-formula :
-          length s2 ≡ length scratch
-          → AsksImage frame formulas (size-of c) mid s2 (w .a)
-      asks-formula long =
+      pub right-done :
+          {last : Store} {z : Step}
+          → Builds (join (side (not (t .negated))) (s .row) (r .row)) frame (size-of r) after last z
+          → Climbs (right-of frame formulas effects t d (s .row)) frame formulas effects notes notes' t d n (size-of s) before last scratch s2 z
+      unfolding right-of
+      right-done b =
+          let c = y .conditions in
           record {
-            source =
-                record {
-                  words = a .asks .source .words;
-                  memo = omega (arith, a .asks .source .memo, long);
-                  limit = a .asks .source .limit;
-                  down = a .asks .source .down;
-                };
-            ready = x .builds .done g .ready;
-            memo = x .memo g;
-            formula = formula-there;
+            conditions =
+                conditions-bind (λ r. join (side (not (t .negated))) (s .row) r) c g
+                (conditions-leaf (steady-join (side (not (t .negated))) (s .row) (r .row)) (c .noted g) (c .memo g) (c .effect-memo g) b);
+            stays = y .stays;
           }
 
-      module _ (h : c .row ≡ falsity (side (t .negated)) → ⊥) {after : Store} {s3 : List ℕ} {f : Step} (y : Images (image-at frame formulas (side (t .negated)) (w .a)) frame formulas (size-of c) mid after s2 s3 f) where
-        built : Conditions (image-at frame formulas (side (t .negated)) (w .a)) frame formulas effects notes' t e (size-of c) mid after s2 s3 f
-        built = conditions-of-images (steady-image-at frame formulas (side (t .negated)) (w .a)) (x .noted g) (x .effect-memo g) y
+pub steady-onward :
+    (frame : Frame) (formulas effects : List ℕ) (t : Target) (e l : ℕ) → Steady (onward frame formulas effects t e l)
+unfolding onward right-of
+steady-onward frame formulas effects t e l =
+    steady-cond (eqb (row-at effects e .kind) 3)
+    (steady-bind (steady-condition-at frame formulas effects t (row-at effects e .b)) (λ r. steady-join (side (not (t .negated))) l r))
+    (steady-guarded (frame .variables) (side (t .negated)) (tree frame formulas (row-at effects e .a)) l)
 
-        pub formula-full :
-            f .full ≡ true
-            → Conditions (condition-at frame formulas effects t e) frame formulas effects notes' t e at before after scratch s3 f
-        formula-full k =
-            conditions-as under-read
-            (conditions-bind guard x g
-            (conditions-as (joins (c .row) h)
-            (conditions-stop (λ z. join (side (t .negated)) z (c .row)) (λ z. steady-join (side (t .negated)) z (c .row)) built k)))
+-- Row e, with the condition s of its spine.
+module _ {frame : Frame} {formulas effects notes : List ℕ} {t : Target} {s : Step} {before : Store} {scratch : List ℕ} {e n : ℕ} (x : AsksOnward frame formulas effects notes t s before scratch e n) where
+  spine-within : s .row < s .rows
+  unfolding held
+  spine-within =
+      let b : s .row < length (upto (s .rows) (row-at (before .table))) = x .known .below in
+      rw (length-upto (s .rows) (row-at (before .table))) at b
 
-        pub under-join-asks : f .full ≡ false → JoinReady frame (size-of f) (after .table) (f .row) (c .row)
-        under-join-asks k =
-            let d = x .builds .done g in
-            let m = y .builds .done k in
-            record {
-              rows = m .ready .rows;
-              two = m .ready .two;
-              left = m .below;
-              right = omega (arith, d .below, m .grew);
-            }
+  -- with the words w
+  module _ (w : Words) (q : row-of w ≡ row-at effects e) where
+    kind-read : w .kind ≡ row-at effects e .kind
+    kind-read = ap (λ (r : Row). r .kind) q
 
-        pub under-done :
-            {last : Store} {z : Step}
-            → f .full ≡ false
-            → Builds (join (side (t .negated)) (f .row) (c .row)) frame (size-of f) after last z
-            → Conditions (condition-at frame formulas effects t e) frame formulas effects notes' t e at before last scratch s3 z
-        under-done k b =
-            conditions-as under-read
-            (conditions-bind guard x g
-            (conditions-as (joins (c .row) h)
-            (conditions-bind (λ z. join (side (t .negated)) z (c .row)) built k
-            (conditions-leaf (steady-join (side (t .negated)) (f .row) (c .row)) (built .noted k) (y .memo k) (built .effect-memo k) b))))
+    module _ (three : w .kind ≡ 3) where
+      pub right-lower : w .b < e
+      right-lower =
+          omega
+          (arith, ap (λ (r : Row). r .b) q, both-lower frame formulas effects scratch (x .below .asks .effect-source) e (x .below .asks .effect) (sym kind-read ∙ three) .1)
+
+      pub right-asks : AsksRight frame formulas effects notes t s before scratch (w .b) n
+      right-asks =
+          let a = x .below .asks in
+          record {
+            asks =
+                record {
+                  source = a .source;
+                  effect-source = a .effect-source;
+                  ready = a .ready;
+                  noted = a .noted;
+                  memo = a .memo;
+                  effect-memo = a .effect-memo;
+                  effect = omega (arith, a .effect, right-lower);
+                };
+            left = spine-within;
+            room = omega (arith, x .below .room, right-lower);
+          }
+
+      pub climbs-both :
+          {notes' : List ℕ} {after : Store} {s2 : List ℕ} {r : Step}
+          → Climbs (right-of frame formulas effects t (w .b) (s .row)) frame formulas effects notes notes' t (w .b) n (size-of s) before after scratch s2 r
+          → Climbs (onward frame formulas effects t e (s .row)) frame formulas effects notes notes' t e n (size-of s) before after scratch s2 r
+      unfolding onward
+      climbs-both y =
+          record {
+            conditions =
+                conditions-as
+                (rw (eq-eqb (row-at effects e .kind) 3 (sym kind-read ∙ three))
+                (ap (λ (r : Row). right-of frame formulas effects t (r .b) (s .row)) (sym q)))
+                (conditions-wider (omega (arith, right-lower)) (y .conditions));
+            stays = y .stays;
+          }
+
+    module _ (other : w .kind ≡ 3 → ⊥) where
+      pub under-asks : AsksUnder frame formulas s before scratch (w .a)
+      under-asks =
+          let a = x .below .asks in
+          let four = under-else frame formulas effects scratch (a .effect-source) e (a .effect) (x .below .composed) (λ k. other (kind-read ∙ k)) in
+          record {
+            asks =
+                record {
+                  source = a .source;
+                  ready = a .ready;
+                  memo = a .memo;
+                  formula =
+                      omega
+                      (arith, ap (λ (r : Row). r .a) q, under-lower frame formulas effects scratch (a .effect-source) e (a .effect) four .0);
+                };
+            inner = spine-within;
+            going = x .going;
+          }
+
+      pub climbs-under :
+          {after : Store} {s2 : List ℕ} {r : Step}
+          → Images (guarded (frame .variables) (side (t .negated)) (tree frame formulas (w .a)) (s .row)) frame formulas (size-of s) before after scratch s2 r
+          → Climbs (onward frame formulas effects t e (s .row)) frame formulas effects notes notes t e n (size-of s) before after scratch s2 r
+      unfolding onward
+      climbs-under y =
+          record {
+            conditions =
+                conditions-as
+                (rw (ne-eqb (row-at effects e .kind) 3 (λ k. other (kind-read ∙ k)))
+                (ap (λ (r : Row). guarded (frame .variables) (side (t .negated)) (tree frame formulas (r .a)) (s .row)) (sym q)))
+                (conditions-of-images (steady-guarded (frame .variables) (side (t .negated)) (tree frame formulas (w .a)) (s .row))
+                (x .below .asks .noted) (x .below .asks .effect-memo) y);
+            stays = stays-refl frame notes n;
+          }
+
+  -- what is left is built: row e's condition is known
+  onward-known :
+      {notes' : List ℕ} {after : Store} {s2 : List ℕ} {r : Step}
+      → Conditions (onward frame formulas effects t e (s .row)) frame formulas effects notes' t e (size-of s) before after scratch s2 r
+      → r .full ≡ false
+      → Known (condition-at frame formulas effects t e) (held (size-of r) after) (r .row)
+  unfolding bind
+  onward-known {after = after} {r = r} y g =
+      let a = x .below .asks in
+      let d = y .builds .done g in
+      let steady = steady-onward frame formulas effects t e (s .row) in
+      let first = known-grows (steady-condition-at frame formulas effects t (spine effects e)) (done-grows steady d) (x .known) in
+      let then = done-known steady d in
+      record {
+        again =
+            ap (λ (m : Build ℕ). m (held (size-of r) after))
+            (of-spine frame formulas effects scratch (a .effect-source) e (a .effect) t (x .below .composed))
+            ∙ rw (first .again) (then .again);
+        below = then .below;
+      }
+
+  pub raised :
+      {notes' notes'' : List ℕ} {after : Store} {s2 : List ℕ} {r : Step}
+      → Climbs (onward frame formulas effects t e (s .row)) frame formulas effects notes notes' t e n (size-of s) before after scratch s2 r
+      → length s2 ≡ length scratch
+      → Keeps frame notes' notes'' t e r
+      → Climbs (onward frame formulas effects t e (s .row)) frame formulas effects notes notes'' t e n (size-of s) before after scratch
+      (noted s2 (2 * frame .formulas + e) r) r
+  raised {after = after} {s2 = s2} {r = r} y long keeps =
+      let a = x .below .asks in
+      record {
+        conditions =
+            conditions-noted frame formulas effects t (size-of s) before after scratch s2 e r (a .effect)
+            (omega (arith, a .effect-source .memo, a .effect, long)) (onward-known (y .conditions)) (y .conditions) keeps;
+        stays = stays-trans frame (y .stays) (stays-fewer frame (omega (arith, x .below .room)) (keeps .stays));
+      }

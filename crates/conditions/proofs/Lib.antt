@@ -4,3 +4,5 @@ pub mod Alone
 pub mod Notes
 pub mod Memos
 pub mod Cases
+pub mod Descents
+pub mod Ascents

@@ -1,8 +1,8 @@
 -- The memo of effect conditions stays right while the state grows, and steps with both memos are put together. Assumes nothing.
-use Prim.Native.Nat.{ℕ, zero, suc, _+_, _-_, _*_, _≤_, _<_}
+use Prim.Native.Nat.{ℕ, _+_, _-_, _*_, _≤_, _<_}
 use native.Mathlib.Omega.{arith}
 use native.Mathlib.Decide.{ℕ-discrete}
-use mathlib.Core.Path.{_≡_, refl, sym, ap, ap₂, _∙_}
+use mathlib.Core.Path.{_≡_, refl, sym, ap, _∙_}
 use mathlib.Core.Bool.{Bool, true, false, cond, true≢false}
 use mathlib.Core.List.{List}
 use lib.ListN.{length, getD, set}
@@ -10,18 +10,17 @@ use lib.Seq.{getD-set-same, getD-set-other}
 use Rattle.task.specs.Bounded.{upto}
 use Rattle.task.specs.Table.{row-at}
 use Rattle.task.proofs.Bounded.{length-upto}
-use Rattle.normal_form.specs.Builder.{St, Got, Build, give, bind, join, pair, Polarity, falsity}
+use Rattle.normal_form.specs.Builder.{St, Got, Build, bind}
 use Rattle.normal_form.specs.Growth.{Grows, Steady}
-use Rattle.normal_form.proofs.Growth.{steady-bind, steady-join}
 use Rattle.formula_builder.specs.declared.Frame.{Frame}
 use Rattle.formula_builder.specs.declared.Size.{Size}
 use Rattle.formula_builder.specs.declared.Step.{Step}
-use Rattle.formula_builder.specs.Held.{Store, held, size-of, done-step, Ready, Done, Builds}
+use Rattle.formula_builder.specs.Held.{Store, held, size-of, done-step, Builds}
 use Rattle.formula_builder.proofs.Steps.{builds-done, builds-as, builds-bind, builds-stop}
-use Rattle.images.specs.Images.{Known, Memo, noted, memo-place, Source, Images}
-use Rattle.images.proofs.Memos.{known-grows, memo-grows, done-grows, done-known, place-within}
+use Rattle.images.specs.Images.{Known, Memo, noted, memo-place, Images}
+use Rattle.images.proofs.Memos.{known-grows, memo-grows, done-grows, place-within}
 use Rattle.conditions.specs.declared.Target.{Target}
-use Rattle.conditions.specs.Conditions.{condition-at, EffectMemo, EffectSource, Noted, Keeps, Asks, Conditions}
+use Rattle.conditions.specs.Conditions.{condition-at, EffectMemo, Noted, Keeps, Asks, Conditions}
 use Rattle.conditions.proofs.Notes.{steady-condition-at, noted-grows}
 
 -- the memo stays right while the state grows and its words stay
@@ -198,31 +197,6 @@ conditions-stop f steady x q =
       rest = x .rest;
     }
 
--- Left, right, then the join.
-module _ {left right : Build ℕ} {frame : Frame} {formulas effects notes : List ℕ} {t : Target} {e : ℕ} {at : Size} {before mid : Store} {s1 s2 : List ℕ} {l : Step} (p : Polarity) (steady : Steady right) (x : Conditions left frame formulas effects notes t e at before mid s1 s2 l) where
-  pub pair-left-full : l .full ≡ true → Conditions (pair p left right) frame formulas effects notes t e at before mid s1 s2 l
-  unfolding pair
-  pair-left-full q =
-      conditions-stop (λ a. bind right (λ b. join p a b)) (λ a. steady-bind steady (λ b. steady-join p a b)) x q
-
-  module _ {notes' : List ℕ} {after : Store} {s3 : List ℕ} {r : Step} (q : l .full ≡ false) (y : Conditions right frame formulas effects notes' t e (size-of l) mid after s2 s3 r) where
-    pub pair-right-full : r .full ≡ true → Conditions (pair p left right) frame formulas effects notes' t e at before after s1 s3 r
-    unfolding pair
-    pair-right-full g =
-        conditions-bind (λ a. bind right (λ b. join p a b)) x q
-        (conditions-stop (λ b. join p (l .row) b) (λ b. steady-join p (l .row) b) y g)
-
-    pub pair-done :
-        {last : Store} {z : Step}
-        → r .full ≡ false
-        → Builds (join p (l .row) (r .row)) frame (size-of r) after last z
-        → Conditions (pair p left right) frame formulas effects notes' t e at before last s1 s3 z
-    unfolding pair
-    pair-done g b =
-        conditions-bind (λ a. bind right (λ b. join p a b)) x q
-        (conditions-bind (λ b. join p (l .row) b) y g
-        (conditions-leaf (steady-join p (l .row) (r .row)) (y .noted g) (y .memo g) (y .effect-memo g) b))
-
 -- The row of effect e's condition is known.
 pub conditions-known :
     {notes : List ℕ} (frame : Frame) (formulas effects : List ℕ) (t : Target) (at : Size) (before : Store) (scratch : List ℕ) (e r : ℕ)
@@ -257,15 +231,16 @@ pub memo-known :
 memo-known frame formulas effects t at before scratch e a h =
     a .effect-memo .known e (getD scratch (2 * frame .formulas + e) 0 - 1) (a .effect) (omega arith)
 
--- Effect e's condition was built: the memo and the notes get it.
+-- A step comes to effect e's condition: the memo and the notes get it.
 pub conditions-noted :
-    {notes notes' : List ℕ} (frame : Frame) (formulas effects : List ℕ) (t : Target) (at : Size) (before after : Store) (scratch scratch' : List ℕ) (e : ℕ) (r : Step)
+    {m : Build ℕ} {notes notes' : List ℕ} (frame : Frame) (formulas effects : List ℕ) (t : Target) (at : Size) (before after : Store) (scratch scratch' : List ℕ) (e : ℕ) (r : Step)
     → e < frame .effects
     → 2 * frame .formulas + e < length scratch'
-    → Conditions (condition-at frame formulas effects t e) frame formulas effects notes t e at before after scratch scratch' r
+    → (r .full ≡ false → Known (condition-at frame formulas effects t e) (held (size-of r) after) (r .row))
+    → Conditions m frame formulas effects notes t e at before after scratch scratch' r
     → Keeps frame notes notes' t e r
-    → Conditions (condition-at frame formulas effects t e) frame formulas effects notes' t e at before after scratch (noted scratch' (2 * frame .formulas + e) r) r
-conditions-noted frame formulas effects t at before after scratch scratch' e r h room x keeps =
+    → Conditions m frame formulas effects notes' t e at before after scratch (noted scratch' (2 * frame .formulas + e) r) r
+conditions-noted frame formulas effects t at before after scratch scratch' e r h room known x keeps =
     record {
       builds = x .builds;
       noted = λ q. keeps .noted formulas effects (held (size-of r) after) (known q) (x .noted q);
@@ -274,9 +249,6 @@ conditions-noted frame formulas effects t at before after scratch scratch' e r h
       rest = λ j g. rest (r .full) j g ∙ x .rest j g;
     }
   where
-    known : r .full ≡ false → Known (condition-at frame formulas effects t e) (held (size-of r) after) (r .row)
-    known q = done-known (steady-condition-at frame formulas effects t e) (x .builds .done q)
-
     effect-memo : r .full ≡ false → EffectMemo frame formulas effects t (set scratch' (2 * frame .formulas + e) (r .row + 1)) (held (size-of r) after)
     effect-memo q =
         effect-memo-noted frame formulas effects t scratch' (held (size-of r) after) e (r .row) h room (known q) (x .effect-memo q)

@@ -19,7 +19,7 @@ use Rattle.formula_builder.specs.Held.{Store, side, Builds}
 use Rattle.images.specs.Images.{Known, noted}
 use Rattle.images.proofs.Memos.{known-grows}
 use Rattle.conditions.specs.declared.Target.{Target}
-use Rattle.conditions.specs.Conditions.{atom-of, effect-tree, condition-at, outside, Spans, column, kept-place, Columns, Noted, Looks, KeptAt, Recalls, Keeps, Asks}
+use Rattle.conditions.specs.Conditions.{atom-of, effect-tree, condition-at, outside, Spans, column, kept-place, Columns, Noted, Looks, KeptAt, Recalls, path-at, PathStays, Keeps, Asks}
 
 pub steady-condition-at :
     (frame : Frame) (formulas effects : List ℕ) (t : Target) (e : ℕ) → Steady (condition-at frame formulas effects t e)
@@ -184,6 +184,27 @@ same-condition :
 unfolding condition-at
 same-condition frame formulas effects t u d e n v c q = rw (n, v, c, q)
 
+-- Entries of the path, which words before them do not change.
+module _ (frame : Frame) where
+  pub stays-refl : (notes : List ℕ) (n : ℕ) → PathStays frame notes notes n
+  stays-refl notes n = record { long = refl; same = λ d h. refl }
+
+  pub stays-trans : {a b c : List ℕ} {n : ℕ} → PathStays frame a b n → PathStays frame b c n → PathStays frame a c n
+  stays-trans x y = record { long = y .long ∙ x .long; same = λ d h. y .same d h ∙ x .same d h }
+
+  pub stays-fewer : {a b : List ℕ} {m n : ℕ} → m ≤ n → PathStays frame a b n → PathStays frame a b m
+  stays-fewer h x = record { long = x .long; same = λ d g. x .same d (omega arith) }
+
+  stays-before : (notes : List ℕ) (k x n : ℕ) → k + frame .effects < length notes → PathStays frame notes (set notes k x) n
+  unfolding path-at
+  stays-before notes k x n h =
+      record {
+        long = length-set notes k x;
+        same = λ d g.
+            rw (length-set notes k x)
+            (getD-set-other notes k (length notes - frame .effects + d) x 0 (λ q. omega (arith, q, h)));
+      }
+
 -- The word of target t and row e.
 module _ {frame : Frame} {notes : List ℕ} {t : Target} {e k : ℕ} (h : e < frame .effects) (p : KeptAt frame notes t e k) where
   beyond : 3 * frame .effects ≤ k
@@ -262,12 +283,17 @@ module _ {frame : Frame} {notes : List ℕ} {t : Target} {e k : ℕ} (h : e < fr
   keep-kept r = go (r .full)
     where
       go : (b : Bool) → Keeps frame notes (cond b notes (set notes k (r .row + 1))) t e r
-      go true = record { noted = λ formulas effects s now n. n }
-      go false = record { noted = λ formulas effects s now n. kept-noted formulas effects s (r .row) now n }
+      go true = record { stays = stays-refl frame notes (frame .effects); noted = λ formulas effects s now n. n }
+      go false =
+          record {
+            stays = stays-before frame notes k (r .row + 1) (frame .effects) (p .within);
+            noted = λ formulas effects s now n. kept-noted formulas effects s (r .row) now n;
+          }
 
 -- no word
 pub recall-none : (frame : Frame) (notes : List ℕ) (t : Target) (e : ℕ) → Recalls frame notes t e 0
 recall-none frame notes t e = record { known = λ formulas effects s n w. absurd (omega (arith, w)) }
 
 pub keep-none : (frame : Frame) (notes : List ℕ) (t : Target) (e : ℕ) (r : Step) → Keeps frame notes notes t e r
-keep-none frame notes t e r = record { noted = λ formulas effects s now n. n }
+keep-none frame notes t e r =
+    record { stays = stays-refl frame notes (frame .effects); noted = λ formulas effects s now n. n }

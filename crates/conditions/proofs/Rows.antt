@@ -1,23 +1,27 @@
 -- The condition of a row by its kind. Assumes nothing.
-use Prim.Native.Nat.{ℕ, zero, suc, _+_, _*_, _≤_, _<_}
+use Prim.Native.Nat.{ℕ, zero, suc, _≤_, _<_}
 use native.Mathlib.Omega.{arith}
-use mathlib.Core.Path.{_≡_, refl, sym, ap, _∙_}
-use mathlib.Core.Bool.{Bool, true, false, cond}
+use native.Mathlib.Decide.{ℕ-discrete}
+use mathlib.Core.Path.{_≡_, refl, ap, _∙_}
+use mathlib.Core.Bool.{Bool, true, false, cond, not}
 use mathlib.Core.List.{List}
+use lib.Dec.{eqb}
 use lib.ListN.{length, getD}
-use Rattle.task.specs.Table.{Row, row-at, EffectKind, effect-kind}
+use borrow.Author.Tests.{eq-eqb, ne-eqb}
+use Rattle.task.specs.Table.{row-at, effect-kind}
 use Rattle.task.specs.Rules.{no-row, EffectRule}
 use Rattle.task.specs.Semantics.{Formula, Atom, Effect}
-use Rattle.task.specs.Tree.{effect-node, effect-of}
+use Rattle.task.specs.Tree.{effect-node}
 use Rattle.task.proofs.Bounded.{length-upto, getD-upto}
 use Rattle.task.proofs.Trees.{EffectKept, effect-unfolds}
-use Rattle.normal_form.specs.Builder.{Build, give, bind, pair, Polarity, opposite, falsity, truth}
+use Rattle.normal_form.specs.Builder.{Build, give, bind, join, pair, Polarity, opposite, falsity, truth}
 use Rattle.normal_form.specs.Conditions.{guarded, condition}
 use Rattle.formula_builder.specs.declared.Frame.{Frame}
 use Rattle.formula_builder.specs.Held.{side}
 use Rattle.images.specs.Images.{source-rows, tree}
 use Rattle.conditions.specs.declared.Target.{Target}
-use Rattle.conditions.specs.Conditions.{atom-by, atom-of, acts, effect-rows, effect-tree, condition-at, EffectSource}
+use Rattle.conditions.specs.Conditions.{atom-of, acts, effect-rows, effect-tree, condition-at, EffectSource}
+use Rattle.conditions.specs.Paths.{spine, right-of, onward}
 
 -- The condition of a row by its kind, over the formula f and the effects d and g that its words name.
 module _ (n : ℕ) (p : Polarity) (l : Atom) (a : ℕ) (f : Formula) (d g : Effect) where
@@ -48,6 +52,20 @@ module _ (n : ℕ) (p : Polarity) (l : Atom) (a : ℕ) (f : Formula) (d g : Effe
   unfolding condition effect-node effect-kind
   under-condition k e = rw e
 
+pub side-not : (b : Bool) → opposite (side b) ≡ side (not b)
+side-not true = refl
+side-not false = refl
+
+-- there is no kind above 4
+kind-most : (v f i k a b : ℕ) → EffectRule v f i (effect-kind k) a b → k ≤ 4
+unfolding effect-kind
+kind-most v f i zero a b r = omega arith
+kind-most v f i (suc zero) a b r = omega arith
+kind-most v f i (suc (suc zero)) a b r = omega arith
+kind-most v f i (suc (suc (suc zero))) a b r = omega arith
+kind-most v f i (suc (suc (suc (suc zero)))) a b r = omega arith
+kind-most v f i (suc (suc (suc (suc (suc k))))) a b r = absurd r
+
 module _ (frame : Frame) (formulas effects scratch : List ℕ) (source : EffectSource frame effects scratch) (e : ℕ) (h : e < frame .effects) where
   row-held : getD (effect-rows frame effects) e no-row ≡ row-at effects e
   unfolding effect-rows
@@ -73,6 +91,22 @@ module _ (frame : Frame) (formulas effects scratch : List ℕ) (source : EffectS
       let r : EffectRule (frame .variables) (frame .formulas) e (effect-kind 4) (row-at effects e .a) (row-at effects e .b) =
       rw k at rule-held in
       r
+
+  -- a row that names effects is both, or under a formula
+  pub under-else : 3 ≤ row-at effects e .kind → (row-at effects e .kind ≡ 3 → ⊥) → row-at effects e .kind ≡ 4
+  under-else c other =
+      let m =
+      kind-most (frame .variables) (frame .formulas) e (row-at effects e .kind) (row-at effects e .a) (row-at effects e .b)
+      rule-held in
+      omega (arith, c, m, other)
+
+  pub spine-lower : 3 ≤ row-at effects e .kind → spine effects e < e
+  unfolding spine
+  spine-lower c = go (ℕ-discrete (row-at effects e .kind) 3)
+    where
+      go : Dec (row-at effects e .kind ≡ 3) → cond (eqb (row-at effects e .kind) 3) (row-at effects e .a) (row-at effects e .b) < e
+      go (yes k) = rw (eq-eqb (row-at effects e .kind) 3 k) (both-lower k .0)
+      go (no k) = rw (ne-eqb (row-at effects e .kind) 3 k) (under-lower (under-else c k) .1)
 
   module _ (t : Target) where
     node : Build ℕ
@@ -114,3 +148,23 @@ module _ (frame : Frame) (formulas effects scratch : List ℕ) (source : EffectS
         (λ c. guarded (frame .variables) (side (t .negated)) (tree frame formulas (row-at effects e .a)) c)
     unfolding node condition-at
     of-under k = unfolds ∙ under-condition (frame .variables) _ _ _ _ _ _ (row-at effects e .kind) k
+
+    -- first the spine, then what is left
+    pub of-spine :
+        3 ≤ row-at effects e .kind
+        → condition-at frame formulas effects t e
+        ≡ bind (condition-at frame formulas effects t (spine effects e)) (λ l. onward frame formulas effects t e l)
+    unfolding spine onward right-of pair
+    of-spine c = go (ℕ-discrete (row-at effects e .kind) 3)
+      where
+        go :
+            Dec (row-at effects e .kind ≡ 3)
+            → condition-at frame formulas effects t e
+            ≡ bind
+            (condition-at frame formulas effects t (cond (eqb (row-at effects e .kind) 3) (row-at effects e .a) (row-at effects e .b)))
+            (λ l.
+            cond (eqb (row-at effects e .kind) 3)
+            (bind (condition-at frame formulas effects t (row-at effects e .b)) (λ r. join (side (not (t .negated))) l r))
+            (guarded (frame .variables) (side (t .negated)) (tree frame formulas (row-at effects e .a)) l))
+        go (yes k) = rw (eq-eqb (row-at effects e .kind) 3 k, ← (side-not (t .negated))) (of-both k)
+        go (no k) = rw (ne-eqb (row-at effects e .kind) 3 k) (of-under (under-else c k))

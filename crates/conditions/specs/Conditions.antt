@@ -153,8 +153,18 @@ pub record Recalls (frame : Frame) (notes : List ℕ) (t : Target) (e w : ℕ) :
       → 0 < w
       → Known (condition-at frame formulas effects t e) s (w - 1)
 
--- The notes stay right if row r is known as the condition of target t and row e.
+-- entry d of the path down the rows: in the last words of the notes
+unfoldable pub path-at : Frame → List ℕ → ℕ → ℕ
+path-at frame notes d = getD notes (length notes - frame .effects + d) 0
+
+-- The entries before entry n are as they were.
+pub record PathStays (frame : Frame) (notes notes' : List ℕ) (n : ℕ) : Type 0 where
+  pub long : length notes' ≡ length notes
+  pub same : (d : ℕ) → d < n → path-at frame notes' d ≡ path-at frame notes d
+
+-- The path stays as it is, and the notes stay right if row r is known as the condition of target t and row e.
 pub record Keeps (frame : Frame) (notes notes' : List ℕ) (t : Target) (e : ℕ) (r : Step) : Type 0 where
+  pub stays : PathStays frame notes notes' (frame .effects)
   pub noted :
       (formulas effects : List ℕ) (s : St)
       → Known (condition-at frame formulas effects t e) s (r .row)
@@ -169,11 +179,6 @@ pub record Asks (frame : Frame) (formulas effects notes : List ℕ) (t : Target)
   pub memo : Memo frame formulas scratch (held at before)
   pub effect-memo : EffectMemo frame formulas effects t scratch (held at before)
   pub effect : e < frame .effects
-
--- for a row of one kind
-pub record AsksRow (kind : ℕ) (frame : Frame) (formulas effects notes : List ℕ) (t : Target) (at : Size) (before : Store) (scratch : List ℕ) (e : ℕ) : Type 0 where
-  pub asks : Asks frame formulas effects notes t at before scratch e
-  pub is-kind : row-at effects e .kind ≡ kind
 
 -- A step with both memos and the notes: what lies behind effect e's word stays as it is.
 pub record Conditions (m : Build ℕ) (frame : Frame) (formulas effects notes' : List ℕ) (t : Target) (e : ℕ) (at : Size) (before after : Store) (scratch scratch' : List ℕ) (r : Step) : Type 0 where

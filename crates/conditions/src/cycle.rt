@@ -1,21 +1,20 @@
-// The condition of an effect: the builder recurses to lower-numbered effect rows. Each row is built at most once for a target.
+// The condition of an effect: the builder goes down the spine of a row and up again, and recurses to the right effect of "both", which is
+// a lower row. Each row is built at most once for a target.
 use crate::Target;
 use crate::kept::keep;
-use crate::kept::recall;
-use crate::touch::is_outside;
-use crate::touch::touches;
+use crate::path::descend;
+use crate::seen::seen;
+use crate::under::under;
 use formula_builder::Frame;
 use formula_builder::Size;
 use formula_builder::Step;
-use formula_builder::falsity;
 use formula_builder::join;
 use formula_builder::read_row;
 use formula_builder::standing;
-use formula_builder::truth;
 use images::note;
-use images::sided;
-ghost use Rattle.formula_builder.specs.Held.{store};
-ghost use Rattle.conditions.specs.Conditions.{Asks, AsksRow, Conditions, condition-at};
+ghost use Rattle.formula_builder.specs.Held.{store, size-of};
+ghost use Rattle.conditions.specs.Conditions.{Asks, Conditions, condition-at};
+ghost use Rattle.conditions.specs.Paths.{right-of, onward, AsksBelow, AsksRight, AsksOnward, Climbs};
 
 // The condition of effect e: rows are visited only where the variable lies in their span, and not below one whose condition is kept.
 pub fn condition(
@@ -33,130 +32,184 @@ pub fn condition(
     requires { ⌜ Asks frame (now formulas) (now effects) (now notes) t at (store (now table) (now originals)) (now scratch) e ⌝ }
     ensures { λ r. ⌜ Conditions (condition-at frame (now (formulas .entry)) (now (effects .entry)) t e) frame (now (formulas .entry)) (now (effects .entry)) (now (notes .exit)) t e at (store (now (table .entry)) (now (originals .entry))) (store (now (table .exit)) (now (originals .exit))) (now (scratch .entry)) (now (scratch .exit)) r ⌝ }
 {
-    if is_outside(notes, t.variable, e) {
-        return standing(at, falsity(t.negated));
-    }
-    let k = 2 * frame.formulas + e;
-    let known = scratch[k];
+    let known = seen(effects, notes, scratch, frame, t, e);
     if 0 < known {
         return standing(at, known - 1);
     }
-    let kept = recall(notes, frame, t, e);
-    if 0 < kept {
-        return standing(at, kept - 1);
-    }
-    let r = condition_of_row(
+    below(
         formulas,
         effects,
         notes,
         e,
+        0,
         t,
         frame,
         at,
         table,
         originals,
         scratch,
+    )
+}
+
+// The condition of effect e, which names effects: down its spine to a row whose condition is known, and up again. The path begins at entry `from`.
+fn below(
+    formulas: &[u16],
+    effects: &[u16],
+    notes: &mut [u16],
+    e: usize,
+    from: usize,
+    t: Target,
+    frame: Frame,
+    at: Size,
+    table: &mut [u16],
+    originals: &mut [u16],
+    scratch: &mut [u16],
+) -> Step
+    requires { ⌜ AsksBelow frame (now formulas) (now effects) (now notes) t at (store (now table) (now originals)) (now scratch) e from ⌝ }
+    ensures { λ r. ⌜ Climbs (condition-at frame (now (formulas .entry)) (now (effects .entry)) t e) frame (now (formulas .entry)) (now (effects .entry)) (now (notes .entry)) (now (notes .exit)) t e from at (store (now (table .entry)) (now (originals .entry))) (store (now (table .exit)) (now (originals .exit))) (now (scratch .entry)) (now (scratch .exit)) r ⌝ }
+{
+    let bottom = descend(effects, notes, scratch, frame, t, e, from);
+    let base = notes.len() - frame.effects;
+    let mut depth = bottom.depth;
+    let mut s = standing(at, bottom.known - 1);
+    while from < depth {
+        depth -= 1;
+        let i = notes[base + depth] as usize;
+        s = raise(
+            formulas,
+            effects,
+            notes,
+            i,
+            depth,
+            t,
+            frame,
+            s,
+            table,
+            originals,
+            scratch,
+        );
+        if s.full {
+            return s;
+        }
+    }
+    s
+}
+
+// From the condition s of row e's spine to that of row e: memo and notes get it.
+fn raise(
+    formulas: &[u16],
+    effects: &[u16],
+    notes: &mut [u16],
+    e: usize,
+    from: usize,
+    t: Target,
+    frame: Frame,
+    s: Step,
+    table: &mut [u16],
+    originals: &mut [u16],
+    scratch: &mut [u16],
+) -> Step
+    requires { ⌜ AsksOnward frame (now formulas) (now effects) (now notes) t s (store (now table) (now originals)) (now scratch) e from ⌝ }
+    ensures { λ r. ⌜ Climbs (onward frame (now (formulas .entry)) (now (effects .entry)) t e (s .row)) frame (now (formulas .entry)) (now (effects .entry)) (now (notes .entry)) (now (notes .exit)) t e from (size-of s) (store (now (table .entry)) (now (originals .entry))) (store (now (table .exit)) (now (originals .exit))) (now (scratch .entry)) (now (scratch .exit)) r ⌝ }
+{
+    let r = above(
+        formulas,
+        effects,
+        notes,
+        e,
+        from,
+        t,
+        frame,
+        s,
+        table,
+        originals,
+        scratch,
     );
-    note(scratch, k, r);
+    note(scratch, 2 * frame.formulas + e, r);
     keep(notes, frame, t, e, r);
     r
 }
 
-// The condition of effect e, which neither memo nor notes have, by its kind.
-fn condition_of_row(
+// The same by the row's kind: the right effect and the join, or the formula.
+fn above(
     formulas: &[u16],
     effects: &[u16],
     notes: &mut [u16],
     e: usize,
+    from: usize,
     t: Target,
     frame: Frame,
-    at: Size,
+    s: Step,
     table: &mut [u16],
     originals: &mut [u16],
     scratch: &mut [u16],
 ) -> Step
-    requires { ⌜ Asks frame (now formulas) (now effects) (now notes) t at (store (now table) (now originals)) (now scratch) e ⌝ }
-    ensures { λ r. ⌜ Conditions (condition-at frame (now (formulas .entry)) (now (effects .entry)) t e) frame (now (formulas .entry)) (now (effects .entry)) (now (notes .exit)) t e at (store (now (table .entry)) (now (originals .entry))) (store (now (table .exit)) (now (originals .exit))) (now (scratch .entry)) (now (scratch .exit)) r ⌝ }
+    requires { ⌜ AsksOnward frame (now formulas) (now effects) (now notes) t s (store (now table) (now originals)) (now scratch) e from ⌝ }
+    ensures { λ r. ⌜ Climbs (onward frame (now (formulas .entry)) (now (effects .entry)) t e (s .row)) frame (now (formulas .entry)) (now (effects .entry)) (now (notes .entry)) (now (notes .exit)) t e from (size-of s) (store (now (table .entry)) (now (originals .entry))) (store (now (table .exit)) (now (originals .exit))) (now (scratch .entry)) (now (scratch .exit)) r ⌝ }
 {
     let w = read_row(effects, e);
     if w.kind == 3 {
+        let d = w.b as usize;
         return both(
             formulas,
             effects,
             notes,
-            e,
+            d,
+            from,
             t,
             frame,
-            at,
+            s,
             table,
             originals,
             scratch,
         );
     }
-    if w.kind == 4 {
-        return under(
-            formulas,
-            effects,
-            notes,
-            e,
-            t,
-            frame,
-            at,
-            table,
-            originals,
-            scratch,
-        );
-    }
-    if touches(w, t) {
-        return standing(at, truth(t.negated));
-    }
-    standing(at, falsity(t.negated))
+    under(
+        formulas,
+        w.a as usize,
+        t,
+        frame,
+        s,
+        table,
+        originals,
+        scratch,
+    )
 }
 
-// Both effects that row e names: their conditions are joined.
+// The condition of the right effect d, then the join with that of the left one, s. Nothing is called for d if its condition is known.
 fn both(
     formulas: &[u16],
     effects: &[u16],
     notes: &mut [u16],
-    e: usize,
+    d: usize,
+    from: usize,
     t: Target,
     frame: Frame,
-    at: Size,
+    s: Step,
     table: &mut [u16],
     originals: &mut [u16],
     scratch: &mut [u16],
 ) -> Step
-    requires { ⌜ AsksRow 3 frame (now formulas) (now effects) (now notes) t at (store (now table) (now originals)) (now scratch) e ⌝ }
-    ensures { λ r. ⌜ Conditions (condition-at frame (now (formulas .entry)) (now (effects .entry)) t e) frame (now (formulas .entry)) (now (effects .entry)) (now (notes .exit)) t e at (store (now (table .entry)) (now (originals .entry))) (store (now (table .exit)) (now (originals .exit))) (now (scratch .entry)) (now (scratch .exit)) r ⌝ }
+    requires { ⌜ AsksRight frame (now formulas) (now effects) (now notes) t s (store (now table) (now originals)) (now scratch) d from ⌝ }
+    ensures { λ r. ⌜ Climbs (right-of frame (now (formulas .entry)) (now (effects .entry)) t d (s .row)) frame (now (formulas .entry)) (now (effects .entry)) (now (notes .entry)) (now (notes .exit)) t d from (size-of s) (store (now (table .entry)) (now (originals .entry))) (store (now (table .exit)) (now (originals .exit))) (now (scratch .entry)) (now (scratch .exit)) r ⌝ }
 {
-    let w = read_row(effects, e);
-    let l = condition(
+    let at = Size {
+        rows: s.rows,
+        twins: s.twins,
+    };
+    let known = seen(effects, notes, scratch, frame, t, d);
+    if 0 < known {
+        return join(table, frame, at, !t.negated, s.row, known - 1);
+    }
+    let r = below(
         formulas,
         effects,
         notes,
-        w.a as usize,
+        d,
+        from,
         t,
         frame,
         at,
-        table,
-        originals,
-        scratch,
-    );
-    if l.full {
-        return l;
-    }
-    let mid = Size {
-        rows: l.rows,
-        twins: l.twins,
-    };
-    let r = condition(
-        formulas,
-        effects,
-        notes,
-        w.b as usize,
-        t,
-        frame,
-        mid,
         table,
         originals,
         scratch,
@@ -164,80 +217,9 @@ fn both(
     if r.full {
         return r;
     }
-    join(
-        table,
-        frame,
-        Size {
-            rows: r.rows,
-            twins: r.twins,
-        },
-        !t.negated,
-        l.row,
-        r.row,
-    )
-}
-
-// The effect that row e names, under its formula: the inner effect first, and the formula only if its condition did not fold away.
-fn under(
-    formulas: &[u16],
-    effects: &[u16],
-    notes: &mut [u16],
-    e: usize,
-    t: Target,
-    frame: Frame,
-    at: Size,
-    table: &mut [u16],
-    originals: &mut [u16],
-    scratch: &mut [u16],
-) -> Step
-    requires { ⌜ AsksRow 4 frame (now formulas) (now effects) (now notes) t at (store (now table) (now originals)) (now scratch) e ⌝ }
-    ensures { λ r. ⌜ Conditions (condition-at frame (now (formulas .entry)) (now (effects .entry)) t e) frame (now (formulas .entry)) (now (effects .entry)) (now (notes .exit)) t e at (store (now (table .entry)) (now (originals .entry))) (store (now (table .exit)) (now (originals .exit))) (now (scratch .entry)) (now (scratch .exit)) r ⌝ }
-{
-    let w = read_row(effects, e);
-    let c = condition(
-        formulas,
-        effects,
-        notes,
-        w.b as usize,
-        t,
-        frame,
-        at,
-        table,
-        originals,
-        scratch,
-    );
-    if c.full {
-        return c;
-    }
-    if c.row == falsity(t.negated) {
-        return c;
-    }
     let mid = Size {
-        rows: c.rows,
-        twins: c.twins,
+        rows: r.rows,
+        twins: r.twins,
     };
-    let f = sided(
-        formulas,
-        w.a as usize,
-        t.negated,
-        frame,
-        mid,
-        table,
-        originals,
-        scratch,
-    );
-    if f.full {
-        return f;
-    }
-    join(
-        table,
-        frame,
-        Size {
-            rows: f.rows,
-            twins: f.twins,
-        },
-        t.negated,
-        f.row,
-        c.row,
-    )
+    join(table, frame, mid, !t.negated, s.row, r.row)
 }

@@ -1,10 +1,13 @@
 // The condition under which an effect sets or clears a variable, by the effect's row number, with a memo in lent scratch:
 // word 2F + e for effect e, the row that was built plus 1, or 0. The memo serves one target. The notes serve all operators: words 2e and 2e + 1
 // are the span of effect e, word 2E + e its column, and behind those each column above 0 keeps the conditions that were built, two words for each variable.
-// The last E words of the notes are for a path down the rows.
+// The last E words of the notes are for the path from a row down its spine: from "both" to the left effect, from a formula to the effect under it.
 mod cycle;
 mod kept;
+mod path;
+mod seen;
 mod touch;
+mod under;
 
 pub use cycle::condition;
 pub use touch::touches;
@@ -14,4 +17,10 @@ pub struct Target {
     pub clear: bool,
     pub variable: u16,
     pub negated: bool,
+}
+
+// Where a path ends: its depth, and the row of the condition that is known there, plus 1.
+pub struct Bottom {
+    pub depth: usize,
+    pub known: u16,
 }

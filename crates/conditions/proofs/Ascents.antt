@@ -1,0 +1,234 @@
+-- The path on the way up: each turn builds the condition of one more entry. Assumes nothing.
+use Prim.Native.Nat.{ℕ, zero, suc, _+_, _-_, _≤_, _<_}
+use native.Mathlib.Omega.{arith}
+use mathlib.Core.Path.{_≡_, refl, sym, ap, _∙_}
+use mathlib.Core.Bool.{true, false}
+use mathlib.Core.List.{List}
+use lib.ListN.{length}
+use Rattle.task.specs.Table.{row-at}
+use Rattle.normal_form.specs.Builder.{bind}
+use Rattle.formula_builder.specs.declared.Frame.{Frame}
+use Rattle.formula_builder.specs.declared.Size.{Size}
+use Rattle.formula_builder.specs.declared.Step.{Step}
+use Rattle.formula_builder.specs.Held.{Store, size-of, done-step}
+use Rattle.images.proofs.Memos.{done-known}
+use Rattle.conditions.specs.declared.Target.{Target}
+use Rattle.conditions.specs.declared.Bottom.{Bottom}
+use Rattle.conditions.specs.Conditions.{condition-at, path-at, PathStays, Asks, Conditions}
+use Rattle.conditions.specs.Paths.{spine, onward, AsksSeen, Sees, Follows, Descent, AsksDescent, Descended, AsksBelow, AsksOnward, Climbs, Rising}
+use Rattle.conditions.proofs.Rows.{of-spine}
+use Rattle.conditions.proofs.Notes.{steady-condition-at, looks, stays-refl, stays-trans, stays-fewer}
+use Rattle.conditions.proofs.Memos.{conditions-as, conditions-wider, asks-next, conditions-bind, conditions-stop, conditions-known}
+use Rattle.conditions.proofs.Cases.{steady-onward}
+
+-- what looking at row e asks
+pub asks-seen :
+    {frame : Frame} {formulas effects notes : List ℕ} {t : Target} {at : Size} {before : Store} {scratch : List ℕ} {e : ℕ}
+    → Asks frame formulas effects notes t at before scratch e
+    → AsksSeen frame effects notes scratch e
+asks-seen a = record { source = a .effect-source; looks = looks a refl; formulas = a .source .limit }
+
+pub asks-descent :
+    {frame : Frame} {formulas effects notes : List ℕ} {t : Target} {at : Size} {before : Store} {scratch : List ℕ} {e from : ℕ}
+    → AsksBelow frame formulas effects notes t at before scratch e from
+    → AsksDescent frame effects notes scratch e from
+asks-descent x = record { seen = asks-seen (x .asks); composed = x .composed; room = x .room }
+
+-- a row of which nothing is known names effects
+pub asks-below :
+    {frame : Frame} {formulas effects notes : List ℕ} {t : Target} {at : Size} {before : Store} {scratch : List ℕ} {e w : ℕ} (from : ℕ)
+    → Asks frame formulas effects notes t at before scratch e
+    → Sees frame effects notes scratch t e w
+    → w ≤ 0
+    → e + from < frame .effects
+    → AsksBelow frame formulas effects notes t at before scratch e from
+asks-below from a s h room = record { asks = a; composed = s .composed (omega (arith, h)); room = room }
+
+-- one entry less
+descent-up :
+    {frame : Frame} {effects notes : List ℕ} {from depth e i : ℕ}
+    → Descent frame effects notes from depth e i
+    → from < depth
+    → Descent frame effects notes from (depth - 1) e (path-at frame notes (depth - 1))
+descent-up {depth = depth} x h =
+    record {
+      begins = omega (arith, h);
+      last = x .entries (depth - 1) (omega (arith, h)) (omega (arith, h));
+      entries = λ d g k. x .entries d g (omega (arith, k));
+      composed = λ d g k. x .composed d g (omega (arith, k));
+    }
+
+-- the entries are read from their words alone
+descent-stays :
+    {frame : Frame} {effects notes notes' : List ℕ} {from depth e i : ℕ}
+    → PathStays frame notes notes' depth
+    → Descent frame effects notes from depth e i
+    → Descent frame effects notes' from depth e i
+descent-stays {frame} {effects} {notes} {notes'} {from} {depth} {e} {i} s x =
+    record {
+      begins = x .begins;
+      last = follows (omega arith) refl (x .last);
+      entries = λ d g h. follows (omega (arith, h)) (s .same d h) (x .entries d g h);
+      composed = λ d g h. rw (s .same d h) (x .composed d g h);
+    }
+  where
+    follows :
+        {d j k : ℕ} → d ≤ depth → k ≡ j → Follows frame effects notes from e d j → Follows frame effects notes' from e d k
+    follows {d} {j} {k} h same f =
+        record {
+          first = λ z. same ∙ f .first z;
+          next = λ g. same ∙ f .next g ∙ ap (spine effects) (sym (s .same (d - 1) (omega (arith, g, h))));
+          falls = omega (arith, f .falls, same);
+        }
+
+-- Up the path that begins with row e, with what building its condition asks.
+module _ {frame : Frame} {formulas effects notes : List ℕ} {t : Target} {at : Size} {before : Store} {scratch : List ℕ} {e from : ℕ} (a : AsksBelow frame formulas effects notes t at before scratch e from) where
+  -- an entry and what is known of it
+  module _ {notes₁ : List ℕ} {depth i : ℕ} (x : Descent frame effects notes₁ from depth e i) (h : from < depth) where
+    pub entry-lower : path-at frame notes₁ (depth - 1) + (depth - 1) < frame .effects
+    entry-lower = omega (arith, x .entries (depth - 1) (omega (arith, h)) (omega (arith, h)) .falls, a .room)
+
+    pub entry-most : path-at frame notes₁ (depth - 1) ≤ e
+    entry-most = omega (arith, x .entries (depth - 1) (omega (arith, h)) (omega (arith, h)) .falls, h)
+
+    entry-composed : 3 ≤ row-at effects (path-at frame notes₁ (depth - 1)) .kind
+    entry-composed = x .composed (depth - 1) (omega (arith, h)) (omega (arith, h))
+
+    entry-read :
+        condition-at frame formulas effects t (path-at frame notes₁ (depth - 1))
+        ≡ bind (condition-at frame formulas effects t (spine effects (path-at frame notes₁ (depth - 1))))
+        (λ l. onward frame formulas effects t (path-at frame notes₁ (depth - 1)) l)
+    entry-read =
+        of-spine frame formulas effects scratch (a .asks .effect-source) (path-at frame notes₁ (depth - 1)) (omega (arith, entry-lower)) t
+        entry-composed
+
+    spine-is :
+        condition-at frame formulas effects t (spine effects (path-at frame notes₁ (depth - 1))) ≡ condition-at frame formulas effects t i
+    spine-is = ap (λ j. condition-at frame formulas effects t j) (sym (x .last .next h))
+
+  -- The step is full: so it is for each entry above.
+  full-up :
+      {notes₁ notes₂ : List ℕ} {after : Store} {s2 : List ℕ} {r : Step} (n depth i : ℕ)
+      → depth ≡ from + n
+      → r .full ≡ true
+      → Descent frame effects notes₁ from depth e i
+      → Conditions (condition-at frame formulas effects t i) frame formulas effects notes₂ t e at before after scratch s2 r
+      → Conditions (condition-at frame formulas effects t e) frame formulas effects notes₂ t e at before after scratch s2 r
+  full-up zero depth i q g x y =
+      conditions-as (ap (λ j. condition-at frame formulas effects t j) (sym (x .last .first (omega (arith, q))))) y
+  full-up {notes₁ = notes₁} (suc n) depth i q g x y =
+      let h : from < depth = omega (arith, q) in
+      let j = path-at frame notes₁ (depth - 1) in
+      full-up n (depth - 1) j (omega (arith, q)) g (descent-up x h)
+      (conditions-as (entry-read x h)
+      (conditions-stop (λ l. onward frame formulas effects t j l) (λ l. steady-onward frame formulas effects t j l)
+      (conditions-as (spine-is x h) y) g))
+
+  -- The bottom's condition is known.
+  pub rising-none :
+      {notes' : List ℕ} {b : Bottom}
+      → Descended frame effects notes notes' scratch t e from b
+      → Rising frame formulas effects notes' notes' t e from (b .depth) at before before scratch scratch (done-step at (b .known - 1))
+  rising-none {notes'} {b} d =
+      let x = d .descending in
+      let low : d .row ≤ e = omega (arith, x .descent .last .falls, x .descent .begins) in
+      let asks : Asks frame formulas effects notes' t at before scratch (d .row) =
+      record {
+        source = a .asks .source;
+        effect-source = a .asks .effect-source;
+        ready = a .asks .ready;
+        noted = x .noted formulas _ (a .asks .noted);
+        memo = a .asks .memo;
+        effect-memo = a .asks .effect-memo;
+        effect = omega (arith, low, a .asks .effect);
+      } in
+      record {
+        row = d .row;
+        descent = x .descent;
+        climbs =
+            record {
+              conditions =
+                  conditions-wider low
+                  (conditions-known frame formulas effects t at before scratch (d .row) (b .known - 1) asks
+                  (x .sees .known formulas at before asks (d .found)));
+              stays = stays-refl frame notes' from;
+            };
+        going = refl;
+      }
+
+  module _ {notes₀ notes₁ : List ℕ} {mid : Store} {s1 : List ℕ} {l : Step} {depth : ℕ} (down : PathStays frame notes notes₀ from) (x : Rising frame formulas effects notes₀ notes₁ t e from depth at before mid scratch s1 l) where
+    pub rising-long : length notes₁ ≡ length notes
+    rising-long = x .climbs .stays .long ∙ down .long
+
+    -- The path is at its end.
+    pub rising-all :
+        depth ≤ from
+        → Climbs (condition-at frame formulas effects t e) frame formulas effects notes notes₁ t e from at before mid scratch s1 l
+    rising-all h =
+        record {
+          conditions =
+              conditions-as
+              (ap (λ j. condition-at frame formulas effects t j) (sym (x .descent .last .first (omega (arith, h, x .descent .begins)))))
+              (x .climbs .conditions);
+          stays = stays-trans frame down (x .climbs .stays);
+        }
+
+    -- The next entry, i.
+    module _ (h : from < depth) {i : ℕ} (top : i ≡ path-at frame notes₁ (depth - 1)) where
+      pub rising-room : i + (depth - 1) < frame .effects
+      rising-room = omega (arith, top, entry-lower (x .descent) h)
+
+      pub rising-falls : i ≤ e
+      rising-falls = omega (arith, top, entry-most (x .descent) h)
+
+      pub rising-asks :
+          length s1 ≡ length scratch
+          → AsksOnward frame formulas effects notes₁ t l mid s1 i (depth - 1)
+      rising-asks long =
+          rw top
+          (record {
+            below =
+                record {
+                  asks = asks-next (path-at frame notes₁ (depth - 1)) (a .asks) (x .climbs .conditions) (x .going) long (omega (arith, entry-lower (x .descent) h));
+                  composed = entry-composed (x .descent) h;
+                  room = entry-lower (x .descent) h;
+                };
+            going = x .going;
+            known =
+                rw (sym (x .descent .last .next h))
+                (done-known (steady-condition-at frame formulas effects t (x .row)) (x .climbs .conditions .builds .done (x .going)));
+          })
+
+      module _ {notes₂ : List ℕ} {after : Store} {s2 : List ℕ} {r : Step} (y : Climbs (onward frame formulas effects t i (l .row)) frame formulas effects notes₁ notes₂ t i (depth - 1) (size-of l) mid after s1 s2 r) where
+        climbed :
+            Conditions (condition-at frame formulas effects t (path-at frame notes₁ (depth - 1))) frame formulas effects notes₂ t e at before after scratch s2 r
+        climbed =
+            let j = path-at frame notes₁ (depth - 1) in
+            conditions-as (entry-read (x .descent) h)
+            (conditions-bind (λ l. onward frame formulas effects t j l)
+            (conditions-as (spine-is (x .descent) h) (x .climbs .conditions)) (x .going)
+            (conditions-wider (entry-most (x .descent) h) (rw top at (y .conditions))))
+
+        stayed : PathStays frame notes₀ notes₂ from
+        stayed = stays-trans frame (x .climbs .stays) (stays-fewer frame (omega (arith, h)) (y .stays))
+
+        pub rising-more :
+            r .full ≡ false
+            → Rising frame formulas effects notes₀ notes₂ t e from (depth - 1) at before after scratch s2 r
+        rising-more g =
+            record {
+              row = path-at frame notes₁ (depth - 1);
+              descent = descent-stays (y .stays) (descent-up (x .descent) h);
+              climbs = record { conditions = climbed; stays = stayed };
+              going = g;
+            }
+
+        pub rising-full :
+            r .full ≡ true
+            → Climbs (condition-at frame formulas effects t e) frame formulas effects notes notes₂ t e from at before after scratch s2 r
+        rising-full g =
+            record {
+              conditions =
+                  full-up (depth - 1 - from) (depth - 1) (path-at frame notes₁ (depth - 1)) (omega (arith, h)) g (descent-up (x .descent) h) climbed;
+              stays = stays-trans frame down stayed;
+            }

@@ -1,0 +1,78 @@
+use Rattle.conditions.proofs.path.descend.Statement.{statement}
+use Rattle.conditions.proofs.path.descend.Tie as tie
+use Rattle.conditions.proofs.path.descend.Reads as reads
+use Rattle.conditions.proofs.path.descend.Lts as lts
+use Rattle.conditions.proofs.path.spine_of.Reads as spine-of-reads
+use Rattle.conditions.proofs.seen.seen.Reads as seen-reads
+use Prim.Native.Nat.{_-_}
+use native.Mathlib.Omega.{arith}
+use mathlib.Core.Path.{_≡_, refl}
+use lib.ListN.{length, length-set}
+use Rattle.conditions.specs.Paths.{Descending}
+use Rattle.conditions.proofs.Descents.{descending-none, descending-room, descending-long, descending-falls, descending-asks, descending-more, descended}
+
+abbrev Inv-loop : tie.InvT-loop
+Inv-loop effects notes₀ scratch frame t e from base depth₀ i₀ known₀ notes depth i known =
+    (base ≡ length notes - frame .effects) × Descending frame effects notes₀ notes scratch t e from depth i known
+
+abbrev μ-loop : tie.MeasureT-loop
+μ-loop effects notes₀ scratch frame t e from base depth₀ i₀ known₀ notes depth i known = i
+
+sub-base : tie.Need-sub-base Inv-loop μ-loop
+sub-base c = omega (arith, c .before .before .before .before .pre .seen .looks .words)
+
+loop-holds : tie.Need-loop-holds Inv-loop μ-loop
+loop-holds c = (refl, descending-none (c .before .before .before .before .args .t) (c .before .before .before .before .pre))
+
+cast-notes : tie.Need-cast-notes Inv-loop μ-loop
+cast-notes c = omega (arith, descending-room (c .before .before .before .before .before .before .pre) (c .before .loop .inv .1), c .before .before .before .before .before .before .pre .seen .looks .words, c .before .before .before .before .before .before .pre .seen .looks .limit, descending-long (c .before .before .before .before .before .before .pre) (c .before .loop .inv .1), c .before .loop .inv .0, c .before .before .before .before .before .before .good)
+
+add-notes : tie.Need-add-notes Inv-loop μ-loop
+add-notes c = omega (arith, descending-room (c .before .before .before .before .before .before .pre) (c .before .loop .inv .1), c .before .before .before .before .before .before .pre .seen .looks .words, c .before .before .before .before .before .before .pre .seen .looks .limit, descending-long (c .before .before .before .before .before .before .pre) (c .before .loop .inv .1), c .before .loop .inv .0, c .before .before .before .before .before .before .good)
+
+mul-notes : tie.Need-mul-notes Inv-loop μ-loop
+mul-notes c = omega (arith, descending-room (c .before .before .before .before .before .before .pre) (c .before .loop .inv .1), c .before .before .before .before .before .before .pre .seen .looks .words, c .before .before .before .before .before .before .pre .seen .looks .limit, descending-long (c .before .before .before .before .before .before .pre) (c .before .loop .inv .1), c .before .loop .inv .0, c .before .before .before .before .before .before .good)
+
+slice-write-notes : tie.Need-slice-write-notes Inv-loop μ-loop
+slice-write-notes c = omega (arith, descending-room (c .before .before .before .before .before .before .pre) (c .before .loop .inv .1), c .before .before .before .before .before .before .pre .seen .looks .words, c .before .before .before .before .before .before .pre .seen .looks .limit, descending-long (c .before .before .before .before .before .before .pre) (c .before .loop .inv .1), c .before .loop .inv .0, c .before .before .before .before .before .before .good)
+
+add-depth : tie.Need-add-depth Inv-loop μ-loop
+add-depth c = omega (arith, descending-room (c .before .before .before .before .before .before .pre) (c .before .loop .inv .1), c .before .before .before .before .before .before .pre .seen .looks .words, c .before .before .before .before .before .before .pre .seen .looks .limit, descending-long (c .before .before .before .before .before .before .pre) (c .before .loop .inv .1), c .before .loop .inv .0, c .before .before .before .before .before .before .good)
+
+spine-of-requires : tie.Need-spine-of-requires Inv-loop μ-loop
+spine-of-requires c κs = omega (arith, descending-room (c .before .before .before .before .before .before .pre) (c .before .loop .inv .1), c .before .before .before .before .before .before .pre .seen .source .words)
+
+seen-requires : tie.Need-seen-requires Inv-loop μ-loop
+seen-requires c κs = rw (c .before .spine-of .ensures) (descending-asks (c .before .before .before .before .before .before .before .before .pre) (c .before .before .before .loop .inv .1) (c .before .before .loop-test .taken) _ (c .before .before .before .loop .inv .0))
+
+loop-less : tie.Need-loop-less Inv-loop μ-loop
+loop-less c = omega (arith, c .before .before .spine-of .ensures, descending-falls (c .before .before .before .before .before .before .before .before .before .pre) (c .before .before .before .before .loop .inv .1) (c .before .before .before .loop-test .taken))
+
+loop-again : tie.Need-loop-again Inv-loop μ-loop
+loop-again c = (simp length-set (c .before .before .before .before .loop .inv .0), rw (c .before .before .spine-of .ensures) (descending-more (c .before .before .before .before .before .before .before .before .before .pre) (c .before .before .before .before .loop .inv .1) (c .before .before .before .loop-test .taken) _ (c .before .before .before .before .loop .inv .0) (rw (c .before .before .spine-of .ensures) at (c .seen .ensures))))
+
+same-length : tie.Need-same-length Inv-loop μ-loop
+same-length c = descending-long (c .before .before .before .before .before .before .pre) (c .before .loop .inv .1)
+
+returns : tie.Need-returns Inv-loop μ-loop
+returns c = descended (c .before .before .before .before .before .before .pre) (c .before .loop .inv .1) (c .loop-test .left)
+
+pub descend-spec : {M : Type 1} → statement M
+descend-spec =
+    tie.close
+    (tie.spec
+    Inv-loop
+    μ-loop
+    sub-base
+    loop-holds
+    cast-notes
+    add-notes
+    mul-notes
+    slice-write-notes
+    add-depth
+    spine-of-requires
+    seen-requires
+    loop-less
+    loop-again
+    same-length
+    returns)
