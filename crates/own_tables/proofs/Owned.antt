@@ -32,8 +32,8 @@ module _ {l : Lent} {rows twins effects : ℕ} {x : Tables} where
 
   pub owns-many :
       Begins l rows twins effects x
-      → Owns l rows twins effects x (replicate 78848 0) (replicate 24576 0) (replicate 6912 0)
-  owns-many b = owns 78848 24576 b (omega (arith, few-effects l (b .lends .passes))) (omega (arith, b .lends .rows-limit))
+      → Owns l rows twins effects x (replicate 540672 0) (replicate 24576 0) (replicate 6912 0)
+  owns-many b = owns 540672 24576 b (omega (arith, few-effects l (b .lends .passes))) (omega (arith, b .lends .rows-limit))
 
   pub owns-few :
       Begins l rows twins effects x

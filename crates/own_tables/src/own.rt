@@ -10,8 +10,8 @@ ghost use Rattle.filling.specs.Begins.{Begins};
 ghost use Rattle.own_tables.specs.Few.{BeginsSmall};
 
 // The first has the words of 4,096 rows, two links for each, and 4,096 heads: 48 KiB, cleared. The second has three words for
-// each of 256 operators and 2,048 changes: 13.5 KiB, cleared. The third has three words for each of 4,096 effects, and for each of 65 columns
-// two for each of 512 variables: 154 KiB, cleared; fewer variables have more columns.
+// each of 256 operators and 2,048 changes: 13.5 KiB, cleared. The third has four words for each of 4,096 effects, and for each of 512 columns,
+// of which the first is not used, two for each of 512 variables: 1 MiB, cleared; fewer variables have more columns.
 fn fill_many(
     head: Head,
     initial: &[u8],
@@ -34,7 +34,7 @@ fn fill_many(
 {
     let mut built = [0u16; 24576];
     let mut records = [0u16; 6912];
-    let mut notes = [0u16; 78848];
+    let mut notes = [0u16; 540672];
     fill_noted(
         head,
         initial,

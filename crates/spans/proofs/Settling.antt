@@ -244,7 +244,7 @@ settling-more {frame} {first} {notes} {notes'} {i} {k} {last} {r} n long x s =
 pub settling-all :
     {frame : Frame} {first notes : List ℕ} {i last : ℕ}
     → i ≤ 0
-    → 3 * frame .effects ≤ length first
+    → 4 * frame .effects ≤ length first
     → Settling frame first i last notes
     → FoundColumns frame first notes
 settling-all n room x =
