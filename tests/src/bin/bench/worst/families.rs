@@ -26,7 +26,7 @@ pub struct Family {
     pub make: fn(&Size) -> Task,
 }
 
-pub const FAMILIES: [Family; 12] = [
+pub const FAMILIES: [Family; 13] = [
     Family {
         name: "one tree, all set and cleared, same row",
         make: one_tree,
@@ -54,6 +54,10 @@ pub const FAMILIES: [Family; 12] = [
     Family {
         name: "a net that operators enter at many rows",
         make: net,
+    },
+    Family {
+        name: "the same, two rows abreast",
+        make: narrow_net,
     },
     Family {
         name: "chain of equivalents, growing",
@@ -196,22 +200,30 @@ fn own_whens(size: &Size) -> Task {
     draft.finish(yes)
 }
 
-/// How many rows of the net an operator names, and how many stand abreast.
+/// How many rows of the net an operator names.
 const ENTERED: usize = 7;
-const ABREAST: usize = 8;
 
-/// Above all atoms a net of rows, each "both" of two of the line below it;
-/// the operators enter it at rows far apart, each under a false top.
 fn net(size: &Size) -> Task {
+    net_of(8, size)
+}
+
+fn narrow_net(size: &Size) -> Task {
+    net_of(2, size)
+}
+
+/// Above all atoms a net of rows, so many abreast, each "both" of two of the
+/// line below it; the operators enter it at rows far apart, each under a false
+/// top.
+fn net_of(abreast: usize, size: &Size) -> Task {
     let mut draft = draft(size);
     let yes = draft.yes();
     let no = draft.formula(formula::FALSE, 0, 0);
     let all = atoms(&mut draft, size, size.effects / 8);
     let bottom = draft.all(&all);
-    let mut rows = vec![bottom; ABREAST];
+    let mut rows = vec![bottom; abreast];
     let spare = (ENTERED + 1) * size.operators;
     while usize::from(*rows.last().expect("a row")) + 1 + spare < size.effects {
-        let line = &rows[rows.len() - ABREAST..];
+        let line = &rows[rows.len() - abreast..];
         let (left, right) = (line[0], line[1]);
         let row = draft.effect(effect::BOTH, left, right);
         rows.push(row);
