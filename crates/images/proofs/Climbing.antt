@@ -6,20 +6,19 @@ use mathlib.Core.Path.{_≡_, refl, sym, ap, _∙_}
 use mathlib.Core.Bool.{Bool, true, false, cond}
 use mathlib.Core.List.{List}
 use lib.ListN.{length, getD, set, length-set}
-use lib.Dec.{eqb}
 use lib.Seq.{getD-set-same, getD-set-other}
 use borrow.Author.Tests.{eq-eqb, ne-eqb}
 use Rattle.task.specs.Table.{Row, row-at}
-use Rattle.normal_form.specs.Builder.{St, Build, Polarity, plain, negated}
+use Rattle.normal_form.specs.Builder.{St, Polarity, plain, negated}
 use Rattle.formula_builder.specs.declared.Words.{Words}
 use Rattle.formula_builder.specs.declared.Frame.{Frame}
 use Rattle.formula_builder.specs.declared.Size.{Size}
 use Rattle.formula_builder.specs.declared.Step.{Step}
-use Rattle.formula_builder.specs.Held.{Store, row-of, held, size-of, done-step}
-use Rattle.images.specs.Images.{image-at, keeps, first-at, memo-place, Known, Memo, noted, Source, Asks, Images, Kept, Reaches, Over, Climb, top, link, AsksRow, Lower, Descends, row-over, AsksUp, Rises}
+use Rattle.formula_builder.specs.Held.{Store, row-of}
+use Rattle.images.specs.Images.{image-at, keeps, first-at, memo-place, Known, Memo, noted, Notes, Source, Asks, Images, Kept, Reaches, Over, Climb, top, link, AsksRow, Lower, Descends, row-over, AsksUp, Rises}
 use Rattle.images.proofs.Rows.{keeps-four, first-own}
 use Rattle.images.proofs.Memos.{place-within, images-as, images-noted}
-use Rattle.images.proofs.Cases.{kept-refl, kept-then, kept-from, left-lower}
+use Rattle.images.proofs.Cases.{notes-ready, kept-refl, kept-then, kept-from, left-lower}
 
 place-apart :
     (frame : Frame) (p q : Polarity) (i j : ℕ)
@@ -245,6 +244,18 @@ module _ {frame : Frame} {formulas : List ℕ} {p : Polarity} {i : ℕ} {at : Si
         memo = λ e. x .memo e;
         below = λ e. x .builds .done e .below;
       }
+
+  -- the row that was built fits its word
+  pub climbing-notes :
+      {last : Store} {scratch' : List ℕ} {r : Step}
+      → j ≤ i
+      → Rises p frame formulas after last scratch scratch' j s r
+      → length scratch' ≡ length scratch
+      → Notes scratch' (memo-place frame p j) r
+  climbing-notes {last} {scratch'} {r} h u long =
+      let g : j < frame .formulas = omega (arith, c .row .formula) in
+      notes-ready scratch' (memo-place frame p j) (u .images at before entry (c .started h) .builds)
+      (omega (arith, place-within frame p j g, c .row .source .memo, long))
 
   pub climbing-ends :
       i < j → Reaches (image-at frame formulas p i) (i + 1) frame formulas at before after entry scratch s

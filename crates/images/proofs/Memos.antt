@@ -1,11 +1,11 @@
 -- The memo of images stays right while the state grows, and steps with a memo are put together. Assumes nothing.
-use Prim.Native.Nat.{ℕ, zero, suc, _+_, _-_, _*_, _≤_, _<_}
+use Prim.Native.Nat.{ℕ, _+_, _-_, _*_, _≤_, _<_}
 use native.Mathlib.Omega.{arith}
-use native.Mathlib.Decide.{decLt, ℕ-discrete}
-use mathlib.Core.Path.{_≡_, refl, sym, ap, ap₂, _∙_}
+use native.Mathlib.Decide.{ℕ-discrete}
+use mathlib.Core.Path.{_≡_, refl, sym, ap, _∙_}
 use mathlib.Core.Bool.{Bool, true, false, cond, not, true≢false}
-use mathlib.Core.List.{List, [], _∷_}
-use lib.ListN.{length, getD, set, length-set}
+use mathlib.Core.List.{List}
+use lib.ListN.{length, getD, set}
 use lib.Dec.{ltb, leb}
 use borrow.Author.Tests.{leb-true, eq-eqb, ne-eqb}
 use lib.Seq.{getD-set-same, getD-set-other}
@@ -13,15 +13,15 @@ use Rattle.task.specs.Bounded.{upto}
 use Rattle.task.specs.Table.{row-at}
 use Rattle.task.proofs.Bounded.{length-upto}
 use Rattle.normal_form.specs.Builder.{St, Got, Build, give, bind, join, pair, Polarity, plain, negated, opposite}
-use Rattle.normal_form.specs.Growth.{Prefix, Grows, Steady}
+use Rattle.normal_form.specs.Growth.{Grows, Steady}
 use Rattle.normal_form.proofs.Growth.{grows-refl, steady-give, steady-bind, steady-join, steady-pair}
 use Rattle.normal_form.proofs.Steady.{steady-image}
 use Rattle.formula_builder.specs.declared.Frame.{Frame}
 use Rattle.formula_builder.specs.declared.Size.{Size}
 use Rattle.formula_builder.specs.declared.Step.{Step}
-use Rattle.formula_builder.specs.Held.{Store, held, size-of, side, done-step, Ready, Done, Builds}
+use Rattle.formula_builder.specs.Held.{Store, held, size-of, side, done-step, Done, Builds}
 use Rattle.formula_builder.proofs.Steps.{builds-done, builds-as, builds-bind, builds-stop, prefix-length}
-use Rattle.images.specs.Images.{tree, image-at, keeps, first-at, pair-at, memo-place, Known, is-row, Memo, noted, Source, Asks, Images}
+use Rattle.images.specs.Images.{tree, image-at, keeps, first-at, pair-at, memo-place, Known, is-row, Memo, noted, Asks, Images}
 
 pub steady-image-at : (frame : Frame) (formulas : List ℕ) (p : Polarity) (i : ℕ) → Steady (image-at frame formulas p i)
 unfolding image-at

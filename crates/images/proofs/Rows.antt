@@ -1,20 +1,19 @@
 -- The image of a row by its kind. Assumes nothing.
-use Prim.Native.Nat.{ℕ, zero, suc, _+_, _-_, _*_, _≤_, _<_}
+use Prim.Native.Nat.{ℕ, zero, suc, _-_, _≤_, _<_}
 use native.Mathlib.Omega.{arith}
 use native.Mathlib.Decide.{decLt}
-use mathlib.Core.Path.{_≡_, refl, sym, ap, ap₂, _∙_}
+use mathlib.Core.Path.{_≡_, refl, sym, ap, _∙_}
 use mathlib.Core.Bool.{Bool, true, false, cond, not, true≢false}
 use mathlib.Core.List.{List, [], _∷_}
 use lib.ListN.{length, getD, List·getD-eq-default}
 use lib.Dec.{eqb, ltb}
 use borrow.Author.Tests.{ltb-false, lt-ltb, le-ltb}
-use Rattle.task.specs.Bounded.{upto}
-use Rattle.task.specs.Table.{Row, row-at, FormulaKind, false-kind, true-kind, variable-kind, not-kind, and-kind, or-kind, implies-kind, equivalent-kind, unknown-formula, formula-kind}
+use Rattle.task.specs.Table.{row-at, FormulaKind, false-kind, true-kind, variable-kind, not-kind, and-kind, or-kind, implies-kind, equivalent-kind, unknown-formula, formula-kind}
 use Rattle.task.specs.Rules.{no-row, FormulaRule}
 use Rattle.task.specs.Semantics.{Formula}
-use Rattle.task.specs.Tree.{formula-node, formula-of}
+use Rattle.task.specs.Tree.{formula-node}
 use Rattle.task.proofs.Bounded.{length-upto, getD-upto}
-use Rattle.task.proofs.Trees.{FormulaKept, FormulasDown, formula-unfolds}
+use Rattle.task.proofs.Trees.{FormulaKept, formula-unfolds}
 use Rattle.normal_form.specs.Builder.{Build, give, pair, Polarity, plain, negated, opposite}
 use Rattle.normal_form.specs.Image.{image}
 use Rattle.formula_builder.specs.declared.Frame.{Frame}

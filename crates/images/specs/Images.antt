@@ -53,11 +53,12 @@ unfoldable pub equivalent-at : Frame → List ℕ → ℕ → Bool → ℕ → �
 equivalent-at frame formulas i crossed left right =
     pair negated (join plain left right) (pair-at frame formulas i crossed)
 
--- a row without operands, from its words
+-- row 0 for false, row 1 for true; negated, the other way round
 abbrev pub constant-by : Polarity → ℕ → ℕ
 constant-by plain k = k
 constant-by negated k = 1 - k
 
+-- a row without operands, from its words
 unfoldable pub leaf-built : ℕ → Polarity → Row → Build ℕ
 leaf-built n p w = cond (eqb (w .kind) 2) (literal n p (w .a)) (give (constant-by p (w .kind)))
 
@@ -125,6 +126,7 @@ pub record Kept (n : ℕ) (frame : Frame) (scratch scratch' : List ℕ) : Type 0
       → j < frame .formulas
       → getD scratch' (memo-place frame q j) 0 ≡ getD scratch (memo-place frame q j) 0
 
+-- A step with its memo for rows below n.
 pub record Reaches (m : Build ℕ) (n : ℕ) (frame : Frame) (formulas : List ℕ) (at : Size) (before after : Store) (scratch scratch' : List ℕ) (r : Step) : Type 0 where
   pub images : Images m frame formulas at before after scratch scratch' r
   pub above : Kept n frame scratch scratch'
@@ -145,6 +147,7 @@ pub data Climb (frame : Frame) (formulas scratch : List ℕ) (p : Polarity) (i :
       → Climb frame formulas scratch p i k
       → Climb frame formulas scratch p i j
 
+-- for the rows of the source alone
 pub record AsksRow (frame : Frame) (formulas scratch : List ℕ) (i : ℕ) : Type 0 where
   pub source : Source frame formulas scratch
   pub formula : i < frame .formulas
@@ -165,6 +168,7 @@ pub record Descends (frame : Frame) (formulas : List ℕ) (p : Polarity) (i : �
 abbrev pub row-over : ℕ → ℕ → ℕ → ℕ
 row-over i j word = cond (eqb j i) (i + 1) (word - 4097)
 
+-- a row without operands, and room for what it builds
 pub record LeafReady (frame : Frame) (at : Size) (s : Store) (w : Row) : Type 0 where
   pub ready : Ready frame at s
   pub kind : w .kind < 3

@@ -17,7 +17,7 @@ ghost use Rattle.normal_form.specs.Builder.{plain, negated};
 ghost use Rattle.formula_builder.specs.Held.{store, side};
 ghost use Rattle.images.specs.Images.{image-at, first-at, pair-at, equivalent-at, Asks, AsksPair, AsksEquivalent, AsksUp, Reaches, Rises};
 
-// The image of formula i.
+// The image of formula i: a step for each row below it that the memo has not.
 pub fn image(
     formulas: &[u16],
     i: usize,
@@ -120,7 +120,7 @@ fn image_up(
     join(table, frame, mid, w.kind != 4, l.row, b.row)
 }
 
-// The negated image of formula i.
+// The negated image of formula i: a step for each row below it that the memo has not.
 pub fn negated_image(
     formulas: &[u16],
     i: usize,

@@ -27,7 +27,6 @@ pub mod ShapeLimits
 pub mod Examples
 pub mod Compiled
 pub mod Padded
-pub mod Again
 pub mod Assembling
 pub mod Over
 pub mod ExamplesCompiled

@@ -32,14 +32,13 @@ module _ {l : Lent} {rows twins effects : ℕ} {x : Tables} where
 
   pub owns-many :
       Begins l rows twins effects x
-      → Owns l rows twins effects x (replicate 540672 0) (replicate 24576 0) (replicate 6912 0)
-  owns-many b = owns 540672 24576 b (omega (arith, few-effects l (b .lends .passes))) (omega (arith, b .lends .rows-limit))
+      → Owns l rows twins effects x (replicate 344064 0) (replicate 24576 0) (replicate 6912 0)
+  owns-many b = owns 344064 24576 b (omega (arith, few-effects l (b .lends .passes))) (omega (arith, b .lends .rows-limit))
 
   pub owns-few :
       Begins l rows twins effects x
-      → l .head .effects ≤ 512
-      → Owns l rows twins effects x (replicate 5632 0) (replicate 24576 0) (replicate 6912 0)
-  owns-few b h = owns 5632 24576 b (omega (arith, h)) (omega (arith, b .lends .rows-limit))
+      → Owns l rows twins effects x (replicate 78848 0) (replicate 24576 0) (replicate 6912 0)
+  owns-few b = owns 78848 24576 b (omega (arith, few-effects l (b .lends .passes))) (omega (arith, b .lends .rows-limit))
 
   pub owns-small :
       BeginsSmall l rows twins effects x

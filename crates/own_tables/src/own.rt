@@ -10,8 +10,8 @@ ghost use Rattle.filling.specs.Begins.{Begins};
 ghost use Rattle.own_tables.specs.Few.{BeginsSmall};
 
 // The first has the words of 4,096 rows, two links for each, and 4,096 heads: 48 KiB, cleared. The second has three words for
-// each of 256 operators and 2,048 changes: 13.5 KiB, cleared. The third has four words for each of 4,096 effects, and for each of 512 columns,
-// of which the first is not used, two for each of 512 variables: 1 MiB, cleared; fewer variables have more columns.
+// each of 256 operators and 2,048 changes: 13.5 KiB, cleared. The third has four words for each of 4,096 effects, and for each of 320 columns,
+// of which the first is not used, two for each of 512 variables: 672 KiB, cleared; fewer variables have more columns.
 fn fill_many(
     head: Head,
     initial: &[u8],
@@ -34,7 +34,7 @@ fn fill_many(
 {
     let mut built = [0u16; 24576];
     let mut records = [0u16; 6912];
-    let mut notes = [0u16; 540672];
+    let mut notes = [0u16; 344064];
     fill_noted(
         head,
         initial,
@@ -57,7 +57,7 @@ fn fill_many(
     )
 }
 
-// The same for at most 512 effects, whose notes are small: 11 KiB, cleared.
+// The same with 61 columns in place of 320, so that the notes take 154 KiB, cleared.
 fn fill_few(
     head: Head,
     initial: &[u8],
@@ -75,12 +75,12 @@ fn fill_few(
     written: &mut [u16],
     scratch: &mut [u16],
 ) -> Passes
-    requires { ⌜ (Begins (lent head (now initial) (now twins) (now formulas) (now effects) (now operators)) rows most room (tables (now values) (now originals) (now table) (now out) (now written) (now scratch))) × (head .effects ≤ 512) ⌝ }
+    requires { ⌜ Begins (lent head (now initial) (now twins) (now formulas) (now effects) (now operators)) rows most room (tables (now values) (now originals) (now table) (now out) (now written) (now scratch)) ⌝ }
     ensures { λ r. ⌜ Fills (lent head (now (initial .entry)) (now (twins .entry)) (now (formulas .entry)) (now (effects .entry)) (now (operators .entry))) (tables (now (values .entry)) (now (originals .entry)) (now (table .entry)) (now (out .entry)) (now (written .entry)) (now (scratch .entry))) (tables (now (values .exit)) (now (originals .exit)) (now (table .exit)) (now (out .exit)) (now (written .exit)) (now (scratch .exit))) r ⌝ }
 {
     let mut built = [0u16; 24576];
     let mut records = [0u16; 6912];
-    let mut notes = [0u16; 5632];
+    let mut notes = [0u16; 78848];
     fill_noted(
         head,
         initial,
@@ -103,7 +103,15 @@ fn fill_few(
     )
 }
 
-// Few effects have small notes. Costs what filling does, and clearing its own tables.
+// Whether few columns do: with few variables they are narrow, and for few effects few are wanted. Nothing is promised: either would do.
+fn few_do(head: Head) -> bool {
+    if head.variables <= 128 {
+        return true;
+    }
+    head.effects <= 1024
+}
+
+// Notes as large as the task asks. Costs what filling does, and clearing its own tables.
 pub fn fill(
     head: Head,
     initial: &[u8],
@@ -124,7 +132,7 @@ pub fn fill(
     requires { ⌜ Begins (lent head (now initial) (now twins) (now formulas) (now effects) (now operators)) rows most room (tables (now values) (now originals) (now table) (now out) (now written) (now scratch)) ⌝ }
     ensures { λ r. ⌜ Fills (lent head (now (initial .entry)) (now (twins .entry)) (now (formulas .entry)) (now (effects .entry)) (now (operators .entry))) (tables (now (values .entry)) (now (originals .entry)) (now (table .entry)) (now (out .entry)) (now (written .entry)) (now (scratch .entry))) (tables (now (values .exit)) (now (originals .exit)) (now (table .exit)) (now (out .exit)) (now (written .exit)) (now (scratch .exit))) r ⌝ }
 {
-    if head.effects <= 512 {
+    if few_do(head) {
         return fill_few(
             head,
             initial,

@@ -56,9 +56,9 @@ use Rattle.formula_builder.specs.declared.Size.{Size}
 use Rattle.formula_builder.specs.Held.{Store, store, side}
 use Rattle.images.specs.Images.{equivalent-at as equivalent-built}
 use Rattle.images.proofs.Memos.{steady-image-at, steady-pair-at, images-as, asks-next, images-leaf, pair-left-full, pair-right-full, pair-done, row-word}
-use Rattle.images.proofs.Cases.{join-asks, notes-ready, kept-refl, kept-then, kept-from, asks-lower, asks-row, reaches-known, up-asks, asks-join, asks-second, pair-left, pair-right, pair-read, past-three, left-lower, right-lower, leaf-ready, start-none, start-own, start-other}
+use Rattle.images.proofs.Cases.{join-asks, kept-refl, kept-then, kept-from, asks-lower, asks-row, reaches-known, up-asks, asks-join, asks-second, pair-left, pair-right, pair-read, past-three, left-lower, right-lower, leaf-ready, start-none, start-own, start-other}
 use Rattle.images.proofs.Rising.{up-full, up-not, up-leaf, up-right-full, up-join, up-equivalent}
-use Rattle.images.proofs.Climbing.{climb-within, asks-lowest, Climbing, climbing-begins, climbing-asks, climbing-ends, climbing-word, climbing-rises, climbing-more}
+use Rattle.images.proofs.Climbing.{climb-within, asks-lowest, Climbing, climbing-begins, climbing-asks, climbing-notes, climbing-ends, climbing-word, climbing-rises, climbing-more}
 
 abbrev μ-equivalent : Measures 4 equivalent-kinds.ps ℕ
 μ-equivalent κs a = 6 * a .1 .0 + 3
@@ -291,7 +291,7 @@ image-image-up-requires t c κs = let g = c .before .before .before .before .bef
 
 -- src/cycle.rt:42:9
 image-note-requires : (t : ℕ) → image-lts.Need-note-requires (is-row-reads.Asked, is-row-reads.Learnt, standing-reads.Asked, standing-reads.Learnt, descend-reads.Asked, descend-reads.Learnt, image-start-below t, image-start.Post, image-up-below t, image-up.Post, note-reads.Asked, note-reads.Learnt, over-reads.Asked, over-reads.Learnt) (image-at t) image.Post image-Inv-loop image-μ-loop
-image-note-requires t c κs = let g = c .before .before .before .before .before .before .before .before .before .before .before .before .before .loop .inv (c .before .before .before .before .before .before .before .before .before .before .before .before .before .before .before .before .before .before .before .before .before .before .before .before .before .before .before .before .before .before .before .before .before .before .before .args .at) (store (c .before .before .before .before .before .before .before .before .before .before .before .before .before .before .before .before .before .before .before .before .before .before .before .before .before .before .before .before .before .before .before .before .before .before .before .args .table .now) (c .before .before .before .before .before .before .before .before .before .before .before .before .before .before .before .before .before .before .before .before .before .before .before .before .before .before .before .before .before .before .before .before .before .before .before .args .originals .now)) (c .before .before .before .before .before .before .before .before .before .before .before .before .before .before .before .before .before .before .before .before .before .before .before .before .before .before .before .before .before .before .before .before .before .before .before .args .scratch .now) (climbing-begins (c .before .before .before .before .before .before .before .before .before .before .before .before .before .before .before .before .before .before .before .before .before .before .before .before .before .before .before .before .before .before .before .before .before .before .before .pre .1) (c .before .before .before .before .before .before .before .before .before .before .before .before .before .before .before .before .before .before .before .before .before .before .before .before .before .before .descend .ensures) (c .before .before .before .before .before .before .before .before .before .before .before .before .before .before .before .before .before .before .before .before .image-start .ensures) (c .before .before .before .before .before .before .before .before .before .before .before .before .before .before .before .before .before .before .before .before .before .before .before .before .before .before .descend .kept .1 .1 .1 .1 .0) (c .before .before .before .before .before .before .before .before .before .before .before .before .before .before .before .before .before .before .before .before .image-start .kept .1 .1 .1 .1 .1 .1 .0) (c .before .before .before .before .before .before .before .before .before .before .before .before .before .before .before .before .before .before .before .before .image-start .kept .1 .1 .1 .1 .0) (c .before .before .before .before .before .before .before .before .before .before .before .before .before .before .before .before .before .before .before .before .image-start .kept .1 .1 .1 .1 .1 .0)) in notes-ready _ (c .before .before .before .before .before .before .before .before .before .before .before .before .before .loop .j) (c .before .before .before .before .before .before .before .image-up .ensures .images (c .before .before .before .before .before .before .before .before .before .before .before .before .before .before .before .before .before .before .before .before .before .before .before .before .before .before .before .before .before .before .before .before .before .before .before .args .at) (store (c .before .before .before .before .before .before .before .before .before .before .before .before .before .before .before .before .before .before .before .before .before .before .before .before .before .before .before .before .before .before .before .before .before .before .before .args .table .now) (c .before .before .before .before .before .before .before .before .before .before .before .before .before .before .before .before .before .before .before .before .before .before .before .before .before .before .before .before .before .before .before .before .before .before .before .args .originals .now)) (c .before .before .before .before .before .before .before .before .before .before .before .before .before .before .before .before .before .before .before .before .before .before .before .before .before .before .before .before .before .before .before .before .before .before .before .args .scratch .now) (g .started (c .before .before .before .before .before .before .before .before .before .before .before .before .loop-test .taken)) .builds) (omega (arith, c .before .before .before .before .before .before .before .image-up .kept .1 .1 .1 .1 .1 .1 .0, g .row .source .memo, g .row .formula, c .before .before .before .before .before .before .before .before .before .before .before .before .loop-test .taken))
+image-note-requires t c κs = let g = c .before .before .before .before .before .before .before .before .before .before .before .before .before .loop .inv (c .before .before .before .before .before .before .before .before .before .before .before .before .before .before .before .before .before .before .before .before .before .before .before .before .before .before .before .before .before .before .before .before .before .before .before .args .at) (store (c .before .before .before .before .before .before .before .before .before .before .before .before .before .before .before .before .before .before .before .before .before .before .before .before .before .before .before .before .before .before .before .before .before .before .before .args .table .now) (c .before .before .before .before .before .before .before .before .before .before .before .before .before .before .before .before .before .before .before .before .before .before .before .before .before .before .before .before .before .before .before .before .before .before .before .args .originals .now)) (c .before .before .before .before .before .before .before .before .before .before .before .before .before .before .before .before .before .before .before .before .before .before .before .before .before .before .before .before .before .before .before .before .before .before .before .args .scratch .now) (climbing-begins (c .before .before .before .before .before .before .before .before .before .before .before .before .before .before .before .before .before .before .before .before .before .before .before .before .before .before .before .before .before .before .before .before .before .before .before .pre .1) (c .before .before .before .before .before .before .before .before .before .before .before .before .before .before .before .before .before .before .before .before .before .before .before .before .before .before .descend .ensures) (c .before .before .before .before .before .before .before .before .before .before .before .before .before .before .before .before .before .before .before .before .image-start .ensures) (c .before .before .before .before .before .before .before .before .before .before .before .before .before .before .before .before .before .before .before .before .before .before .before .before .before .before .descend .kept .1 .1 .1 .1 .0) (c .before .before .before .before .before .before .before .before .before .before .before .before .before .before .before .before .before .before .before .before .image-start .kept .1 .1 .1 .1 .1 .1 .0) (c .before .before .before .before .before .before .before .before .before .before .before .before .before .before .before .before .before .before .before .before .image-start .kept .1 .1 .1 .1 .0) (c .before .before .before .before .before .before .before .before .before .before .before .before .before .before .before .before .before .before .before .before .image-start .kept .1 .1 .1 .1 .1 .0)) in climbing-notes g (c .before .before .before .before .before .before .before .before .before .before .before .before .loop-test .taken) (c .before .before .before .before .before .before .before .image-up .ensures) (c .before .before .before .before .before .before .before .image-up .kept .1 .1 .1 .1 .1 .1 .0)
 
 -- src/cycle.rt:43:9
 image-over-requires : (t : ℕ) → image-lts.Need-over-requires (is-row-reads.Asked, is-row-reads.Learnt, standing-reads.Asked, standing-reads.Learnt, descend-reads.Asked, descend-reads.Learnt, image-start-below t, image-start.Post, image-up-below t, image-up.Post, note-reads.Asked, note-reads.Learnt, over-reads.Asked, over-reads.Learnt) (image-at t) image.Post image-Inv-loop image-μ-loop
@@ -549,7 +549,7 @@ negated-image-negated-image-up-requires t c κs = let g = c .before .before .bef
 
 -- src/cycle.rt:135:9
 negated-image-note-requires : (t : ℕ) → negated-image-lts.Need-note-requires (is-row-reads.Asked, is-row-reads.Learnt, standing-reads.Asked, standing-reads.Learnt, descend-reads.Asked, descend-reads.Learnt, negated-image-start-below t, negated-image-start.Post, negated-image-up-below t, negated-image-up.Post, note-reads.Asked, note-reads.Learnt, over-reads.Asked, over-reads.Learnt) (negated-image-at t) negated-image.Post negated-image-Inv-loop negated-image-μ-loop
-negated-image-note-requires t c κs = let g = c .before .before .before .before .before .before .before .before .before .before .before .before .before .before .loop .inv (c .before .before .before .before .before .before .before .before .before .before .before .before .before .before .before .before .before .before .before .before .before .before .before .before .before .before .before .before .before .before .before .before .before .before .before .before .before .args .at) (store (c .before .before .before .before .before .before .before .before .before .before .before .before .before .before .before .before .before .before .before .before .before .before .before .before .before .before .before .before .before .before .before .before .before .before .before .before .before .args .table .now) (c .before .before .before .before .before .before .before .before .before .before .before .before .before .before .before .before .before .before .before .before .before .before .before .before .before .before .before .before .before .before .before .before .before .before .before .before .before .args .originals .now)) (c .before .before .before .before .before .before .before .before .before .before .before .before .before .before .before .before .before .before .before .before .before .before .before .before .before .before .before .before .before .before .before .before .before .before .before .before .before .args .scratch .now) (climbing-begins (c .before .before .before .before .before .before .before .before .before .before .before .before .before .before .before .before .before .before .before .before .before .before .before .before .before .before .before .before .before .before .before .before .before .before .before .before .before .pre .1) (c .before .before .before .before .before .before .before .before .before .before .before .before .before .before .before .before .before .before .before .before .before .before .before .before .before .before .before .descend .ensures) (c .before .before .before .before .before .before .before .before .before .before .before .before .before .before .before .before .before .before .before .before .before .negated-image-start .ensures) (c .before .before .before .before .before .before .before .before .before .before .before .before .before .before .before .before .before .before .before .before .before .before .before .before .before .before .before .descend .kept .1 .1 .1 .1 .0) (c .before .before .before .before .before .before .before .before .before .before .before .before .before .before .before .before .before .before .before .before .before .negated-image-start .kept .1 .1 .1 .1 .1 .1 .0) (c .before .before .before .before .before .before .before .before .before .before .before .before .before .before .before .before .before .before .before .before .before .negated-image-start .kept .1 .1 .1 .1 .0) (c .before .before .before .before .before .before .before .before .before .before .before .before .before .before .before .before .before .before .before .before .before .negated-image-start .kept .1 .1 .1 .1 .1 .0)) in notes-ready _ (c .before .before .before .before .before .before .before .before .before .before .before .before .before .before .before .before .before .before .before .before .before .before .before .before .before .before .before .before .before .before .before .before .before .before .before .before .before .args .frame .formulas + c .before .before .before .before .before .before .before .before .before .before .before .before .before .before .loop .j) (c .before .before .before .before .before .before .before .negated-image-up .ensures .images (c .before .before .before .before .before .before .before .before .before .before .before .before .before .before .before .before .before .before .before .before .before .before .before .before .before .before .before .before .before .before .before .before .before .before .before .before .before .args .at) (store (c .before .before .before .before .before .before .before .before .before .before .before .before .before .before .before .before .before .before .before .before .before .before .before .before .before .before .before .before .before .before .before .before .before .before .before .before .before .args .table .now) (c .before .before .before .before .before .before .before .before .before .before .before .before .before .before .before .before .before .before .before .before .before .before .before .before .before .before .before .before .before .before .before .before .before .before .before .before .before .args .originals .now)) (c .before .before .before .before .before .before .before .before .before .before .before .before .before .before .before .before .before .before .before .before .before .before .before .before .before .before .before .before .before .before .before .before .before .before .before .before .before .args .scratch .now) (g .started (c .before .before .before .before .before .before .before .before .before .before .before .before .before .loop-test .taken)) .builds) (omega (arith, c .before .before .before .before .before .before .before .negated-image-up .kept .1 .1 .1 .1 .1 .1 .0, g .row .source .memo, g .row .formula, c .before .before .before .before .before .before .before .before .before .before .before .before .before .loop-test .taken))
+negated-image-note-requires t c κs = let g = c .before .before .before .before .before .before .before .before .before .before .before .before .before .before .loop .inv (c .before .before .before .before .before .before .before .before .before .before .before .before .before .before .before .before .before .before .before .before .before .before .before .before .before .before .before .before .before .before .before .before .before .before .before .before .before .args .at) (store (c .before .before .before .before .before .before .before .before .before .before .before .before .before .before .before .before .before .before .before .before .before .before .before .before .before .before .before .before .before .before .before .before .before .before .before .before .before .args .table .now) (c .before .before .before .before .before .before .before .before .before .before .before .before .before .before .before .before .before .before .before .before .before .before .before .before .before .before .before .before .before .before .before .before .before .before .before .before .before .args .originals .now)) (c .before .before .before .before .before .before .before .before .before .before .before .before .before .before .before .before .before .before .before .before .before .before .before .before .before .before .before .before .before .before .before .before .before .before .before .before .before .args .scratch .now) (climbing-begins (c .before .before .before .before .before .before .before .before .before .before .before .before .before .before .before .before .before .before .before .before .before .before .before .before .before .before .before .before .before .before .before .before .before .before .before .before .before .pre .1) (c .before .before .before .before .before .before .before .before .before .before .before .before .before .before .before .before .before .before .before .before .before .before .before .before .before .before .before .descend .ensures) (c .before .before .before .before .before .before .before .before .before .before .before .before .before .before .before .before .before .before .before .before .before .negated-image-start .ensures) (c .before .before .before .before .before .before .before .before .before .before .before .before .before .before .before .before .before .before .before .before .before .before .before .before .before .before .before .descend .kept .1 .1 .1 .1 .0) (c .before .before .before .before .before .before .before .before .before .before .before .before .before .before .before .before .before .before .before .before .before .negated-image-start .kept .1 .1 .1 .1 .1 .1 .0) (c .before .before .before .before .before .before .before .before .before .before .before .before .before .before .before .before .before .before .before .before .before .negated-image-start .kept .1 .1 .1 .1 .0) (c .before .before .before .before .before .before .before .before .before .before .before .before .before .before .before .before .before .before .before .before .before .negated-image-start .kept .1 .1 .1 .1 .1 .0)) in climbing-notes g (c .before .before .before .before .before .before .before .before .before .before .before .before .before .loop-test .taken) (c .before .before .before .before .before .before .before .negated-image-up .ensures) (c .before .before .before .before .before .before .before .negated-image-up .kept .1 .1 .1 .1 .1 .1 .0)
 
 -- src/cycle.rt:136:9
 negated-image-over-requires : (t : ℕ) → negated-image-lts.Need-over-requires (is-row-reads.Asked, is-row-reads.Learnt, standing-reads.Asked, standing-reads.Learnt, descend-reads.Asked, descend-reads.Learnt, negated-image-start-below t, negated-image-start.Post, negated-image-up-below t, negated-image-up.Post, note-reads.Asked, note-reads.Learnt, over-reads.Asked, over-reads.Learnt) (negated-image-at t) negated-image.Post negated-image-Inv-loop negated-image-μ-loop

@@ -18,7 +18,7 @@ slice-aggregate-fill-noted-3 c = search needs
 fill-noted-requires : tie.Need-fill-noted-requires
 fill-noted-requires c κs =
     let s = c .before .before .before .before .before .before .before .before .before .before .before .before .before .before .before .before .before .before .before .before in
-    owns-few (s .pre .0) (s .pre .1)
+    owns-few (s .pre)
 
 same-length : tie.Need-same-length
 same-length c = c .before .before .before .before .before .before .before .before .before .before .before .before .before .before .before .fill-noted .kept .1 .1 .1 .1 .1 .1 .1 .1 .1 .0
