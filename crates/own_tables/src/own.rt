@@ -105,7 +105,7 @@ fn fill_few(
 
 // Whether few columns do: with few variables they are narrow, and for few effects few are wanted. Nothing is promised: either would do.
 fn few_do(head: Head) -> bool {
-    if head.variables <= 128 {
+    if head.variables <= 96 {
         return true;
     }
     head.effects <= 1024
