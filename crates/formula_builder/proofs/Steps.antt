@@ -17,7 +17,7 @@ use borrow.Author.Tests.{eq-eqb, ne-eqb}
 use Rattle.formula_builder.specs.declared.Frame.{Frame}
 use Rattle.formula_builder.specs.declared.Size.{Size}
 use Rattle.formula_builder.specs.declared.Step.{Step}
-use Rattle.formula_builder.specs.Index.{Searchable, Found, appended}
+use Rattle.formula_builder.specs.Index.{Searchable, Found, appended, Put, stood, no-room, behind, rows-after}
 use Rattle.formula_builder.specs.Held.{Store, store, held, size-of, done-step, RowsReady, Ready, Within, Done, Builds}
 use Rattle.formula_builder.proofs.Found.{place-bound, kept-found, kept-none}
 use Rattle.formula_builder.proofs.Stored.{one-more, one-past}
@@ -188,6 +188,32 @@ module _ (frame : Frame) (at : Size) (table o : List ℕ) (ready : Ready frame a
           below = omega arith;
           grew = omega arith;
         })
+
+-- A row that was put.
+module _ (frame : Frame) (at : Size) (table o : List ℕ) (ready : Ready frame at (store table o)) (r : Row) (after : List ℕ) (k : ℕ) where
+  pub put-full :
+      Put (frame .rows) (at .rows) table r after k
+      → k ≡ 65535
+      → Builds (row r) frame at (store table o) (store after o) (full-step at)
+  put-full (stood p f e same) last =
+      let x = ready .rows in
+      absurd (omega (arith, found-below (x .index) f k e, x .within, x .limit))
+  put-full (no-room p f free all same _) last = rw same (row-full frame at table o ready r p f free all)
+  put-full (behind p f free some same its) last =
+      let x = ready .rows in
+      absurd (omega (arith, x .within, x .limit))
+
+  pub put-done :
+      Put (frame .rows) (at .rows) table r after k
+      → (k ≡ 65535 → ⊥)
+      → Builds (row r) frame at (store table o) (store after o)
+      (record { rows = rows-after (at .rows) k; twins = at .twins; row = k; full = false })
+  put-done (stood p f e same) room =
+      rw (same, ne-eqb k (at .rows) (λ h. omega (arith, found-below (ready .rows .index) f k e)))
+      (row-stands frame at table o ready r p f k e)
+  put-done (no-room p f free all same its) room = absurd (room its)
+  put-done (behind p f free some same its) room =
+      rw (same, its, eq-eqb (at .rows) (at .rows) refl) (row-appended frame at table o ready r p f free some)
 
 abbrev pub one-twin : Size → Size
 one-twin at = record { rows = at .rows; twins = at .twins + 1 }

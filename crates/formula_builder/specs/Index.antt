@@ -3,8 +3,10 @@
 -- looked for, the next bit of the key says which of its links goes on.
 use Prim.Native.Nat.{ℕ, suc, _+_, _*_, _/_, _%_, _≤_, _<_}
 use mathlib.Core.Path.{_≡_}
+use mathlib.Core.Bool.{cond}
 use mathlib.Core.List.{List}
 use lib.ListN.{length, getD, set}
+use lib.Dec.{eqb}
 use Rattle.task.specs.Bounded.{upto}
 use Rattle.task.specs.Table.{Row, row-at}
 use Rattle.normal_form.specs.Builder.{start}
@@ -72,6 +74,23 @@ three t n r = set (set (set t (3 * n) (r .kind)) (3 * n + 1) (r .a)) (3 * n + 2)
 -- row r stored behind n rows, and named by word p
 abbrev pub appended : List ℕ → ℕ → Row → ℕ → List ℕ
 appended t n r p = set (three t n r) p (n + 1)
+
+-- Row r is put among n rows, where word p ends the walk for it: it stands as row k; or there is no room, and k is 65535; or it is appended as row n.
+pub data Put (most n : ℕ) (t : List ℕ) (r : Row) (t' : List ℕ) (k : ℕ) : Type 0 where
+  stood : (p : ℕ) → Found most t r p → getD t p 0 ≡ suc k → t' ≡ t → Put most n t r t' k
+  no-room : (p : ℕ) → Found most t r p → getD t p 0 ≡ 0 → n ≡ most → t' ≡ t → k ≡ 65535 → Put most n t r t' k
+  behind :
+      (p : ℕ)
+      → Found most t r p
+      → getD t p 0 ≡ 0
+      → (n ≡ most → ⊥)
+      → t' ≡ appended t n r p
+      → k ≡ n
+      → Put most n t r t' k
+
+-- how many rows stand after row k was put among n
+abbrev pub rows-after : (n k : ℕ) → ℕ
+rows-after n k = cond (eqb k n) (n + 1) n
 
 -- A table that nothing stands in, with room for two rows at least.
 pub record Empty (most : ℕ) (t : List ℕ) : Type 0 where

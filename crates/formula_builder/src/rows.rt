@@ -12,7 +12,7 @@ ghost use Prim.Native.Nat.{ℕ, _+_, _*_, _≤_, _<_};
 ghost use lib.ListN.{length};
 ghost use Rattle.task.specs.Table.{row-at};
 ghost use Rattle.normal_form.specs.Builder.{same-row, row as row-built, variable-row};
-ghost use Rattle.formula_builder.specs.Index.{Searchable, Found, three, appended, Empty, FirstTwo};
+ghost use Rattle.formula_builder.specs.Index.{Searchable, Found, three, appended, Put, rows-after, Empty, FirstTwo};
 ghost use Rattle.formula_builder.specs.Held.{row-of, store, RowsReady, Ready, Builds};
 
 // Row i of a table.
@@ -105,23 +105,48 @@ pub fn first_rows(table: &mut [u16], most: usize)
     append_row(table, 1, t, q);
 }
 
-// The row with these words: the one that stands, or appended. Costs what finding it does.
+// The row with these words among n rows, with room for so many: its number, which is n if it was appended; or 65535 if there was no room.
+// Plain numbers alone, since structs are passed in memory. Costs what finding it does.
+pub fn put(table: &mut [u16], most: usize, n: usize, kind: u16, a: u16, b: u16) -> u16
+    requires { ⌜ Searchable most (now table) × (n ≤ most) ⌝ }
+    ensures { λ k. ⌜ Put most n (now (table .entry)) (record { kind = kind; a = a; b = b }) (now (table .exit)) k ⌝ }
+{
+    let r = Words {
+        kind: kind,
+        a: a,
+        b: b,
+    };
+    let p = find_word(table, most, r);
+    let s = table[p];
+    if s > 0 {
+        return s - 1;
+    }
+    if n == most {
+        return 65535;
+    }
+    append_row(table, n, r, p);
+    n as u16
+}
+
+// How many rows stand after row k was put among n. Constant time.
+fn rows_after(n: usize, k: u16) -> usize
+    requires { ⌜ n ≤ 4096 ⌝ }
+    ensures { λ m. ⌜ m ≡ rows-after n k ⌝ }
+{
+    if k as usize == n {
+        return n + 1;
+    }
+    n
+}
+
+// The row with these words: the one that stands, or appended. Costs what putting it does.
 pub fn row(table: &mut [u16], frame: Frame, at: Size, r: Words) -> Step
     requires { ⌜ RowsReady frame (at .rows) (now table) ⌝ }
     ensures { λ s. ⌜ ((o : List ℕ) → Ready frame at (store (now (table .entry)) o) → Builds (row-built (row-of r)) frame at (store (now (table .entry)) o) (store (now (table .exit)) o) s) ⌝ }
 {
     let n = at.rows;
-    let p = find_word(table, frame.rows, r);
-    let s = table[p];
-    if s > 0 {
-        return Step {
-            rows: n,
-            twins: at.twins,
-            row: s - 1,
-            full: false,
-        };
-    }
-    if n == frame.rows {
+    let k = put(table, frame.rows, n, r.kind, r.a, r.b);
+    if k == 65535 {
         return Step {
             rows: n,
             twins: at.twins,
@@ -129,11 +154,10 @@ pub fn row(table: &mut [u16], frame: Frame, at: Size, r: Words) -> Step
             full: true,
         };
     }
-    append_row(table, n, r, p);
     Step {
-        rows: n + 1,
+        rows: rows_after(n, k),
         twins: at.twins,
-        row: n as u16,
+        row: k,
         full: false,
     }
 }
