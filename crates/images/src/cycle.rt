@@ -17,7 +17,7 @@ ghost use Rattle.normal_form.specs.Builder.{plain, negated};
 ghost use Rattle.formula_builder.specs.Held.{store, side};
 ghost use Rattle.images.specs.Images.{image-at, first-at, pair-at, equivalent-at, Asks, AsksPair, AsksEquivalent, AsksUp, Reaches, Rises};
 
-// The image of formula i: a step for each row below it that the memo has not.
+// The image of formula i: constant time if the memo has it, else what building it costs.
 pub fn image(
     formulas: &[u16],
     i: usize,
@@ -34,6 +34,22 @@ pub fn image(
     if is_row(known) {
         return standing(at, known - 1);
     }
+    image_anew(formulas, i, frame, at, table, originals, scratch)
+}
+
+// The image of formula i, whatever the memo has of row i: a step for it and for each row below it that the memo has not.
+pub fn image_anew(
+    formulas: &[u16],
+    i: usize,
+    frame: Frame,
+    at: Size,
+    table: &mut [u16],
+    originals: &mut [u16],
+    scratch: &mut [u16],
+) -> Step
+    requires { ⌜ Asks frame (now formulas) at (store (now table) (now originals)) (now scratch) i ⌝ }
+    ensures { λ r. ⌜ Reaches (image-at frame (now (formulas .entry)) plain i) (i + 1) frame (now (formulas .entry)) at (store (now (table .entry)) (now (originals .entry))) (store (now (table .exit)) (now (originals .exit))) (now (scratch .entry)) (now (scratch .exit)) r ⌝ }
+{
     let mut j = descend(formulas, i, false, frame, scratch);
     let mut s = image_start(formulas, j, frame, at, table, originals, scratch);
     while j <= i {
@@ -120,7 +136,7 @@ fn image_up(
     join(table, frame, mid, w.kind != 4, l.row, b.row)
 }
 
-// The negated image of formula i: a step for each row below it that the memo has not.
+// The negated image of formula i: constant time if the memo has it, else what building it costs.
 pub fn negated_image(
     formulas: &[u16],
     i: usize,
@@ -137,6 +153,22 @@ pub fn negated_image(
     if is_row(known) {
         return standing(at, known - 1);
     }
+    negated_image_anew(formulas, i, frame, at, table, originals, scratch)
+}
+
+// The negated image of formula i, whatever the memo has of row i: a step for it and for each row below it that the memo has not.
+pub fn negated_image_anew(
+    formulas: &[u16],
+    i: usize,
+    frame: Frame,
+    at: Size,
+    table: &mut [u16],
+    originals: &mut [u16],
+    scratch: &mut [u16],
+) -> Step
+    requires { ⌜ Asks frame (now formulas) at (store (now table) (now originals)) (now scratch) i ⌝ }
+    ensures { λ r. ⌜ Reaches (image-at frame (now (formulas .entry)) negated i) (i + 1) frame (now (formulas .entry)) at (store (now (table .entry)) (now (originals .entry))) (store (now (table .exit)) (now (originals .exit))) (now (scratch .entry)) (now (scratch .exit)) r ⌝ }
+{
     let mut j = descend(formulas, i, true, frame, scratch);
     let mut s = negated_image_start(formulas, j, frame, at, table, originals, scratch);
     while j <= i {

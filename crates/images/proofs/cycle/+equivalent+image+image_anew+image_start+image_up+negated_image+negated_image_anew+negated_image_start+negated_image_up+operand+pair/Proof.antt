@@ -3,31 +3,37 @@ use borrow.Fn.Kinds.{In}
 use borrow.Fn.PlainCycle.{Measures, is, falls, and}
 use Rattle.images.proofs.cycle.equivalent.Reads as equivalent
 use Rattle.images.proofs.cycle.equivalent.Kinds as equivalent-kinds
-use Rattle.images.proofs.cycle.+equivalent+image+image_start+image_up+negated_image+negated_image_start+negated_image_up+operand+pair.Lts-equivalent as equivalent-lts
+use Rattle.images.proofs.cycle.+equivalent+image+image_anew+image_start+image_up+negated_image+negated_image_anew+negated_image_start+negated_image_up+operand+pair.Lts-equivalent as equivalent-lts
 use Rattle.images.proofs.cycle.image.Reads as image
 use Rattle.images.proofs.cycle.image.Kinds as image-kinds
-use Rattle.images.proofs.cycle.+equivalent+image+image_start+image_up+negated_image+negated_image_start+negated_image_up+operand+pair.Lts-image as image-lts
+use Rattle.images.proofs.cycle.+equivalent+image+image_anew+image_start+image_up+negated_image+negated_image_anew+negated_image_start+negated_image_up+operand+pair.Lts-image as image-lts
+use Rattle.images.proofs.cycle.image_anew.Reads as image-anew
+use Rattle.images.proofs.cycle.image_anew.Kinds as image-anew-kinds
+use Rattle.images.proofs.cycle.+equivalent+image+image_anew+image_start+image_up+negated_image+negated_image_anew+negated_image_start+negated_image_up+operand+pair.Lts-image_anew as image-anew-lts
 use Rattle.images.proofs.cycle.image_start.Reads as image-start
 use Rattle.images.proofs.cycle.image_start.Kinds as image-start-kinds
-use Rattle.images.proofs.cycle.+equivalent+image+image_start+image_up+negated_image+negated_image_start+negated_image_up+operand+pair.Lts-image_start as image-start-lts
+use Rattle.images.proofs.cycle.+equivalent+image+image_anew+image_start+image_up+negated_image+negated_image_anew+negated_image_start+negated_image_up+operand+pair.Lts-image_start as image-start-lts
 use Rattle.images.proofs.cycle.image_up.Reads as image-up
 use Rattle.images.proofs.cycle.image_up.Kinds as image-up-kinds
-use Rattle.images.proofs.cycle.+equivalent+image+image_start+image_up+negated_image+negated_image_start+negated_image_up+operand+pair.Lts-image_up as image-up-lts
+use Rattle.images.proofs.cycle.+equivalent+image+image_anew+image_start+image_up+negated_image+negated_image_anew+negated_image_start+negated_image_up+operand+pair.Lts-image_up as image-up-lts
 use Rattle.images.proofs.cycle.negated_image.Reads as negated-image
 use Rattle.images.proofs.cycle.negated_image.Kinds as negated-image-kinds
-use Rattle.images.proofs.cycle.+equivalent+image+image_start+image_up+negated_image+negated_image_start+negated_image_up+operand+pair.Lts-negated_image as negated-image-lts
+use Rattle.images.proofs.cycle.+equivalent+image+image_anew+image_start+image_up+negated_image+negated_image_anew+negated_image_start+negated_image_up+operand+pair.Lts-negated_image as negated-image-lts
+use Rattle.images.proofs.cycle.negated_image_anew.Reads as negated-image-anew
+use Rattle.images.proofs.cycle.negated_image_anew.Kinds as negated-image-anew-kinds
+use Rattle.images.proofs.cycle.+equivalent+image+image_anew+image_start+image_up+negated_image+negated_image_anew+negated_image_start+negated_image_up+operand+pair.Lts-negated_image_anew as negated-image-anew-lts
 use Rattle.images.proofs.cycle.negated_image_start.Reads as negated-image-start
 use Rattle.images.proofs.cycle.negated_image_start.Kinds as negated-image-start-kinds
-use Rattle.images.proofs.cycle.+equivalent+image+image_start+image_up+negated_image+negated_image_start+negated_image_up+operand+pair.Lts-negated_image_start as negated-image-start-lts
+use Rattle.images.proofs.cycle.+equivalent+image+image_anew+image_start+image_up+negated_image+negated_image_anew+negated_image_start+negated_image_up+operand+pair.Lts-negated_image_start as negated-image-start-lts
 use Rattle.images.proofs.cycle.negated_image_up.Reads as negated-image-up
 use Rattle.images.proofs.cycle.negated_image_up.Kinds as negated-image-up-kinds
-use Rattle.images.proofs.cycle.+equivalent+image+image_start+image_up+negated_image+negated_image_start+negated_image_up+operand+pair.Lts-negated_image_up as negated-image-up-lts
+use Rattle.images.proofs.cycle.+equivalent+image+image_anew+image_start+image_up+negated_image+negated_image_anew+negated_image_start+negated_image_up+operand+pair.Lts-negated_image_up as negated-image-up-lts
 use Rattle.images.proofs.cycle.operand.Reads as operand
 use Rattle.images.proofs.cycle.operand.Kinds as operand-kinds
-use Rattle.images.proofs.cycle.+equivalent+image+image_start+image_up+negated_image+negated_image_start+negated_image_up+operand+pair.Lts-operand as operand-lts
+use Rattle.images.proofs.cycle.+equivalent+image+image_anew+image_start+image_up+negated_image+negated_image_anew+negated_image_start+negated_image_up+operand+pair.Lts-operand as operand-lts
 use Rattle.images.proofs.cycle.pair.Reads as pair
 use Rattle.images.proofs.cycle.pair.Kinds as pair-kinds
-use Rattle.images.proofs.cycle.+equivalent+image+image_start+image_up+negated_image+negated_image_start+negated_image_up+operand+pair.Lts-pair as pair-lts
+use Rattle.images.proofs.cycle.+equivalent+image+image_anew+image_start+image_up+negated_image+negated_image_anew+negated_image_start+negated_image_up+operand+pair.Lts-pair as pair-lts
 use Rattle.formula_builder.proofs.join.Reads as join-reads
 use Rattle.formula_builder.proofs.standing.Reads as standing-reads
 use Rattle.formula_builder.proofs.read_row.Reads as read-row-reads
@@ -37,10 +43,10 @@ use Rattle.images.proofs.memo.note.Reads as note-reads
 use Rattle.images.proofs.spine.descend.Reads as descend-reads
 use Rattle.images.proofs.spine.keeps_side.Reads as keeps-side-reads
 use Rattle.images.proofs.spine.over.Reads as over-reads
-use Rattle.images.proofs.cycle.+equivalent+image+image_start+image_up+negated_image+negated_image_start+negated_image_up+operand+pair.{
+use Rattle.images.proofs.cycle.+equivalent+image+image_anew+image_start+image_up+negated_image+negated_image_anew+negated_image_start+negated_image_up+operand+pair.{
   statement,
 }
-use Rattle.images.proofs.cycle.+equivalent+image+image_start+image_up+negated_image+negated_image_start+negated_image_up+operand+pair.Tie.{
+use Rattle.images.proofs.cycle.+equivalent+image+image_anew+image_start+image_up+negated_image+negated_image_anew+negated_image_start+negated_image_up+operand+pair.Tie.{
   close,
 }
 use borrow.Author.Needs.{needs}
@@ -61,31 +67,37 @@ use Rattle.images.proofs.Rising.{up-full, up-not, up-leaf, up-right-ful
 use Rattle.images.proofs.Climbing.{climb-within, asks-lowest, Climbing, climbing-begins, climbing-asks, climbing-notes, climbing-ends, climbing-word, climbing-rises, climbing-more}
 
 abbrev μ-equivalent : Measures 4 equivalent-kinds.ps ℕ
-μ-equivalent κs a = 6 * a .1 .0 + 3
+μ-equivalent κs a = 7 * a .1 .0 + 3
 
 abbrev μ-image : Measures 4 image-kinds.ps ℕ
-μ-image κs a = 6 * a .1 .0 + 5
+μ-image κs a = 7 * a .1 .0 + 6
+
+abbrev μ-image-anew : Measures 4 image-anew-kinds.ps ℕ
+μ-image-anew κs a = 7 * a .1 .0 + 5
 
 abbrev μ-image-start : Measures 4 image-start-kinds.ps ℕ
-μ-image-start κs a = 6 * a .1 .0 + 4
+μ-image-start κs a = 7 * a .1 .0 + 4
 
 abbrev μ-image-up : Measures 4 image-up-kinds.ps ℕ
-μ-image-up κs a = 6 * a .1 .0 + 4
+μ-image-up κs a = 7 * a .1 .0 + 4
 
 abbrev μ-negated-image : Measures 4 negated-image-kinds.ps ℕ
-μ-negated-image κs a = 6 * a .1 .0 + 5
+μ-negated-image κs a = 7 * a .1 .0 + 6
+
+abbrev μ-negated-image-anew : Measures 4 negated-image-anew-kinds.ps ℕ
+μ-negated-image-anew κs a = 7 * a .1 .0 + 5
 
 abbrev μ-negated-image-start : Measures 4 negated-image-start-kinds.ps ℕ
-μ-negated-image-start κs a = 6 * a .1 .0 + 4
+μ-negated-image-start κs a = 7 * a .1 .0 + 4
 
 abbrev μ-negated-image-up : Measures 4 negated-image-up-kinds.ps ℕ
-μ-negated-image-up κs a = 6 * a .1 .0 + 4
+μ-negated-image-up κs a = 7 * a .1 .0 + 4
 
 abbrev μ-operand : Measures 4 operand-kinds.ps ℕ
-μ-operand κs a = 6 * a .1 .0 + 6
+μ-operand κs a = 7 * a .1 .0 + 7
 
 abbrev μ-pair : Measures 4 pair-kinds.ps ℕ
-μ-pair κs a = 6 * a .1 .0 + 2
+μ-pair κs a = 7 * a .1 .0 + 2
 
 abbrev equivalent-at : ℕ → In 4 equivalent-kinds.ps
 equivalent-at t =
@@ -100,6 +112,14 @@ image-at t = and 4 image-kinds.ps (is 4 image-kinds.ps μ-image t) image.Pre
 
 abbrev image-below : ℕ → In 4 image-kinds.ps
 image-below t = and 4 image-kinds.ps (falls 4 image-kinds.ps _<_ μ-image t) image.Pre
+
+abbrev image-anew-at : ℕ → In 4 image-anew-kinds.ps
+image-anew-at t =
+    and 4 image-anew-kinds.ps (is 4 image-anew-kinds.ps μ-image-anew t) image-anew.Pre
+
+abbrev image-anew-below : ℕ → In 4 image-anew-kinds.ps
+image-anew-below t =
+    and 4 image-anew-kinds.ps (falls 4 image-anew-kinds.ps _<_ μ-image-anew t) image-anew.Pre
 
 abbrev image-start-at : ℕ → In 4 image-start-kinds.ps
 image-start-at t =
@@ -127,6 +147,22 @@ negated-image-below t =
     negated-image-kinds.ps
     (falls 4 negated-image-kinds.ps _<_ μ-negated-image t)
     negated-image.Pre
+
+abbrev negated-image-anew-at : ℕ → In 4 negated-image-anew-kinds.ps
+negated-image-anew-at t =
+    and
+    4
+    negated-image-anew-kinds.ps
+    (is 4 negated-image-anew-kinds.ps μ-negated-image-anew t)
+    negated-image-anew.Pre
+
+abbrev negated-image-anew-below : ℕ → In 4 negated-image-anew-kinds.ps
+negated-image-anew-below t =
+    and
+    4
+    negated-image-anew-kinds.ps
+    (falls 4 negated-image-anew-kinds.ps _<_ μ-negated-image-anew t)
+    negated-image-anew.Pre
 
 abbrev negated-image-start-at : ℕ → In 4 negated-image-start-kinds.ps
 negated-image-start-at t =
@@ -172,690 +208,732 @@ pair-at t = and 4 pair-kinds.ps (is 4 pair-kinds.ps μ-pair t) pair.Pre
 abbrev pair-below : ℕ → In 4 pair-kinds.ps
 pair-below t = and 4 pair-kinds.ps (falls 4 pair-kinds.ps _<_ μ-pair t) pair.Pre
 
--- src/cycle.rt:221:9
+-- src/cycle.rt:275:9
 equivalent-join-requires : (t : ℕ) → equivalent-lts.Need-join-requires (join-reads.Asked, join-reads.Learnt, pair-below t, pair.Post) (equivalent-at t) equivalent.Post
 equivalent-join-requires t c κs = asks-join (c .before .before .before .before .before .pre .1)
 
--- src/cycle.rt:223:9
+-- src/cycle.rt:277:9
 equivalent-same-length : (t : ℕ) → equivalent-lts.Need-same-length (join-reads.Asked, join-reads.Learnt, pair-below t, pair.Post) (equivalent-at t) equivalent.Post
 equivalent-same-length t c = c .before .before .before .join .kept .0
 
--- src/cycle.rt:223:9
+-- src/cycle.rt:277:9
 equivalent-returns : (t : ℕ) → equivalent-lts.Need-returns (join-reads.Asked, join-reads.Learnt, pair-below t, pair.Post) (equivalent-at t) equivalent.Post
 unfolding equivalent-built
 equivalent-returns t c = record { images = pair-left-full negated (steady-pair-at (c .before .before .before .before .before .before .before .before .before .args .frame) (c .before .before .before .before .before .before .before .before .before .args .formulas .now) (c .before .before .before .before .before .before .before .before .before .args .i) (c .before .before .before .before .before .before .before .before .before .args .crossed)) (images-leaf (steady-join plain (c .before .before .before .before .before .before .before .before .before .args .left) (c .before .before .before .before .before .before .before .before .before .args .right)) (c .before .before .before .before .before .before .before .before .before .pre .1 .pair .asks .memo) (c .before .before .before .join .ensures (c .before .before .before .before .before .before .before .before .before .args .originals .now) (c .before .before .before .before .before .before .before .before .before .pre .1 .pair .asks .ready))) (c .if1 .taken); above = kept-refl (c .before .before .before .before .before .before .before .before .before .args .i) (c .before .before .before .before .before .before .before .before .before .args .frame) (c .before .before .before .before .before .before .before .before .before .args .scratch .now) }
 
--- src/cycle.rt:229:9
+-- src/cycle.rt:283:9
 equivalent-pair-requires : (t : ℕ) → equivalent-lts.Need-pair-requires (join-reads.Asked, join-reads.Learnt, pair-below t, pair.Post) (equivalent-at t) equivalent.Post
 equivalent-pair-requires t c κs = (omega (arith, c .before .before .before .before .before .before .before .before .before .before .before .before .pre .0), record { asks = asks-next (c .before .before .before .before .before .before .before .before .before .before .before .before .args .i) (c .before .before .before .before .before .before .before .before .before .before .before .before .pre .1 .pair .asks) (images-leaf (steady-join plain (c .before .before .before .before .before .before .before .before .before .before .before .before .args .left) (c .before .before .before .before .before .before .before .before .before .before .before .before .args .right)) (c .before .before .before .before .before .before .before .before .before .before .before .before .pre .1 .pair .asks .memo) (c .before .before .before .before .before .before .join .ensures (c .before .before .before .before .before .before .before .before .before .before .before .before .args .originals .now) (c .before .before .before .before .before .before .before .before .before .before .before .before .pre .1 .pair .asks .ready))) (c .before .before .before .if1 .left) refl (c .before .before .before .before .before .before .before .before .before .before .before .before .pre .1 .pair .asks .formula); left = c .before .before .before .before .before .before .before .before .before .before .before .before .pre .1 .pair .left; right = c .before .before .before .before .before .before .before .before .before .before .before .before .pre .1 .pair .right })
 
--- src/cycle.rt:231:9
+-- src/cycle.rt:285:9
 equivalent-same-length-2 : (t : ℕ) → equivalent-lts.Need-same-length-2 (join-reads.Asked, join-reads.Learnt, pair-below t, pair.Post) (equivalent-at t) equivalent.Post
 equivalent-same-length-2 t c = c .before .before .before .before .before .before .before .pair .kept .1 .1 .1 .1 .1 .0 ∙ c .before .before .before .before .before .before .before .before .before .before .before .before .before .before .join .kept .0
 
--- src/cycle.rt:231:9
+-- src/cycle.rt:285:9
 equivalent-same-length-3 : (t : ℕ) → equivalent-lts.Need-same-length-3 (join-reads.Asked, join-reads.Learnt, pair-below t, pair.Post) (equivalent-at t) equivalent.Post
 equivalent-same-length-3 t c = c .before .before .before .before .before .before .before .pair .kept .1 .1 .1 .1 .1 .1 .0
 
--- src/cycle.rt:231:9
+-- src/cycle.rt:285:9
 equivalent-same-length-4 : (t : ℕ) → equivalent-lts.Need-same-length-4 (join-reads.Asked, join-reads.Learnt, pair-below t, pair.Post) (equivalent-at t) equivalent.Post
 equivalent-same-length-4 t c = c .before .before .before .before .before .before .before .pair .kept .1 .1 .1 .1 .1 .1 .1 .0
 
--- src/cycle.rt:231:9
+-- src/cycle.rt:285:9
 equivalent-returns-2 : (t : ℕ) → equivalent-lts.Need-returns-2 (join-reads.Asked, join-reads.Learnt, pair-below t, pair.Post) (equivalent-at t) equivalent.Post
 unfolding equivalent-built
 equivalent-returns-2 t c = record { images = pair-right-full negated (steady-pair-at (c .before .before .before .before .before .before .before .before .before .before .before .before .before .before .before .before .before .before .before .before .args .frame) (c .before .before .before .before .before .before .before .before .before .before .before .before .before .before .before .before .before .before .before .before .args .formulas .now) (c .before .before .before .before .before .before .before .before .before .before .before .before .before .before .before .before .before .before .before .before .args .i) (c .before .before .before .before .before .before .before .before .before .before .before .before .before .before .before .before .before .before .before .before .args .crossed)) (images-leaf (steady-join plain (c .before .before .before .before .before .before .before .before .before .before .before .before .before .before .before .before .before .before .before .before .args .left) (c .before .before .before .before .before .before .before .before .before .before .before .before .before .before .before .before .before .before .before .before .args .right)) (c .before .before .before .before .before .before .before .before .before .before .before .before .before .before .before .before .before .before .before .before .pre .1 .pair .asks .memo) (c .before .before .before .before .before .before .before .before .before .before .before .before .before .before .join .ensures (c .before .before .before .before .before .before .before .before .before .before .before .before .before .before .before .before .before .before .before .before .args .originals .now) (c .before .before .before .before .before .before .before .before .before .before .before .before .before .before .before .before .before .before .before .before .pre .1 .pair .asks .ready))) (c .before .before .before .before .before .before .before .before .before .before .before .if1 .left) (c .before .before .before .before .before .before .before .pair .ensures .images) (c .if2 .taken); above = c .before .before .before .before .before .before .before .pair .ensures .above }
 
--- src/cycle.rt:233:5
+-- src/cycle.rt:287:5
 equivalent-join-requires-2 : (t : ℕ) → equivalent-lts.Need-join-requires-2 (join-reads.Asked, join-reads.Learnt, pair-below t, pair.Post) (equivalent-at t) equivalent.Post
 equivalent-join-requires-2 t c κs = join-asks ((images-leaf (steady-join plain (c .before .before .before .before .before .before .before .before .before .before .before .before .before .before .before .before .before .before .before .before .before .args .left) (c .before .before .before .before .before .before .before .before .before .before .before .before .before .before .before .before .before .before .before .before .before .args .right)) (c .before .before .before .before .before .before .before .before .before .before .before .before .before .before .before .before .before .before .before .before .before .pre .1 .pair .asks .memo) (c .before .before .before .before .before .before .before .before .before .before .before .before .before .before .before .join .ensures (c .before .before .before .before .before .before .before .before .before .before .before .before .before .before .before .before .before .before .before .before .before .args .originals .now) (c .before .before .before .before .before .before .before .before .before .before .before .before .before .before .before .before .before .before .before .before .before .pre .1 .pair .asks .ready))) .builds) (c .before .before .before .before .before .before .before .before .before .before .before .before .if1 .left) (c .before .before .before .before .before .before .before .before .pair .ensures .images .builds) (c .before .if2 .left)
 
--- src/cycle.rt:206:1
+-- src/cycle.rt:260:1
 equivalent-same-length-5 : (t : ℕ) → equivalent-lts.Need-same-length-5 (join-reads.Asked, join-reads.Learnt, pair-below t, pair.Post) (equivalent-at t) equivalent.Post
 equivalent-same-length-5 t c = c .before .before .join2 .kept .0 ∙ c .before .before .before .before .before .before .before .before .before .before .before .pair .kept .1 .1 .1 .1 .1 .0 ∙ c .before .before .before .before .before .before .before .before .before .before .before .before .before .before .before .before .before .before .join .kept .0
 
--- src/cycle.rt:206:1
+-- src/cycle.rt:260:1
 equivalent-same-length-6 : (t : ℕ) → equivalent-lts.Need-same-length-6 (join-reads.Asked, join-reads.Learnt, pair-below t, pair.Post) (equivalent-at t) equivalent.Post
 equivalent-same-length-6 t c = c .before .before .before .before .before .before .before .before .before .before .before .pair .kept .1 .1 .1 .1 .1 .1 .0
 
--- src/cycle.rt:206:1
+-- src/cycle.rt:260:1
 equivalent-same-length-7 : (t : ℕ) → equivalent-lts.Need-same-length-7 (join-reads.Asked, join-reads.Learnt, pair-below t, pair.Post) (equivalent-at t) equivalent.Post
 equivalent-same-length-7 t c = c .before .before .before .before .before .before .before .before .before .before .before .pair .kept .1 .1 .1 .1 .1 .1 .1 .0
 
--- src/cycle.rt:206:1
+-- src/cycle.rt:260:1
 equivalent-returns-3 : (t : ℕ) → equivalent-lts.Need-returns-3 (join-reads.Asked, join-reads.Learnt, pair-below t, pair.Post) (equivalent-at t) equivalent.Post
 unfolding equivalent-built
 equivalent-returns-3 t c = record { images = pair-done negated (steady-pair-at (c .before .before .before .before .before .before .before .before .before .before .before .before .before .before .before .before .before .before .before .before .before .before .before .before .args .frame) (c .before .before .before .before .before .before .before .before .before .before .before .before .before .before .before .before .before .before .before .before .before .before .before .before .args .formulas .now) (c .before .before .before .before .before .before .before .before .before .before .before .before .before .before .before .before .before .before .before .before .before .before .before .before .args .i) (c .before .before .before .before .before .before .before .before .before .before .before .before .before .before .before .before .before .before .before .before .before .before .before .before .args .crossed)) (images-leaf (steady-join plain (c .before .before .before .before .before .before .before .before .before .before .before .before .before .before .before .before .before .before .before .before .before .before .before .before .args .left) (c .before .before .before .before .before .before .before .before .before .before .before .before .before .before .before .before .before .before .before .before .before .before .before .before .args .right)) (c .before .before .before .before .before .before .before .before .before .before .before .before .before .before .before .before .before .before .before .before .before .before .before .before .pre .1 .pair .asks .memo) (c .before .before .before .before .before .before .before .before .before .before .before .before .before .before .before .before .before .before .join .ensures (c .before .before .before .before .before .before .before .before .before .before .before .before .before .before .before .before .before .before .before .before .before .before .before .before .args .originals .now) (c .before .before .before .before .before .before .before .before .before .before .before .before .before .before .before .before .before .before .before .before .before .before .before .before .pre .1 .pair .asks .ready))) (c .before .before .before .before .before .before .before .before .before .before .before .before .before .before .before .if1 .left) (c .before .before .before .before .before .before .before .before .before .before .before .pair .ensures .images) (c .before .before .before .before .if2 .left) (c .before .before .join2 .ensures _ (c .before .before .before .before .before .before .before .before .before .before .before .pair .ensures .images .builds .done (c .before .before .before .before .if2 .left) .ready)); above = c .before .before .before .before .before .before .before .before .before .before .before .pair .ensures .above }
 
-abbrev image-Inv-loop : image-lts.InvT-loop
-image-Inv-loop formulas i frame table₀ originals₀ scratch₀ known j₀ s₀ table originals scratch j s =
+-- src/cycle.rt:33:17
+image-mul-known : (t : ℕ) → image-lts.Need-mul-known (is-row-reads.Asked, is-row-reads.Learnt, standing-reads.Asked, standing-reads.Learnt, image-anew-below t, image-anew.Post) (image-at t) image.Post
+image-mul-known t c = omega (arith, c .before .before .before .before .good, c .before .before .before .before .pre .1 .source .memo, c .before .before .before .before .pre .1 .formula, c .before .before .before .before .pre .1 .source .limit)
+
+-- src/cycle.rt:33:17
+image-slice-read-known : (t : ℕ) → image-lts.Need-slice-read-known (is-row-reads.Asked, is-row-reads.Learnt, standing-reads.Asked, standing-reads.Learnt, image-anew-below t, image-anew.Post) (image-at t) image.Post
+image-slice-read-known t c = omega (arith, c .before .before .before .before .before .pre .1 .source .memo, c .before .before .before .before .before .pre .1 .formula)
+
+-- src/cycle.rt:34:8
+image-is-row-requires : (t : ℕ) → image-lts.Need-is-row-requires (is-row-reads.Asked, is-row-reads.Learnt, standing-reads.Asked, standing-reads.Learnt, image-anew-below t, image-anew.Post) (image-at t) image.Post
+image-is-row-requires t c κs = search needs
+
+-- src/cycle.rt:35:29
+image-sub-standing : (t : ℕ) → image-lts.Need-sub-standing (is-row-reads.Asked, is-row-reads.Learnt, standing-reads.Asked, standing-reads.Learnt, image-anew-below t, image-anew.Post) (image-at t) image.Post
+image-sub-standing t c = omega (arith, row-word (getD (c .before .before .before .before .before .before .before .args .scratch .now) (c .before .before .before .before .before .before .before .args .i) 0) (sym (c .before .is-row .ensures) ∙ c .if1 .taken) .0)
+
+-- src/cycle.rt:35:9
+image-standing-requires : (t : ℕ) → image-lts.Need-standing-requires (is-row-reads.Asked, is-row-reads.Learnt, standing-reads.Asked, standing-reads.Learnt, image-anew-below t, image-anew.Post) (image-at t) image.Post
+image-standing-requires t c κs = search needs
+
+-- src/cycle.rt:35:9
+image-returns : (t : ℕ) → image-lts.Need-returns (is-row-reads.Asked, is-row-reads.Learnt, standing-reads.Asked, standing-reads.Learnt, image-anew-below t, image-anew.Post) (image-at t) image.Post
+image-returns t c = rw (c .standing .ensures) (reaches-known (c .before .before .before .before .before .before .before .before .args .frame) (c .before .before .before .before .before .before .before .before .args .formulas .now) (c .before .before .before .before .before .before .before .before .args .at) (store (c .before .before .before .before .before .before .before .before .args .table .now) (c .before .before .before .before .before .before .before .before .args .originals .now)) (c .before .before .before .before .before .before .before .before .args .scratch .now) plain (c .before .before .before .before .before .before .before .before .args .i) (getD (c .before .before .before .before .before .before .before .before .args .scratch .now) (c .before .before .before .before .before .before .before .before .args .i) 0) (c .before .before .before .before .before .before .before .before .pre .1) refl (sym (c .before .before .is-row .ensures) ∙ c .before .if1 .taken))
+
+-- src/cycle.rt:37:5
+image-image-anew-requires : (t : ℕ) → image-lts.Need-image-anew-requires (is-row-reads.Asked, is-row-reads.Learnt, standing-reads.Asked, standing-reads.Learnt, image-anew-below t, image-anew.Post) (image-at t) image.Post
+image-image-anew-requires t c κs = (omega (arith, c .before .before .before .before .before .before .before .before .before .before .pre .0), c .before .before .before .before .before .before .before .before .before .before .pre .1)
+
+-- src/cycle.rt:21:1
+image-same-length : (t : ℕ) → image-lts.Need-same-length (is-row-reads.Asked, is-row-reads.Learnt, standing-reads.Asked, standing-reads.Learnt, image-anew-below t, image-anew.Post) (image-at t) image.Post
+image-same-length t c = c .before .before .before .before .before .before .image-anew .kept .1 .1 .1 .1 .0
+
+-- src/cycle.rt:21:1
+image-same-length-2 : (t : ℕ) → image-lts.Need-same-length-2 (is-row-reads.Asked, is-row-reads.Learnt, standing-reads.Asked, standing-reads.Learnt, image-anew-below t, image-anew.Post) (image-at t) image.Post
+image-same-length-2 t c = c .before .before .before .before .before .before .image-anew .kept .1 .1 .1 .1 .1 .0
+
+-- src/cycle.rt:21:1
+image-same-length-3 : (t : ℕ) → image-lts.Need-same-length-3 (is-row-reads.Asked, is-row-reads.Learnt, standing-reads.Asked, standing-reads.Learnt, image-anew-below t, image-anew.Post) (image-at t) image.Post
+image-same-length-3 t c = c .before .before .before .before .before .before .image-anew .kept .1 .1 .1 .1 .1 .1 .0
+
+-- src/cycle.rt:21:1
+image-returns-2 : (t : ℕ) → image-lts.Need-returns-2 (is-row-reads.Asked, is-row-reads.Learnt, standing-reads.Asked, standing-reads.Learnt, image-anew-below t, image-anew.Post) (image-at t) image.Post
+image-returns-2 t c = c .before .before .before .before .before .before .image-anew .ensures
+
+abbrev image-anew-Inv-loop : image-anew-lts.InvT-loop
+image-anew-Inv-loop formulas i frame table₀ originals₀ scratch₀ j₀ s₀ table originals scratch j s =
     (at : Size) (before : Store) (entry : List ℕ)
     → Climbing frame formulas plain i at before entry j₀ s₀ (store table₀ originals₀) scratch₀
     → Climbing frame formulas plain i at before entry j s (store table originals) scratch
 
-abbrev image-μ-loop : image-lts.MeasureT-loop
-image-μ-loop formulas i frame table₀ originals₀ scratch₀ known j₀ s₀ table originals scratch j s =
+abbrev image-anew-μ-loop : image-anew-lts.MeasureT-loop
+image-anew-μ-loop formulas i frame table₀ originals₀ scratch₀ j₀ s₀ table originals scratch j s =
     i + 1 - j
 
--- src/cycle.rt:33:17
-image-mul-known : (t : ℕ) → image-lts.Need-mul-known (is-row-reads.Asked, is-row-reads.Learnt, standing-reads.Asked, standing-reads.Learnt, descend-reads.Asked, descend-reads.Learnt, image-start-below t, image-start.Post, image-up-below t, image-up.Post, note-reads.Asked, note-reads.Learnt, over-reads.Asked, over-reads.Learnt) (image-at t) image.Post image-Inv-loop image-μ-loop
-image-mul-known t c = omega (arith, c .before .before .before .before .good, c .before .before .before .before .pre .1 .source .memo, c .before .before .before .before .pre .1 .formula, c .before .before .before .before .pre .1 .source .limit)
+-- src/cycle.rt:53:9
+image-anew-descend-requires : (t : ℕ) → image-anew-lts.Need-descend-requires (descend-reads.Asked, descend-reads.Learnt, image-start-below t, image-start.Post, image-up-below t, image-up.Post, note-reads.Asked, note-reads.Learnt, over-reads.Asked, over-reads.Learnt) (image-anew-at t) image-anew.Post image-anew-Inv-loop image-anew-μ-loop
+image-anew-descend-requires t c κs = asks-row (c .before .before .before .before .before .pre .1)
 
--- src/cycle.rt:33:17
-image-slice-read-known : (t : ℕ) → image-lts.Need-slice-read-known (is-row-reads.Asked, is-row-reads.Learnt, standing-reads.Asked, standing-reads.Learnt, descend-reads.Asked, descend-reads.Learnt, image-start-below t, image-start.Post, image-up-below t, image-up.Post, note-reads.Asked, note-reads.Learnt, over-reads.Asked, over-reads.Learnt) (image-at t) image.Post image-Inv-loop image-μ-loop
-image-slice-read-known t c = omega (arith, c .before .before .before .before .before .pre .1 .source .memo, c .before .before .before .before .before .pre .1 .formula)
+-- src/cycle.rt:54:9
+image-anew-image-start-requires : (t : ℕ) → image-anew-lts.Need-image-start-requires (descend-reads.Asked, descend-reads.Learnt, image-start-below t, image-start.Post, image-up-below t, image-up.Post, note-reads.Asked, note-reads.Learnt, over-reads.Asked, over-reads.Learnt) (image-anew-at t) image-anew.Post image-anew-Inv-loop image-anew-μ-loop
+image-anew-image-start-requires t c κs = (omega (arith, c .before .before .before .before .before .before .before .before .before .before .before .pre .0, climb-within (c .before .before .before .before .before .descend .ensures .climb)), asks-lowest (c .before .before .before .before .before .before .before .before .before .before .before .pre .1) (c .before .before .before .before .before .descend .kept .1 .1 .1 .1 .0) (c .before .before .before .before .before .descend .ensures))
 
--- src/cycle.rt:34:8
-image-is-row-requires : (t : ℕ) → image-lts.Need-is-row-requires (is-row-reads.Asked, is-row-reads.Learnt, standing-reads.Asked, standing-reads.Learnt, descend-reads.Asked, descend-reads.Learnt, image-start-below t, image-start.Post, image-up-below t, image-up.Post, note-reads.Asked, note-reads.Learnt, over-reads.Asked, over-reads.Learnt) (image-at t) image.Post image-Inv-loop image-μ-loop
-image-is-row-requires t c κs = search needs
+-- src/cycle.rt:55:5
+image-anew-loop-holds : (t : ℕ) → image-anew-lts.Need-loop-holds (descend-reads.Asked, descend-reads.Learnt, image-start-below t, image-start.Post, image-up-below t, image-up.Post, note-reads.Asked, note-reads.Learnt, over-reads.Asked, over-reads.Learnt) (image-anew-at t) image-anew.Post image-anew-Inv-loop image-anew-μ-loop
+image-anew-loop-holds t c = λ at before entry b. b
 
--- src/cycle.rt:35:29
-image-sub-standing : (t : ℕ) → image-lts.Need-sub-standing (is-row-reads.Asked, is-row-reads.Learnt, standing-reads.Asked, standing-reads.Learnt, descend-reads.Asked, descend-reads.Learnt, image-start-below t, image-start.Post, image-up-below t, image-up.Post, note-reads.Asked, note-reads.Learnt, over-reads.Asked, over-reads.Learnt) (image-at t) image.Post image-Inv-loop image-μ-loop
-image-sub-standing t c = omega (arith, row-word (getD (c .before .before .before .before .before .before .before .args .scratch .now) (c .before .before .before .before .before .before .before .args .i) 0) (sym (c .before .is-row .ensures) ∙ c .if1 .taken) .0)
+-- src/cycle.rt:56:20
+image-anew-mul-word : (t : ℕ) → image-anew-lts.Need-mul-word (descend-reads.Asked, descend-reads.Learnt, image-start-below t, image-start.Post, image-up-below t, image-up.Post, note-reads.Asked, note-reads.Learnt, over-reads.Asked, over-reads.Learnt) (image-anew-at t) image-anew.Post image-anew-Inv-loop image-anew-μ-loop
+image-anew-mul-word t c = omega (arith, c .loop-test .taken, c .before .before .before .before .before .before .before .before .before .before .before .before .before .before .before .before .before .before .before .before .pre .1 .formula, c .before .before .before .before .before .before .before .before .before .before .before .before .before .before .before .before .before .before .before .before .pre .1 .source .limit)
 
--- src/cycle.rt:35:9
-image-standing-requires : (t : ℕ) → image-lts.Need-standing-requires (is-row-reads.Asked, is-row-reads.Learnt, standing-reads.Asked, standing-reads.Learnt, descend-reads.Asked, descend-reads.Learnt, image-start-below t, image-start.Post, image-up-below t, image-up.Post, note-reads.Asked, note-reads.Learnt, over-reads.Asked, over-reads.Learnt) (image-at t) image.Post image-Inv-loop image-μ-loop
-image-standing-requires t c κs = search needs
+-- src/cycle.rt:56:20
+image-anew-slice-read-word : (t : ℕ) → image-anew-lts.Need-slice-read-word (descend-reads.Asked, descend-reads.Learnt, image-start-below t, image-start.Post, image-up-below t, image-up.Post, note-reads.Asked, note-reads.Learnt, over-reads.Asked, over-reads.Learnt) (image-anew-at t) image-anew.Post image-anew-Inv-loop image-anew-μ-loop
+image-anew-slice-read-word t c = let g = c .before .before .loop .inv (c .before .before .before .before .before .before .before .before .before .before .before .before .before .before .before .before .before .before .before .before .before .args .at) (store (c .before .before .before .before .before .before .before .before .before .before .before .before .before .before .before .before .before .before .before .before .before .args .table .now) (c .before .before .before .before .before .before .before .before .before .before .before .before .before .before .before .before .before .before .before .before .before .args .originals .now)) (c .before .before .before .before .before .before .before .before .before .before .before .before .before .before .before .before .before .before .before .before .before .args .scratch .now) (climbing-begins (c .before .before .before .before .before .before .before .before .before .before .before .before .before .before .before .before .before .before .before .before .before .pre .1) (c .before .before .before .before .before .before .before .before .before .before .before .before .before .before .before .descend .ensures) (c .before .before .before .before .before .before .before .before .before .image-start .ensures) (c .before .before .before .before .before .before .before .before .before .before .before .before .before .before .before .descend .kept .1 .1 .1 .1 .0) (c .before .before .before .before .before .before .before .before .before .image-start .kept .1 .1 .1 .1 .1 .1 .0) (c .before .before .before .before .before .before .before .before .before .image-start .kept .1 .1 .1 .1 .0) (c .before .before .before .before .before .before .before .before .before .image-start .kept .1 .1 .1 .1 .1 .0)) in omega (arith, c .before .loop-test .taken, g .row .source .memo, g .row .formula)
 
--- src/cycle.rt:35:9
-image-returns : (t : ℕ) → image-lts.Need-returns (is-row-reads.Asked, is-row-reads.Learnt, standing-reads.Asked, standing-reads.Learnt, descend-reads.Asked, descend-reads.Learnt, image-start-below t, image-start.Post, image-up-below t, image-up.Post, note-reads.Asked, note-reads.Learnt, over-reads.Asked, over-reads.Learnt) (image-at t) image.Post image-Inv-loop image-μ-loop
-image-returns t c = rw (c .standing .ensures) (reaches-known (c .before .before .before .before .before .before .before .before .args .frame) (c .before .before .before .before .before .before .before .before .args .formulas .now) (c .before .before .before .before .before .before .before .before .args .at) (store (c .before .before .before .before .before .before .before .before .args .table .now) (c .before .before .before .before .before .before .before .before .args .originals .now)) (c .before .before .before .before .before .before .before .before .args .scratch .now) plain (c .before .before .before .before .before .before .before .before .args .i) (getD (c .before .before .before .before .before .before .before .before .args .scratch .now) (c .before .before .before .before .before .before .before .before .args .i) 0) (c .before .before .before .before .before .before .before .before .pre .1) refl (sym (c .before .before .is-row .ensures) ∙ c .before .if1 .taken))
+-- src/cycle.rt:56:20
+image-anew-cast-word : (t : ℕ) → image-anew-lts.Need-cast-word (descend-reads.Asked, descend-reads.Learnt, image-start-below t, image-start.Post, image-up-below t, image-up.Post, note-reads.Asked, note-reads.Learnt, over-reads.Asked, over-reads.Learnt) (image-anew-at t) image-anew.Post image-anew-Inv-loop image-anew-μ-loop
+image-anew-cast-word t c = omega (arith, c .slice-known8 .given (c .before .before .loop .j))
 
--- src/cycle.rt:37:9
-image-descend-requires : (t : ℕ) → image-lts.Need-descend-requires (is-row-reads.Asked, is-row-reads.Learnt, standing-reads.Asked, standing-reads.Learnt, descend-reads.Asked, descend-reads.Learnt, image-start-below t, image-start.Post, image-up-below t, image-up.Post, note-reads.Asked, note-reads.Learnt, over-reads.Asked, over-reads.Learnt) (image-at t) image.Post image-Inv-loop image-μ-loop
-image-descend-requires t c κs = asks-row (c .before .before .before .before .before .before .before .before .pre .1)
+-- src/cycle.rt:57:9
+image-anew-image-up-requires : (t : ℕ) → image-anew-lts.Need-image-up-requires (descend-reads.Asked, descend-reads.Learnt, image-start-below t, image-start.Post, image-up-below t, image-up.Post, note-reads.Asked, note-reads.Learnt, over-reads.Asked, over-reads.Learnt) (image-anew-at t) image-anew.Post image-anew-Inv-loop image-anew-μ-loop
+image-anew-image-up-requires t c κs = let g = c .before .before .before .before .before .loop .inv (c .before .before .before .before .before .before .before .before .before .before .before .before .before .before .before .before .before .before .before .before .before .before .before .before .args .at) (store (c .before .before .before .before .before .before .before .before .before .before .before .before .before .before .before .before .before .before .before .before .before .before .before .before .args .table .now) (c .before .before .before .before .before .before .before .before .before .before .before .before .before .before .before .before .before .before .before .before .before .before .before .before .args .originals .now)) (c .before .before .before .before .before .before .before .before .before .before .before .before .before .before .before .before .before .before .before .before .before .before .before .before .args .scratch .now) (climbing-begins (c .before .before .before .before .before .before .before .before .before .before .before .before .before .before .before .before .before .before .before .before .before .before .before .before .pre .1) (c .before .before .before .before .before .before .before .before .before .before .before .before .before .before .before .before .before .before .descend .ensures) (c .before .before .before .before .before .before .before .before .before .before .before .before .image-start .ensures) (c .before .before .before .before .before .before .before .before .before .before .before .before .before .before .before .before .before .before .descend .kept .1 .1 .1 .1 .0) (c .before .before .before .before .before .before .before .before .before .before .before .before .image-start .kept .1 .1 .1 .1 .1 .1 .0) (c .before .before .before .before .before .before .before .before .before .before .before .before .image-start .kept .1 .1 .1 .1 .0) (c .before .before .before .before .before .before .before .before .before .before .before .before .image-start .kept .1 .1 .1 .1 .1 .0)) in (omega (arith, c .before .before .before .before .before .before .before .before .before .before .before .before .before .before .before .before .before .before .before .before .before .before .before .before .pre .0, c .before .before .before .before .loop-test .taken), climbing-asks g (c .before .before .before .before .loop-test .taken))
 
--- src/cycle.rt:38:9
-image-image-start-requires : (t : ℕ) → image-lts.Need-image-start-requires (is-row-reads.Asked, is-row-reads.Learnt, standing-reads.Asked, standing-reads.Learnt, descend-reads.Asked, descend-reads.Learnt, image-start-below t, image-start.Post, image-up-below t, image-up.Post, note-reads.Asked, note-reads.Learnt, over-reads.Asked, over-reads.Learnt) (image-at t) image.Post image-Inv-loop image-μ-loop
-image-image-start-requires t c κs = (omega (arith, c .before .before .before .before .before .before .before .before .before .before .before .before .before .before .pre .0, climb-within (c .before .before .before .before .before .descend .ensures .climb)), asks-lowest (c .before .before .before .before .before .before .before .before .before .before .before .before .before .before .pre .1) (c .before .before .before .before .before .descend .kept .1 .1 .1 .1 .0) (c .before .before .before .before .before .descend .ensures))
+-- src/cycle.rt:58:9
+image-anew-note-requires : (t : ℕ) → image-anew-lts.Need-note-requires (descend-reads.Asked, descend-reads.Learnt, image-start-below t, image-start.Post, image-up-below t, image-up.Post, note-reads.Asked, note-reads.Learnt, over-reads.Asked, over-reads.Learnt) (image-anew-at t) image-anew.Post image-anew-Inv-loop image-anew-μ-loop
+image-anew-note-requires t c κs = let g = c .before .before .before .before .before .before .before .before .before .before .before .before .before .loop .inv (c .before .before .before .before .before .before .before .before .before .before .before .before .before .before .before .before .before .before .before .before .before .before .before .before .before .before .before .before .before .before .before .before .args .at) (store (c .before .before .before .before .before .before .before .before .before .before .before .before .before .before .before .before .before .before .before .before .before .before .before .before .before .before .before .before .before .before .before .before .args .table .now) (c .before .before .before .before .before .before .before .before .before .before .before .before .before .before .before .before .before .before .before .before .before .before .before .before .before .before .before .before .before .before .before .before .args .originals .now)) (c .before .before .before .before .before .before .before .before .before .before .before .before .before .before .before .before .before .before .before .before .before .before .before .before .before .before .before .before .before .before .before .before .args .scratch .now) (climbing-begins (c .before .before .before .before .before .before .before .before .before .before .before .before .before .before .before .before .before .before .before .before .before .before .before .before .before .before .before .before .before .before .before .before .pre .1) (c .before .before .before .before .before .before .before .before .before .before .before .before .before .before .before .before .before .before .before .before .before .before .before .before .before .before .descend .ensures) (c .before .before .before .before .before .before .before .before .before .before .before .before .before .before .before .before .before .before .before .before .image-start .ensures) (c .before .before .before .before .before .before .before .before .before .before .before .before .before .before .before .before .before .before .before .before .before .before .before .before .before .before .descend .kept .1 .1 .1 .1 .0) (c .before .before .before .before .before .before .before .before .before .before .before .before .before .before .before .before .before .before .before .before .image-start .kept .1 .1 .1 .1 .1 .1 .0) (c .before .before .before .before .before .before .before .before .before .before .before .before .before .before .before .before .before .before .before .before .image-start .kept .1 .1 .1 .1 .0) (c .before .before .before .before .before .before .before .before .before .before .before .before .before .before .before .before .before .before .before .before .image-start .kept .1 .1 .1 .1 .1 .0)) in climbing-notes g (c .before .before .before .before .before .before .before .before .before .before .before .before .loop-test .taken) (c .before .before .before .before .before .before .before .image-up .ensures) (c .before .before .before .before .before .before .before .image-up .kept .1 .1 .1 .1 .1 .1 .0)
 
--- src/cycle.rt:39:5
-image-loop-holds : (t : ℕ) → image-lts.Need-loop-holds (is-row-reads.Asked, is-row-reads.Learnt, standing-reads.Asked, standing-reads.Learnt, descend-reads.Asked, descend-reads.Learnt, image-start-below t, image-start.Post, image-up-below t, image-up.Post, note-reads.Asked, note-reads.Learnt, over-reads.Asked, over-reads.Learnt) (image-at t) image.Post image-Inv-loop image-μ-loop
-image-loop-holds t c = λ at before entry b. b
+-- src/cycle.rt:59:9
+image-anew-over-requires : (t : ℕ) → image-anew-lts.Need-over-requires (descend-reads.Asked, descend-reads.Learnt, image-start-below t, image-start.Post, image-up-below t, image-up.Post, note-reads.Asked, note-reads.Learnt, over-reads.Asked, over-reads.Learnt) (image-anew-at t) image-anew.Post image-anew-Inv-loop image-anew-μ-loop
+image-anew-over-requires t c κs = let g = c .before .before .before .before .before .before .before .before .before .before .before .before .before .before .before .before .loop .inv (c .before .before .before .before .before .before .before .before .before .before .before .before .before .before .before .before .before .before .before .before .before .before .before .before .before .before .before .before .before .before .before .before .before .before .before .args .at) (store (c .before .before .before .before .before .before .before .before .before .before .before .before .before .before .before .before .before .before .before .before .before .before .before .before .before .before .before .before .before .before .before .before .before .before .before .args .table .now) (c .before .before .before .before .before .before .before .before .before .before .before .before .before .before .before .before .before .before .before .before .before .before .before .before .before .before .before .before .before .before .before .before .before .before .before .args .originals .now)) (c .before .before .before .before .before .before .before .before .before .before .before .before .before .before .before .before .before .before .before .before .before .before .before .before .before .before .before .before .before .before .before .before .before .before .before .args .scratch .now) (climbing-begins (c .before .before .before .before .before .before .before .before .before .before .before .before .before .before .before .before .before .before .before .before .before .before .before .before .before .before .before .before .before .before .before .before .before .before .before .pre .1) (c .before .before .before .before .before .before .before .before .before .before .before .before .before .before .before .before .before .before .before .before .before .before .before .before .before .before .before .before .before .descend .ensures) (c .before .before .before .before .before .before .before .before .before .before .before .before .before .before .before .before .before .before .before .before .before .before .before .image-start .ensures) (c .before .before .before .before .before .before .before .before .before .before .before .before .before .before .before .before .before .before .before .before .before .before .before .before .before .before .before .before .before .descend .kept .1 .1 .1 .1 .0) (c .before .before .before .before .before .before .before .before .before .before .before .before .before .before .before .before .before .before .before .before .before .before .before .image-start .kept .1 .1 .1 .1 .1 .1 .0) (c .before .before .before .before .before .before .before .before .before .before .before .before .before .before .before .before .before .before .before .before .before .before .before .image-start .kept .1 .1 .1 .1 .0) (c .before .before .before .before .before .before .before .before .before .before .before .before .before .before .before .before .before .before .before .before .before .before .before .image-start .kept .1 .1 .1 .1 .1 .0)) in (omega (arith, c .before .before .before .before .before .before .before .before .before .before .before .before .before .before .before .before .before .before .before .before .before .before .before .before .before .before .before .before .before .before .before .before .before .before .before .pre .1 .formula, c .before .before .before .before .before .before .before .before .before .before .before .before .before .before .before .before .before .before .before .before .before .before .before .before .before .before .before .before .before .before .before .before .before .before .before .pre .1 .source .limit), climbing-word g (c .before .before .before .before .before .before .before .before .before .before .before .before .before .before .before .loop-test .taken) (getD (c .before .before .before .before .before .before .before .before .before .before .before .before .before .before .before .before .loop .scratch) (c .before .before .before .before .before .before .before .before .before .before .before .before .before .before .before .before .loop .j) 0) refl)
 
--- src/cycle.rt:40:20
-image-mul-word : (t : ℕ) → image-lts.Need-mul-word (is-row-reads.Asked, is-row-reads.Learnt, standing-reads.Asked, standing-reads.Learnt, descend-reads.Asked, descend-reads.Learnt, image-start-below t, image-start.Post, image-up-below t, image-up.Post, note-reads.Asked, note-reads.Learnt, over-reads.Asked, over-reads.Learnt) (image-at t) image.Post image-Inv-loop image-μ-loop
-image-mul-word t c = omega (arith, c .loop-test .taken, c .before .before .before .before .before .before .before .before .before .before .before .before .before .before .before .before .before .before .before .before .before .before .before .pre .1 .formula, c .before .before .before .before .before .before .before .before .before .before .before .before .before .before .before .before .before .before .before .before .before .before .before .pre .1 .source .limit)
+-- src/cycle.rt:55:5
+image-anew-loop-less : (t : ℕ) → image-anew-lts.Need-loop-less (descend-reads.Asked, descend-reads.Learnt, image-start-below t, image-start.Post, image-up-below t, image-up.Post, note-reads.Asked, note-reads.Learnt, over-reads.Asked, over-reads.Learnt) (image-anew-at t) image-anew.Post image-anew-Inv-loop image-anew-μ-loop
+image-anew-loop-less t c = let g = c .before .before .before .before .before .before .before .before .before .before .before .before .before .before .before .before .before .loop .inv (c .before .before .before .before .before .before .before .before .before .before .before .before .before .before .before .before .before .before .before .before .before .before .before .before .before .before .before .before .before .before .before .before .before .before .before .before .args .at) (store (c .before .before .before .before .before .before .before .before .before .before .before .before .before .before .before .before .before .before .before .before .before .before .before .before .before .before .before .before .before .before .before .before .before .before .before .before .args .table .now) (c .before .before .before .before .before .before .before .before .before .before .before .before .before .before .before .before .before .before .before .before .before .before .before .before .before .before .before .before .before .before .before .before .before .before .before .before .args .originals .now)) (c .before .before .before .before .before .before .before .before .before .before .before .before .before .before .before .before .before .before .before .before .before .before .before .before .before .before .before .before .before .before .before .before .before .before .before .before .args .scratch .now) (climbing-begins (c .before .before .before .before .before .before .before .before .before .before .before .before .before .before .before .before .before .before .before .before .before .before .before .before .before .before .before .before .before .before .before .before .before .before .before .before .pre .1) (c .before .before .before .before .before .before .before .before .before .before .before .before .before .before .before .before .before .before .before .before .before .before .before .before .before .before .before .before .before .before .descend .ensures) (c .before .before .before .before .before .before .before .before .before .before .before .before .before .before .before .before .before .before .before .before .before .before .before .before .image-start .ensures) (c .before .before .before .before .before .before .before .before .before .before .before .before .before .before .before .before .before .before .before .before .before .before .before .before .before .before .before .before .before .before .descend .kept .1 .1 .1 .1 .0) (c .before .before .before .before .before .before .before .before .before .before .before .before .before .before .before .before .before .before .before .before .before .before .before .before .image-start .kept .1 .1 .1 .1 .1 .1 .0) (c .before .before .before .before .before .before .before .before .before .before .before .before .before .before .before .before .before .before .before .before .before .before .before .before .image-start .kept .1 .1 .1 .1 .0) (c .before .before .before .before .before .before .before .before .before .before .before .before .before .before .before .before .before .before .before .before .before .before .before .before .image-start .kept .1 .1 .1 .1 .1 .0)) in let h : c .before .before .before .before .before .before .before .before .before .before .before .before .before .before .before .before .before .loop .j < c .over .result = rw (c .over .ensures) (climbing-rises g (c .before .before .before .before .before .before .before .before .before .before .before .before .before .before .before .before .loop-test .taken) (getD (c .before .before .before .before .before .before .before .before .before .before .before .before .before .before .before .before .before .loop .scratch) (c .before .before .before .before .before .before .before .before .before .before .before .before .before .before .before .before .before .loop .j) 0) refl) in omega (arith, h, c .before .before .before .before .before .before .before .before .before .before .before .before .before .before .before .before .loop-test .taken)
 
--- src/cycle.rt:40:20
-image-slice-read-word : (t : ℕ) → image-lts.Need-slice-read-word (is-row-reads.Asked, is-row-reads.Learnt, standing-reads.Asked, standing-reads.Learnt, descend-reads.Asked, descend-reads.Learnt, image-start-below t, image-start.Post, image-up-below t, image-up.Post, note-reads.Asked, note-reads.Learnt, over-reads.Asked, over-reads.Learnt) (image-at t) image.Post image-Inv-loop image-μ-loop
-image-slice-read-word t c = let g = c .before .before .loop .inv (c .before .before .before .before .before .before .before .before .before .before .before .before .before .before .before .before .before .before .before .before .before .before .before .before .args .at) (store (c .before .before .before .before .before .before .before .before .before .before .before .before .before .before .before .before .before .before .before .before .before .before .before .before .args .table .now) (c .before .before .before .before .before .before .before .before .before .before .before .before .before .before .before .before .before .before .before .before .before .before .before .before .args .originals .now)) (c .before .before .before .before .before .before .before .before .before .before .before .before .before .before .before .before .before .before .before .before .before .before .before .before .args .scratch .now) (climbing-begins (c .before .before .before .before .before .before .before .before .before .before .before .before .before .before .before .before .before .before .before .before .before .before .before .before .pre .1) (c .before .before .before .before .before .before .before .before .before .before .before .before .before .before .before .descend .ensures) (c .before .before .before .before .before .before .before .before .before .image-start .ensures) (c .before .before .before .before .before .before .before .before .before .before .before .before .before .before .before .descend .kept .1 .1 .1 .1 .0) (c .before .before .before .before .before .before .before .before .before .image-start .kept .1 .1 .1 .1 .1 .1 .0) (c .before .before .before .before .before .before .before .before .before .image-start .kept .1 .1 .1 .1 .0) (c .before .before .before .before .before .before .before .before .before .image-start .kept .1 .1 .1 .1 .1 .0)) in omega (arith, c .before .loop-test .taken, g .row .source .memo, g .row .formula)
+-- src/cycle.rt:55:5
+image-anew-loop-again : (t : ℕ) → image-anew-lts.Need-loop-again (descend-reads.Asked, descend-reads.Learnt, image-start-below t, image-start.Post, image-up-below t, image-up.Post, note-reads.Asked, note-reads.Learnt, over-reads.Asked, over-reads.Learnt) (image-anew-at t) image-anew.Post image-anew-Inv-loop image-anew-μ-loop
+image-anew-loop-again t c = λ at before entry b. rw (c .before .before .before .note .ensures, c .over .ensures) (climbing-more (c .before .before .before .before .before .before .before .before .before .before .before .before .before .before .before .before .before .loop .inv at before entry b) (c .before .before .before .before .before .before .before .before .before .before .before .before .before .before .before .before .loop-test .taken) (getD (c .before .before .before .before .before .before .before .before .before .before .before .before .before .before .before .before .before .loop .scratch) (c .before .before .before .before .before .before .before .before .before .before .before .before .before .before .before .before .before .loop .j) 0) refl (c .before .before .before .before .before .before .before .before .before .before .before .image-up .ensures) (c .before .before .before .before .before .before .before .before .before .before .before .image-up .kept .1 .1 .1 .1 .1 .1 .0) (c .before .before .before .before .before .before .before .before .before .before .before .image-up .kept .1 .1 .1 .1 .0) (c .before .before .before .before .before .before .before .before .before .before .before .image-up .kept .1 .1 .1 .1 .1 .0))
 
--- src/cycle.rt:40:20
-image-cast-word : (t : ℕ) → image-lts.Need-cast-word (is-row-reads.Asked, is-row-reads.Learnt, standing-reads.Asked, standing-reads.Learnt, descend-reads.Asked, descend-reads.Learnt, image-start-below t, image-start.Post, image-up-below t, image-up.Post, note-reads.Asked, note-reads.Learnt, over-reads.Asked, over-reads.Learnt) (image-at t) image.Post image-Inv-loop image-μ-loop
-image-cast-word t c = omega (arith, c .slice-known9 .given (c .before .before .loop .j))
+-- src/cycle.rt:41:1
+image-anew-same-length : (t : ℕ) → image-anew-lts.Need-same-length (descend-reads.Asked, descend-reads.Learnt, image-start-below t, image-start.Post, image-up-below t, image-up.Post, note-reads.Asked, note-reads.Learnt, over-reads.Asked, over-reads.Learnt) (image-anew-at t) image-anew.Post image-anew-Inv-loop image-anew-μ-loop
+image-anew-same-length t c = let g = c .before .loop .inv (c .before .before .before .before .before .before .before .before .before .before .before .before .before .before .before .before .before .before .before .before .args .at) (store (c .before .before .before .before .before .before .before .before .before .before .before .before .before .before .before .before .before .before .before .before .args .table .now) (c .before .before .before .before .before .before .before .before .before .before .before .before .before .before .before .before .before .before .before .before .args .originals .now)) (c .before .before .before .before .before .before .before .before .before .before .before .before .before .before .before .before .before .before .before .before .args .scratch .now) (climbing-begins (c .before .before .before .before .before .before .before .before .before .before .before .before .before .before .before .before .before .before .before .before .pre .1) (c .before .before .before .before .before .before .before .before .before .before .before .before .before .before .descend .ensures) (c .before .before .before .before .before .before .before .before .image-start .ensures) (c .before .before .before .before .before .before .before .before .before .before .before .before .before .before .descend .kept .1 .1 .1 .1 .0) (c .before .before .before .before .before .before .before .before .image-start .kept .1 .1 .1 .1 .1 .1 .0) (c .before .before .before .before .before .before .before .before .image-start .kept .1 .1 .1 .1 .0) (c .before .before .before .before .before .before .before .before .image-start .kept .1 .1 .1 .1 .1 .0)) in g .table
 
--- src/cycle.rt:41:9
-image-image-up-requires : (t : ℕ) → image-lts.Need-image-up-requires (is-row-reads.Asked, is-row-reads.Learnt, standing-reads.Asked, standing-reads.Learnt, descend-reads.Asked, descend-reads.Learnt, image-start-below t, image-start.Post, image-up-below t, image-up.Post, note-reads.Asked, note-reads.Learnt, over-reads.Asked, over-reads.Learnt) (image-at t) image.Post image-Inv-loop image-μ-loop
-image-image-up-requires t c κs = let g = c .before .before .before .before .before .loop .inv (c .before .before .before .before .before .before .before .before .before .before .before .before .before .before .before .before .before .before .before .before .before .before .before .before .before .before .before .args .at) (store (c .before .before .before .before .before .before .before .before .before .before .before .before .before .before .before .before .before .before .before .before .before .before .before .before .before .before .before .args .table .now) (c .before .before .before .before .before .before .before .before .before .before .before .before .before .before .before .before .before .before .before .before .before .before .before .before .before .before .before .args .originals .now)) (c .before .before .before .before .before .before .before .before .before .before .before .before .before .before .before .before .before .before .before .before .before .before .before .before .before .before .before .args .scratch .now) (climbing-begins (c .before .before .before .before .before .before .before .before .before .before .before .before .before .before .before .before .before .before .before .before .before .before .before .before .before .before .before .pre .1) (c .before .before .before .before .before .before .before .before .before .before .before .before .before .before .before .before .before .before .descend .ensures) (c .before .before .before .before .before .before .before .before .before .before .before .before .image-start .ensures) (c .before .before .before .before .before .before .before .before .before .before .before .before .before .before .before .before .before .before .descend .kept .1 .1 .1 .1 .0) (c .before .before .before .before .before .before .before .before .before .before .before .before .image-start .kept .1 .1 .1 .1 .1 .1 .0) (c .before .before .before .before .before .before .before .before .before .before .before .before .image-start .kept .1 .1 .1 .1 .0) (c .before .before .before .before .before .before .before .before .before .before .before .before .image-start .kept .1 .1 .1 .1 .1 .0)) in (omega (arith, c .before .before .before .before .before .before .before .before .before .before .before .before .before .before .before .before .before .before .before .before .before .before .before .before .before .before .before .pre .0, c .before .before .before .before .loop-test .taken), climbing-asks g (c .before .before .before .before .loop-test .taken))
+-- src/cycle.rt:41:1
+image-anew-same-length-2 : (t : ℕ) → image-anew-lts.Need-same-length-2 (descend-reads.Asked, descend-reads.Learnt, image-start-below t, image-start.Post, image-up-below t, image-up.Post, note-reads.Asked, note-reads.Learnt, over-reads.Asked, over-reads.Learnt) (image-anew-at t) image-anew.Post image-anew-Inv-loop image-anew-μ-loop
+image-anew-same-length-2 t c = let g = c .before .loop .inv (c .before .before .before .before .before .before .before .before .before .before .before .before .before .before .before .before .before .before .before .before .args .at) (store (c .before .before .before .before .before .before .before .before .before .before .before .before .before .before .before .before .before .before .before .before .args .table .now) (c .before .before .before .before .before .before .before .before .before .before .before .before .before .before .before .before .before .before .before .before .args .originals .now)) (c .before .before .before .before .before .before .before .before .before .before .before .before .before .before .before .before .before .before .before .before .args .scratch .now) (climbing-begins (c .before .before .before .before .before .before .before .before .before .before .before .before .before .before .before .before .before .before .before .before .pre .1) (c .before .before .before .before .before .before .before .before .before .before .before .before .before .before .descend .ensures) (c .before .before .before .before .before .before .before .before .image-start .ensures) (c .before .before .before .before .before .before .before .before .before .before .before .before .before .before .descend .kept .1 .1 .1 .1 .0) (c .before .before .before .before .before .before .before .before .image-start .kept .1 .1 .1 .1 .1 .1 .0) (c .before .before .before .before .before .before .before .before .image-start .kept .1 .1 .1 .1 .0) (c .before .before .before .before .before .before .before .before .image-start .kept .1 .1 .1 .1 .1 .0)) in g .originals
 
--- src/cycle.rt:42:9
-image-note-requires : (t : ℕ) → image-lts.Need-note-requires (is-row-reads.Asked, is-row-reads.Learnt, standing-reads.Asked, standing-reads.Learnt, descend-reads.Asked, descend-reads.Learnt, image-start-below t, image-start.Post, image-up-below t, image-up.Post, note-reads.Asked, note-reads.Learnt, over-reads.Asked, over-reads.Learnt) (image-at t) image.Post image-Inv-loop image-μ-loop
-image-note-requires t c κs = let g = c .before .before .before .before .before .before .before .before .before .before .before .before .before .loop .inv (c .before .before .before .before .before .before .before .before .before .before .before .before .before .before .before .before .before .before .before .before .before .before .before .before .before .before .before .before .before .before .before .before .before .before .before .args .at) (store (c .before .before .before .before .before .before .before .before .before .before .before .before .before .before .before .before .before .before .before .before .before .before .before .before .before .before .before .before .before .before .before .before .before .before .before .args .table .now) (c .before .before .before .before .before .before .before .before .before .before .before .before .before .before .before .before .before .before .before .before .before .before .before .before .before .before .before .before .before .before .before .before .before .before .before .args .originals .now)) (c .before .before .before .before .before .before .before .before .before .before .before .before .before .before .before .before .before .before .before .before .before .before .before .before .before .before .before .before .before .before .before .before .before .before .before .args .scratch .now) (climbing-begins (c .before .before .before .before .before .before .before .before .before .before .before .before .before .before .before .before .before .before .before .before .before .before .before .before .before .before .before .before .before .before .before .before .before .before .before .pre .1) (c .before .before .before .before .before .before .before .before .before .before .before .before .before .before .before .before .before .before .before .before .before .before .before .before .before .before .descend .ensures) (c .before .before .before .before .before .before .before .before .before .before .before .before .before .before .before .before .before .before .before .before .image-start .ensures) (c .before .before .before .before .before .before .before .before .before .before .before .before .before .before .before .before .before .before .before .before .before .before .before .before .before .before .descend .kept .1 .1 .1 .1 .0) (c .before .before .before .before .before .before .before .before .before .before .before .before .before .before .before .before .before .before .before .before .image-start .kept .1 .1 .1 .1 .1 .1 .0) (c .before .before .before .before .before .before .before .before .before .before .before .before .before .before .before .before .before .before .before .before .image-start .kept .1 .1 .1 .1 .0) (c .before .before .before .before .before .before .before .before .before .before .before .before .before .before .before .before .before .before .before .before .image-start .kept .1 .1 .1 .1 .1 .0)) in climbing-notes g (c .before .before .before .before .before .before .before .before .before .before .before .before .loop-test .taken) (c .before .before .before .before .before .before .before .image-up .ensures) (c .before .before .before .before .before .before .before .image-up .kept .1 .1 .1 .1 .1 .1 .0)
+-- src/cycle.rt:41:1
+image-anew-same-length-3 : (t : ℕ) → image-anew-lts.Need-same-length-3 (descend-reads.Asked, descend-reads.Learnt, image-start-below t, image-start.Post, image-up-below t, image-up.Post, note-reads.Asked, note-reads.Learnt, over-reads.Asked, over-reads.Learnt) (image-anew-at t) image-anew.Post image-anew-Inv-loop image-anew-μ-loop
+image-anew-same-length-3 t c = let g = c .before .loop .inv (c .before .before .before .before .before .before .before .before .before .before .before .before .before .before .before .before .before .before .before .before .args .at) (store (c .before .before .before .before .before .before .before .before .before .before .before .before .before .before .before .before .before .before .before .before .args .table .now) (c .before .before .before .before .before .before .before .before .before .before .before .before .before .before .before .before .before .before .before .before .args .originals .now)) (c .before .before .before .before .before .before .before .before .before .before .before .before .before .before .before .before .before .before .before .before .args .scratch .now) (climbing-begins (c .before .before .before .before .before .before .before .before .before .before .before .before .before .before .before .before .before .before .before .before .pre .1) (c .before .before .before .before .before .before .before .before .before .before .before .before .before .before .descend .ensures) (c .before .before .before .before .before .before .before .before .image-start .ensures) (c .before .before .before .before .before .before .before .before .before .before .before .before .before .before .descend .kept .1 .1 .1 .1 .0) (c .before .before .before .before .before .before .before .before .image-start .kept .1 .1 .1 .1 .1 .1 .0) (c .before .before .before .before .before .before .before .before .image-start .kept .1 .1 .1 .1 .0) (c .before .before .before .before .before .before .before .before .image-start .kept .1 .1 .1 .1 .1 .0)) in g .long
 
--- src/cycle.rt:43:9
-image-over-requires : (t : ℕ) → image-lts.Need-over-requires (is-row-reads.Asked, is-row-reads.Learnt, standing-reads.Asked, standing-reads.Learnt, descend-reads.Asked, descend-reads.Learnt, image-start-below t, image-start.Post, image-up-below t, image-up.Post, note-reads.Asked, note-reads.Learnt, over-reads.Asked, over-reads.Learnt) (image-at t) image.Post image-Inv-loop image-μ-loop
-image-over-requires t c κs = let g = c .before .before .before .before .before .before .before .before .before .before .before .before .before .before .before .before .loop .inv (c .before .before .before .before .before .before .before .before .before .before .before .before .before .before .before .before .before .before .before .before .before .before .before .before .before .before .before .before .before .before .before .before .before .before .before .before .before .before .args .at) (store (c .before .before .before .before .before .before .before .before .before .before .before .before .before .before .before .before .before .before .before .before .before .before .before .before .before .before .before .before .before .before .before .before .before .before .before .before .before .before .args .table .now) (c .before .before .before .before .before .before .before .before .before .before .before .before .before .before .before .before .before .before .before .before .before .before .before .before .before .before .before .before .before .before .before .before .before .before .before .before .before .before .args .originals .now)) (c .before .before .before .before .before .before .before .before .before .before .before .before .before .before .before .before .before .before .before .before .before .before .before .before .before .before .before .before .before .before .before .before .before .before .before .before .before .before .args .scratch .now) (climbing-begins (c .before .before .before .before .before .before .before .before .before .before .before .before .before .before .before .before .before .before .before .before .before .before .before .before .before .before .before .before .before .before .before .before .before .before .before .before .before .before .pre .1) (c .before .before .before .before .before .before .before .before .before .before .before .before .before .before .before .before .before .before .before .before .before .before .before .before .before .before .before .before .before .descend .ensures) (c .before .before .before .before .before .before .before .before .before .before .before .before .before .before .before .before .before .before .before .before .before .before .before .image-start .ensures) (c .before .before .before .before .before .before .before .before .before .before .before .before .before .before .before .before .before .before .before .before .before .before .before .before .before .before .before .before .before .descend .kept .1 .1 .1 .1 .0) (c .before .before .before .before .before .before .before .before .before .before .before .before .before .before .before .before .before .before .before .before .before .before .before .image-start .kept .1 .1 .1 .1 .1 .1 .0) (c .before .before .before .before .before .before .before .before .before .before .before .before .before .before .before .before .before .before .before .before .before .before .before .image-start .kept .1 .1 .1 .1 .0) (c .before .before .before .before .before .before .before .before .before .before .before .before .before .before .before .before .before .before .before .before .before .before .before .image-start .kept .1 .1 .1 .1 .1 .0)) in (omega (arith, c .before .before .before .before .before .before .before .before .before .before .before .before .before .before .before .before .before .before .before .before .before .before .before .before .before .before .before .before .before .before .before .before .before .before .before .before .before .before .pre .1 .formula, c .before .before .before .before .before .before .before .before .before .before .before .before .before .before .before .before .before .before .before .before .before .before .before .before .before .before .before .before .before .before .before .before .before .before .before .before .before .before .pre .1 .source .limit), climbing-word g (c .before .before .before .before .before .before .before .before .before .before .before .before .before .before .before .loop-test .taken) (getD (c .before .before .before .before .before .before .before .before .before .before .before .before .before .before .before .before .loop .scratch) (c .before .before .before .before .before .before .before .before .before .before .before .before .before .before .before .before .loop .j) 0) refl)
+-- src/cycle.rt:41:1
+image-anew-returns : (t : ℕ) → image-anew-lts.Need-returns (descend-reads.Asked, descend-reads.Learnt, image-start-below t, image-start.Post, image-up-below t, image-up.Post, note-reads.Asked, note-reads.Learnt, over-reads.Asked, over-reads.Learnt) (image-anew-at t) image-anew.Post image-anew-Inv-loop image-anew-μ-loop
+image-anew-returns t c = let g = c .before .loop .inv (c .before .before .before .before .before .before .before .before .before .before .before .before .before .before .before .before .before .before .before .before .args .at) (store (c .before .before .before .before .before .before .before .before .before .before .before .before .before .before .before .before .before .before .before .before .args .table .now) (c .before .before .before .before .before .before .before .before .before .before .before .before .before .before .before .before .before .before .before .before .args .originals .now)) (c .before .before .before .before .before .before .before .before .before .before .before .before .before .before .before .before .before .before .before .before .args .scratch .now) (climbing-begins (c .before .before .before .before .before .before .before .before .before .before .before .before .before .before .before .before .before .before .before .before .pre .1) (c .before .before .before .before .before .before .before .before .before .before .before .before .before .before .descend .ensures) (c .before .before .before .before .before .before .before .before .image-start .ensures) (c .before .before .before .before .before .before .before .before .before .before .before .before .before .before .descend .kept .1 .1 .1 .1 .0) (c .before .before .before .before .before .before .before .before .image-start .kept .1 .1 .1 .1 .1 .1 .0) (c .before .before .before .before .before .before .before .before .image-start .kept .1 .1 .1 .1 .0) (c .before .before .before .before .before .before .before .before .image-start .kept .1 .1 .1 .1 .1 .0)) in climbing-ends g (c .loop-test .left)
 
--- src/cycle.rt:39:5
-image-loop-less : (t : ℕ) → image-lts.Need-loop-less (is-row-reads.Asked, is-row-reads.Learnt, standing-reads.Asked, standing-reads.Learnt, descend-reads.Asked, descend-reads.Learnt, image-start-below t, image-start.Post, image-up-below t, image-up.Post, note-reads.Asked, note-reads.Learnt, over-reads.Asked, over-reads.Learnt) (image-at t) image.Post image-Inv-loop image-μ-loop
-image-loop-less t c = let g = c .before .before .before .before .before .before .before .before .before .before .before .before .before .before .before .before .before .loop .inv (c .before .before .before .before .before .before .before .before .before .before .before .before .before .before .before .before .before .before .before .before .before .before .before .before .before .before .before .before .before .before .before .before .before .before .before .before .before .before .before .args .at) (store (c .before .before .before .before .before .before .before .before .before .before .before .before .before .before .before .before .before .before .before .before .before .before .before .before .before .before .before .before .before .before .before .before .before .before .before .before .before .before .before .args .table .now) (c .before .before .before .before .before .before .before .before .before .before .before .before .before .before .before .before .before .before .before .before .before .before .before .before .before .before .before .before .before .before .before .before .before .before .before .before .before .before .before .args .originals .now)) (c .before .before .before .before .before .before .before .before .before .before .before .before .before .before .before .before .before .before .before .before .before .before .before .before .before .before .before .before .before .before .before .before .before .before .before .before .before .before .before .args .scratch .now) (climbing-begins (c .before .before .before .before .before .before .before .before .before .before .before .before .before .before .before .before .before .before .before .before .before .before .before .before .before .before .before .before .before .before .before .before .before .before .before .before .before .before .before .pre .1) (c .before .before .before .before .before .before .before .before .before .before .before .before .before .before .before .before .before .before .before .before .before .before .before .before .before .before .before .before .before .before .descend .ensures) (c .before .before .before .before .before .before .before .before .before .before .before .before .before .before .before .before .before .before .before .before .before .before .before .before .image-start .ensures) (c .before .before .before .before .before .before .before .before .before .before .before .before .before .before .before .before .before .before .before .before .before .before .before .before .before .before .before .before .before .before .descend .kept .1 .1 .1 .1 .0) (c .before .before .before .before .before .before .before .before .before .before .before .before .before .before .before .before .before .before .before .before .before .before .before .before .image-start .kept .1 .1 .1 .1 .1 .1 .0) (c .before .before .before .before .before .before .before .before .before .before .before .before .before .before .before .before .before .before .before .before .before .before .before .before .image-start .kept .1 .1 .1 .1 .0) (c .before .before .before .before .before .before .before .before .before .before .before .before .before .before .before .before .before .before .before .before .before .before .before .before .image-start .kept .1 .1 .1 .1 .1 .0)) in let h : c .before .before .before .before .before .before .before .before .before .before .before .before .before .before .before .before .before .loop .j < c .over .result = rw (c .over .ensures) (climbing-rises g (c .before .before .before .before .before .before .before .before .before .before .before .before .before .before .before .before .loop-test .taken) (getD (c .before .before .before .before .before .before .before .before .before .before .before .before .before .before .before .before .before .loop .scratch) (c .before .before .before .before .before .before .before .before .before .before .before .before .before .before .before .before .before .loop .j) 0) refl) in omega (arith, h, c .before .before .before .before .before .before .before .before .before .before .before .before .before .before .before .before .loop-test .taken)
-
--- src/cycle.rt:39:5
-image-loop-again : (t : ℕ) → image-lts.Need-loop-again (is-row-reads.Asked, is-row-reads.Learnt, standing-reads.Asked, standing-reads.Learnt, descend-reads.Asked, descend-reads.Learnt, image-start-below t, image-start.Post, image-up-below t, image-up.Post, note-reads.Asked, note-reads.Learnt, over-reads.Asked, over-reads.Learnt) (image-at t) image.Post image-Inv-loop image-μ-loop
-image-loop-again t c = λ at before entry b. rw (c .before .before .before .note .ensures, c .over .ensures) (climbing-more (c .before .before .before .before .before .before .before .before .before .before .before .before .before .before .before .before .before .loop .inv at before entry b) (c .before .before .before .before .before .before .before .before .before .before .before .before .before .before .before .before .loop-test .taken) (getD (c .before .before .before .before .before .before .before .before .before .before .before .before .before .before .before .before .before .loop .scratch) (c .before .before .before .before .before .before .before .before .before .before .before .before .before .before .before .before .before .loop .j) 0) refl (c .before .before .before .before .before .before .before .before .before .before .before .image-up .ensures) (c .before .before .before .before .before .before .before .before .before .before .before .image-up .kept .1 .1 .1 .1 .1 .1 .0) (c .before .before .before .before .before .before .before .before .before .before .before .image-up .kept .1 .1 .1 .1 .0) (c .before .before .before .before .before .before .before .before .before .before .before .image-up .kept .1 .1 .1 .1 .1 .0))
-
--- src/cycle.rt:21:1
-image-same-length : (t : ℕ) → image-lts.Need-same-length (is-row-reads.Asked, is-row-reads.Learnt, standing-reads.Asked, standing-reads.Learnt, descend-reads.Asked, descend-reads.Learnt, image-start-below t, image-start.Post, image-up-below t, image-up.Post, note-reads.Asked, note-reads.Learnt, over-reads.Asked, over-reads.Learnt) (image-at t) image.Post image-Inv-loop image-μ-loop
-image-same-length t c = let g = c .before .loop .inv (c .before .before .before .before .before .before .before .before .before .before .before .before .before .before .before .before .before .before .before .before .before .before .before .args .at) (store (c .before .before .before .before .before .before .before .before .before .before .before .before .before .before .before .before .before .before .before .before .before .before .before .args .table .now) (c .before .before .before .before .before .before .before .before .before .before .before .before .before .before .before .before .before .before .before .before .before .before .before .args .originals .now)) (c .before .before .before .before .before .before .before .before .before .before .before .before .before .before .before .before .before .before .before .before .before .before .before .args .scratch .now) (climbing-begins (c .before .before .before .before .before .before .before .before .before .before .before .before .before .before .before .before .before .before .before .before .before .before .before .pre .1) (c .before .before .before .before .before .before .before .before .before .before .before .before .before .before .descend .ensures) (c .before .before .before .before .before .before .before .before .image-start .ensures) (c .before .before .before .before .before .before .before .before .before .before .before .before .before .before .descend .kept .1 .1 .1 .1 .0) (c .before .before .before .before .before .before .before .before .image-start .kept .1 .1 .1 .1 .1 .1 .0) (c .before .before .before .before .before .before .before .before .image-start .kept .1 .1 .1 .1 .0) (c .before .before .before .before .before .before .before .before .image-start .kept .1 .1 .1 .1 .1 .0)) in g .table
-
--- src/cycle.rt:21:1
-image-same-length-2 : (t : ℕ) → image-lts.Need-same-length-2 (is-row-reads.Asked, is-row-reads.Learnt, standing-reads.Asked, standing-reads.Learnt, descend-reads.Asked, descend-reads.Learnt, image-start-below t, image-start.Post, image-up-below t, image-up.Post, note-reads.Asked, note-reads.Learnt, over-reads.Asked, over-reads.Learnt) (image-at t) image.Post image-Inv-loop image-μ-loop
-image-same-length-2 t c = let g = c .before .loop .inv (c .before .before .before .before .before .before .before .before .before .before .before .before .before .before .before .before .before .before .before .before .before .before .before .args .at) (store (c .before .before .before .before .before .before .before .before .before .before .before .before .before .before .before .before .before .before .before .before .before .before .before .args .table .now) (c .before .before .before .before .before .before .before .before .before .before .before .before .before .before .before .before .before .before .before .before .before .before .before .args .originals .now)) (c .before .before .before .before .before .before .before .before .before .before .before .before .before .before .before .before .before .before .before .before .before .before .before .args .scratch .now) (climbing-begins (c .before .before .before .before .before .before .before .before .before .before .before .before .before .before .before .before .before .before .before .before .before .before .before .pre .1) (c .before .before .before .before .before .before .before .before .before .before .before .before .before .before .descend .ensures) (c .before .before .before .before .before .before .before .before .image-start .ensures) (c .before .before .before .before .before .before .before .before .before .before .before .before .before .before .descend .kept .1 .1 .1 .1 .0) (c .before .before .before .before .before .before .before .before .image-start .kept .1 .1 .1 .1 .1 .1 .0) (c .before .before .before .before .before .before .before .before .image-start .kept .1 .1 .1 .1 .0) (c .before .before .before .before .before .before .before .before .image-start .kept .1 .1 .1 .1 .1 .0)) in g .originals
-
--- src/cycle.rt:21:1
-image-same-length-3 : (t : ℕ) → image-lts.Need-same-length-3 (is-row-reads.Asked, is-row-reads.Learnt, standing-reads.Asked, standing-reads.Learnt, descend-reads.Asked, descend-reads.Learnt, image-start-below t, image-start.Post, image-up-below t, image-up.Post, note-reads.Asked, note-reads.Learnt, over-reads.Asked, over-reads.Learnt) (image-at t) image.Post image-Inv-loop image-μ-loop
-image-same-length-3 t c = let g = c .before .loop .inv (c .before .before .before .before .before .before .before .before .before .before .before .before .before .before .before .before .before .before .before .before .before .before .before .args .at) (store (c .before .before .before .before .before .before .before .before .before .before .before .before .before .before .before .before .before .before .before .before .before .before .before .args .table .now) (c .before .before .before .before .before .before .before .before .before .before .before .before .before .before .before .before .before .before .before .before .before .before .before .args .originals .now)) (c .before .before .before .before .before .before .before .before .before .before .before .before .before .before .before .before .before .before .before .before .before .before .before .args .scratch .now) (climbing-begins (c .before .before .before .before .before .before .before .before .before .before .before .before .before .before .before .before .before .before .before .before .before .before .before .pre .1) (c .before .before .before .before .before .before .before .before .before .before .before .before .before .before .descend .ensures) (c .before .before .before .before .before .before .before .before .image-start .ensures) (c .before .before .before .before .before .before .before .before .before .before .before .before .before .before .descend .kept .1 .1 .1 .1 .0) (c .before .before .before .before .before .before .before .before .image-start .kept .1 .1 .1 .1 .1 .1 .0) (c .before .before .before .before .before .before .before .before .image-start .kept .1 .1 .1 .1 .0) (c .before .before .before .before .before .before .before .before .image-start .kept .1 .1 .1 .1 .1 .0)) in g .long
-
--- src/cycle.rt:21:1
-image-returns-2 : (t : ℕ) → image-lts.Need-returns-2 (is-row-reads.Asked, is-row-reads.Learnt, standing-reads.Asked, standing-reads.Learnt, descend-reads.Asked, descend-reads.Learnt, image-start-below t, image-start.Post, image-up-below t, image-up.Post, note-reads.Asked, note-reads.Learnt, over-reads.Asked, over-reads.Learnt) (image-at t) image.Post image-Inv-loop image-μ-loop
-image-returns-2 t c = let g = c .before .loop .inv (c .before .before .before .before .before .before .before .before .before .before .before .before .before .before .before .before .before .before .before .before .before .before .before .args .at) (store (c .before .before .before .before .before .before .before .before .before .before .before .before .before .before .before .before .before .before .before .before .before .before .before .args .table .now) (c .before .before .before .before .before .before .before .before .before .before .before .before .before .before .before .before .before .before .before .before .before .before .before .args .originals .now)) (c .before .before .before .before .before .before .before .before .before .before .before .before .before .before .before .before .before .before .before .before .before .before .before .args .scratch .now) (climbing-begins (c .before .before .before .before .before .before .before .before .before .before .before .before .before .before .before .before .before .before .before .before .before .before .before .pre .1) (c .before .before .before .before .before .before .before .before .before .before .before .before .before .before .descend .ensures) (c .before .before .before .before .before .before .before .before .image-start .ensures) (c .before .before .before .before .before .before .before .before .before .before .before .before .before .before .descend .kept .1 .1 .1 .1 .0) (c .before .before .before .before .before .before .before .before .image-start .kept .1 .1 .1 .1 .1 .1 .0) (c .before .before .before .before .before .before .before .before .image-start .kept .1 .1 .1 .1 .0) (c .before .before .before .before .before .before .before .before .image-start .kept .1 .1 .1 .1 .1 .0)) in climbing-ends g (c .loop-test .left)
-
--- src/cycle.rt:61:9
+-- src/cycle.rt:77:9
 image-start-read-row-requires : (t : ℕ) → image-start-lts.Need-read-row-requires (read-row-reads.Asked, read-row-reads.Learnt, standing-reads.Asked, standing-reads.Learnt, keeps-side-reads.Asked, keeps-side-reads.Learnt, image-below t, image.Post, negated-image-below t, negated-image.Post) (image-start-at t) image-start.Post
 image-start-read-row-requires t c κs = omega (arith, c .before .before .before .before .pre .1 .source .words, c .before .before .before .before .pre .1 .formula)
 
--- src/cycle.rt:63:9
+-- src/cycle.rt:79:9
 image-start-standing-requires : (t : ℕ) → image-start-lts.Need-standing-requires (read-row-reads.Asked, read-row-reads.Learnt, standing-reads.Asked, standing-reads.Learnt, keeps-side-reads.Asked, keeps-side-reads.Learnt, image-below t, image.Post, negated-image-below t, negated-image.Post) (image-start-at t) image-start.Post
 image-start-standing-requires t c κs = search needs
 
--- src/cycle.rt:63:9
+-- src/cycle.rt:79:9
 image-start-returns : (t : ℕ) → image-start-lts.Need-returns (read-row-reads.Asked, read-row-reads.Learnt, standing-reads.Asked, standing-reads.Learnt, keeps-side-reads.Asked, keeps-side-reads.Learnt, image-below t, image.Post, negated-image-below t, negated-image.Post) (image-start-at t) image-start.Post
 image-start-returns t c = rw (c .standing .ensures) (start-none (c .before .before .before .before .before .before .before .before .args .frame) (c .before .before .before .before .before .before .before .before .args .formulas .now) (c .before .before .before .before .before .before .before .before .args .scratch .now) (c .before .before .before .before .before .before .before .before .args .j) (asks-row (c .before .before .before .before .before .before .before .before .pre .1)) (c .before .before .before .read-row .result) (c .before .before .before .read-row .ensures) plain (c .before .if1 .taken) (c .before .before .before .before .before .before .before .before .pre .1))
 
--- src/cycle.rt:65:8
+-- src/cycle.rt:81:8
 image-start-keeps-side-requires : (t : ℕ) → image-start-lts.Need-keeps-side-requires (read-row-reads.Asked, read-row-reads.Learnt, standing-reads.Asked, standing-reads.Learnt, keeps-side-reads.Asked, keeps-side-reads.Learnt, image-below t, image.Post, negated-image-below t, negated-image.Post) (image-start-at t) image-start.Post
 image-start-keeps-side-requires t c κs = search needs
 
--- src/cycle.rt:66:32
+-- src/cycle.rt:82:32
 image-start-cast-image : (t : ℕ) → image-start-lts.Need-cast-image (read-row-reads.Asked, read-row-reads.Learnt, standing-reads.Asked, standing-reads.Learnt, keeps-side-reads.Asked, keeps-side-reads.Learnt, image-below t, image.Post, negated-image-below t, negated-image.Post) (image-start-at t) image-start.Post
 image-start-cast-image t c = search needs
 
--- src/cycle.rt:66:9
+-- src/cycle.rt:82:9
 image-start-image-requires : (t : ℕ) → image-start-lts.Need-image-requires (read-row-reads.Asked, read-row-reads.Learnt, standing-reads.Asked, standing-reads.Learnt, keeps-side-reads.Asked, keeps-side-reads.Learnt, image-below t, image.Post, negated-image-below t, negated-image.Post) (image-start-at t) image-start.Post
 image-start-image-requires t c κs = (omega (arith, c .before .before .before .before .before .before .before .before .before .before .before .before .before .pre .0, left-lower (c .before .before .before .before .before .before .before .before .before .before .before .before .before .args .frame) (c .before .before .before .before .before .before .before .before .before .before .before .before .before .args .formulas .now) (c .before .before .before .before .before .before .before .before .before .before .before .before .before .args .scratch .now) (c .before .before .before .before .before .before .before .before .before .before .before .before .before .args .j) (asks-row (c .before .before .before .before .before .before .before .before .before .before .before .before .before .pre .1)) (c .before .before .before .before .before .before .before .before .read-row .result) (c .before .before .before .before .before .before .before .before .read-row .ensures) (c .before .before .before .before .before .before .if1 .left)), asks-lower (c .before .before .before .before .before .before .before .before .before .before .before .before .before .pre .1) (left-lower (c .before .before .before .before .before .before .before .before .before .before .before .before .before .args .frame) (c .before .before .before .before .before .before .before .before .before .before .before .before .before .args .formulas .now) (c .before .before .before .before .before .before .before .before .before .before .before .before .before .args .scratch .now) (c .before .before .before .before .before .before .before .before .before .before .before .before .before .args .j) (asks-row (c .before .before .before .before .before .before .before .before .before .before .before .before .before .pre .1)) (c .before .before .before .before .before .before .before .before .read-row .result) (c .before .before .before .before .before .before .before .before .read-row .ensures) (c .before .before .before .before .before .before .if1 .left)))
 
--- src/cycle.rt:66:9
+-- src/cycle.rt:82:9
 image-start-same-length : (t : ℕ) → image-start-lts.Need-same-length (read-row-reads.Asked, read-row-reads.Learnt, standing-reads.Asked, standing-reads.Learnt, keeps-side-reads.Asked, keeps-side-reads.Learnt, image-below t, image.Post, negated-image-below t, negated-image.Post) (image-start-at t) image-start.Post
 image-start-same-length t c = c .before .before .before .before .before .before .image .kept .1 .1 .1 .1 .0
 
--- src/cycle.rt:66:9
+-- src/cycle.rt:82:9
 image-start-same-length-2 : (t : ℕ) → image-start-lts.Need-same-length-2 (read-row-reads.Asked, read-row-reads.Learnt, standing-reads.Asked, standing-reads.Learnt, keeps-side-reads.Asked, keeps-side-reads.Learnt, image-below t, image.Post, negated-image-below t, negated-image.Post) (image-start-at t) image-start.Post
 image-start-same-length-2 t c = c .before .before .before .before .before .before .image .kept .1 .1 .1 .1 .1 .0
 
--- src/cycle.rt:66:9
+-- src/cycle.rt:82:9
 image-start-same-length-3 : (t : ℕ) → image-start-lts.Need-same-length-3 (read-row-reads.Asked, read-row-reads.Learnt, standing-reads.Asked, standing-reads.Learnt, keeps-side-reads.Asked, keeps-side-reads.Learnt, image-below t, image.Post, negated-image-below t, negated-image.Post) (image-start-at t) image-start.Post
 image-start-same-length-3 t c = c .before .before .before .before .before .before .image .kept .1 .1 .1 .1 .1 .1 .0
 
--- src/cycle.rt:66:9
+-- src/cycle.rt:82:9
 image-start-returns-2 : (t : ℕ) → image-start-lts.Need-returns-2 (read-row-reads.Asked, read-row-reads.Learnt, standing-reads.Asked, standing-reads.Learnt, keeps-side-reads.Asked, keeps-side-reads.Learnt, image-below t, image.Post, negated-image-below t, negated-image.Post) (image-start-at t) image-start.Post
 image-start-returns-2 t c = start-own (c .before .before .before .before .before .before .before .before .before .before .before .before .before .before .before .before .before .before .before .before .args .frame) (c .before .before .before .before .before .before .before .before .before .before .before .before .before .before .before .before .before .before .before .before .args .formulas .now) (c .before .before .before .before .before .before .before .before .before .before .before .before .before .before .before .before .before .before .before .before .args .scratch .now) (c .before .before .before .before .before .before .before .before .before .before .before .before .before .before .before .before .before .before .before .before .args .j) (asks-row (c .before .before .before .before .before .before .before .before .before .before .before .before .before .before .before .before .before .before .before .before .pre .1)) (c .before .before .before .before .before .before .before .before .before .before .before .before .before .before .before .read-row .result) (c .before .before .before .before .before .before .before .before .before .before .before .before .before .before .before .read-row .ensures) plain (c .before .before .before .before .before .before .before .before .before .before .before .before .before .if1 .left) (sym (c .before .before .before .before .before .before .before .before .before .before .before .before .keeps-side .ensures) ∙ c .before .before .before .before .before .before .before .before .before .before .before .if2 .taken) (c .before .before .before .before .before .before .image .ensures)
 
--- src/cycle.rt:68:29
+-- src/cycle.rt:84:29
 image-start-cast-negated-image : (t : ℕ) → image-start-lts.Need-cast-negated-image (read-row-reads.Asked, read-row-reads.Learnt, standing-reads.Asked, standing-reads.Learnt, keeps-side-reads.Asked, keeps-side-reads.Learnt, image-below t, image.Post, negated-image-below t, negated-image.Post) (image-start-at t) image-start.Post
 image-start-cast-negated-image t c = search needs
 
--- src/cycle.rt:68:5
+-- src/cycle.rt:84:5
 image-start-negated-image-requires : (t : ℕ) → image-start-lts.Need-negated-image-requires (read-row-reads.Asked, read-row-reads.Learnt, standing-reads.Asked, standing-reads.Learnt, keeps-side-reads.Asked, keeps-side-reads.Learnt, image-below t, image.Post, negated-image-below t, negated-image.Post) (image-start-at t) image-start.Post
 image-start-negated-image-requires t c κs = (omega (arith, c .before .before .before .before .before .before .before .before .before .before .before .before .before .pre .0, left-lower (c .before .before .before .before .before .before .before .before .before .before .before .before .before .args .frame) (c .before .before .before .before .before .before .before .before .before .before .before .before .before .args .formulas .now) (c .before .before .before .before .before .before .before .before .before .before .before .before .before .args .scratch .now) (c .before .before .before .before .before .before .before .before .before .before .before .before .before .args .j) (asks-row (c .before .before .before .before .before .before .before .before .before .before .before .before .before .pre .1)) (c .before .before .before .before .before .before .before .before .read-row .result) (c .before .before .before .before .before .before .before .before .read-row .ensures) (c .before .before .before .before .before .before .if1 .left)), asks-lower (c .before .before .before .before .before .before .before .before .before .before .before .before .before .pre .1) (left-lower (c .before .before .before .before .before .before .before .before .before .before .before .before .before .args .frame) (c .before .before .before .before .before .before .before .before .before .before .before .before .before .args .formulas .now) (c .before .before .before .before .before .before .before .before .before .before .before .before .before .args .scratch .now) (c .before .before .before .before .before .before .before .before .before .before .before .before .before .args .j) (asks-row (c .before .before .before .before .before .before .before .before .before .before .before .before .before .pre .1)) (c .before .before .before .before .before .before .before .before .read-row .result) (c .before .before .before .before .before .before .before .before .read-row .ensures) (c .before .before .before .before .before .before .if1 .left)))
 
--- src/cycle.rt:49:1
+-- src/cycle.rt:65:1
 image-start-same-length-4 : (t : ℕ) → image-start-lts.Need-same-length-4 (read-row-reads.Asked, read-row-reads.Learnt, standing-reads.Asked, standing-reads.Learnt, keeps-side-reads.Asked, keeps-side-reads.Learnt, image-below t, image.Post, negated-image-below t, negated-image.Post) (image-start-at t) image-start.Post
 image-start-same-length-4 t c = c .before .before .before .before .before .before .negated-image .kept .1 .1 .1 .1 .0
 
--- src/cycle.rt:49:1
+-- src/cycle.rt:65:1
 image-start-same-length-5 : (t : ℕ) → image-start-lts.Need-same-length-5 (read-row-reads.Asked, read-row-reads.Learnt, standing-reads.Asked, standing-reads.Learnt, keeps-side-reads.Asked, keeps-side-reads.Learnt, image-below t, image.Post, negated-image-below t, negated-image.Post) (image-start-at t) image-start.Post
 image-start-same-length-5 t c = c .before .before .before .before .before .before .negated-image .kept .1 .1 .1 .1 .1 .0
 
--- src/cycle.rt:49:1
+-- src/cycle.rt:65:1
 image-start-same-length-6 : (t : ℕ) → image-start-lts.Need-same-length-6 (read-row-reads.Asked, read-row-reads.Learnt, standing-reads.Asked, standing-reads.Learnt, keeps-side-reads.Asked, keeps-side-reads.Learnt, image-below t, image.Post, negated-image-below t, negated-image.Post) (image-start-at t) image-start.Post
 image-start-same-length-6 t c = c .before .before .before .before .before .before .negated-image .kept .1 .1 .1 .1 .1 .1 .0
 
--- src/cycle.rt:49:1
+-- src/cycle.rt:65:1
 image-start-returns-3 : (t : ℕ) → image-start-lts.Need-returns-3 (read-row-reads.Asked, read-row-reads.Learnt, standing-reads.Asked, standing-reads.Learnt, keeps-side-reads.Asked, keeps-side-reads.Learnt, image-below t, image.Post, negated-image-below t, negated-image.Post) (image-start-at t) image-start.Post
 image-start-returns-3 t c = start-other (c .before .before .before .before .before .before .before .before .before .before .before .before .before .before .before .before .before .before .before .before .args .frame) (c .before .before .before .before .before .before .before .before .before .before .before .before .before .before .before .before .before .before .before .before .args .formulas .now) (c .before .before .before .before .before .before .before .before .before .before .before .before .before .before .before .before .before .before .before .before .args .scratch .now) (c .before .before .before .before .before .before .before .before .before .before .before .before .before .before .before .before .before .before .before .before .args .j) (asks-row (c .before .before .before .before .before .before .before .before .before .before .before .before .before .before .before .before .before .before .before .before .pre .1)) (c .before .before .before .before .before .before .before .before .before .before .before .before .before .before .before .read-row .result) (c .before .before .before .before .before .before .before .before .before .before .before .before .before .before .before .read-row .ensures) plain (c .before .before .before .before .before .before .before .before .before .before .before .before .before .if1 .left) (sym (c .before .before .before .before .before .before .before .before .before .before .before .before .keeps-side .ensures) ∙ c .before .before .before .before .before .before .before .before .before .before .before .if2 .left) (c .before .before .before .before .before .before .negated-image .ensures)
 
--- src/cycle.rt:85:9
+-- src/cycle.rt:101:9
 image-up-returns : (t : ℕ) → image-up-lts.Need-returns (read-row-reads.Asked, read-row-reads.Learnt, leaf-reads.Asked, leaf-reads.Learnt, image-below t, image.Post, equivalent-below t, equivalent.Post, join-reads.Asked, join-reads.Learnt) (image-up-at t) image-up.Post
 image-up-returns t c = record { images = λ at entry memo x. up-full plain (c .before .before .before .before .before .pre .1 .row) x (c .if1 .taken); above = kept-refl (c .before .before .before .before .before .args .j) (c .before .before .before .before .before .args .frame) (c .before .before .before .before .before .args .scratch .now) }
 
--- src/cycle.rt:87:9
+-- src/cycle.rt:103:9
 image-up-read-row-requires : (t : ℕ) → image-up-lts.Need-read-row-requires (read-row-reads.Asked, read-row-reads.Learnt, leaf-reads.Asked, leaf-reads.Learnt, image-below t, image.Post, equivalent-below t, equivalent.Post, join-reads.Asked, join-reads.Learnt) (image-up-at t) image-up.Post
 image-up-read-row-requires t c κs = omega (arith, c .before .before .before .before .before .pre .1 .row .source .words, c .before .before .before .before .before .pre .1 .row .formula)
 
--- src/cycle.rt:93:9
+-- src/cycle.rt:109:9
 image-up-leaf-requires : (t : ℕ) → image-up-lts.Need-leaf-requires (read-row-reads.Asked, read-row-reads.Learnt, leaf-reads.Asked, leaf-reads.Learnt, image-below t, image.Post, equivalent-below t, equivalent.Post, join-reads.Asked, join-reads.Learnt) (image-up-at t) image-up.Post
 image-up-leaf-requires t c κs = leaf-ready (c .before .before .before .before .before .before .before .before .before .before .args .frame) (c .before .before .before .before .before .before .before .before .before .before .args .formulas .now) (c .before .before .before .before .before .before .before .before .before .before .args .scratch .now) (c .before .before .before .before .before .before .before .before .before .before .args .j) (c .before .before .before .before .before .before .before .before .before .before .pre .1 .row) (c .before .before .before .before .read-row .result) (c .before .before .before .before .read-row .ensures) (c .before .before .if2 .taken) (c .before .before .before .before .before .before .before .before .before .before .pre .1 .ready (c .before .before .before .before .before .if1 .left))
 
--- src/cycle.rt:93:9
+-- src/cycle.rt:109:9
 image-up-same-length : (t : ℕ) → image-up-lts.Need-same-length (read-row-reads.Asked, read-row-reads.Learnt, leaf-reads.Asked, leaf-reads.Learnt, image-below t, image.Post, equivalent-below t, equivalent.Post, join-reads.Asked, join-reads.Learnt) (image-up-at t) image-up.Post
 image-up-same-length t c = c .before .before .before .before .leaf .kept .1 .1 .1 .1 .0
 
--- src/cycle.rt:93:9
+-- src/cycle.rt:109:9
 image-up-same-length-2 : (t : ℕ) → image-up-lts.Need-same-length-2 (read-row-reads.Asked, read-row-reads.Learnt, leaf-reads.Asked, leaf-reads.Learnt, image-below t, image.Post, equivalent-below t, equivalent.Post, join-reads.Asked, join-reads.Learnt) (image-up-at t) image-up.Post
 image-up-same-length-2 t c = c .before .before .before .before .leaf .kept .1 .1 .1 .1 .1 .0
 
--- src/cycle.rt:93:9
+-- src/cycle.rt:109:9
 image-up-returns-2 : (t : ℕ) → image-up-lts.Need-returns-2 (read-row-reads.Asked, read-row-reads.Learnt, leaf-reads.Asked, leaf-reads.Learnt, image-below t, image.Post, equivalent-below t, equivalent.Post, join-reads.Asked, join-reads.Learnt) (image-up-at t) image-up.Post
 image-up-returns-2 t c = record { images = λ at entry memo x. up-leaf plain (c .before .before .before .before .before .before .before .before .before .before .before .before .before .before .before .pre .1 .row) x (c .before .before .before .before .before .before .before .before .before .read-row .result) (c .before .before .before .before .before .before .before .before .before .read-row .ensures) (c .before .before .before .before .before .before .before .before .before .before .if1 .left) (c .before .before .before .before .before .before .before .if2 .taken) (c .before .before .before .before .leaf .ensures); above = kept-refl (c .before .before .before .before .before .before .before .before .before .before .before .before .before .before .before .args .j) (c .before .before .before .before .before .before .before .before .before .before .before .before .before .before .before .args .frame) (c .before .before .before .before .before .before .before .before .before .before .before .before .before .before .before .args .scratch .now) }
 
--- src/cycle.rt:96:9
+-- src/cycle.rt:112:9
 image-up-returns-3 : (t : ℕ) → image-up-lts.Need-returns-3 (read-row-reads.Asked, read-row-reads.Learnt, leaf-reads.Asked, leaf-reads.Learnt, image-below t, image.Post, equivalent-below t, equivalent.Post, join-reads.Asked, join-reads.Learnt) (image-up-at t) image-up.Post
 image-up-returns-3 t c = record { images = λ at entry memo x. up-not plain (c .before .before .before .before .before .before .before .before .before .before .pre .1 .row) x (c .before .before .before .before .read-row .result) (c .before .before .before .before .read-row .ensures) (c .if3 .taken); above = kept-refl (c .before .before .before .before .before .before .before .before .before .before .args .j) (c .before .before .before .before .before .before .before .before .before .before .args .frame) (c .before .before .before .before .before .before .before .before .before .before .args .scratch .now) }
 
--- src/cycle.rt:98:29
+-- src/cycle.rt:114:29
 image-up-cast-image : (t : ℕ) → image-up-lts.Need-cast-image (read-row-reads.Asked, read-row-reads.Learnt, leaf-reads.Asked, leaf-reads.Learnt, image-below t, image.Post, equivalent-below t, equivalent.Post, join-reads.Asked, join-reads.Learnt) (image-up-at t) image-up.Post
 image-up-cast-image t c = search needs
 
--- src/cycle.rt:98:9
+-- src/cycle.rt:114:9
 image-up-image-requires : (t : ℕ) → image-up-lts.Need-image-requires (read-row-reads.Asked, read-row-reads.Learnt, leaf-reads.Asked, leaf-reads.Learnt, image-below t, image.Post, equivalent-below t, equivalent.Post, join-reads.Asked, join-reads.Learnt) (image-up-at t) image-up.Post
 image-up-image-requires t c κs = (omega (arith, c .before .before .before .before .before .before .before .before .before .before .before .before .before .before .pre .0, right-lower (c .before .before .before .before .before .before .before .before .before .before .before .before .before .before .args .frame) (c .before .before .before .before .before .before .before .before .before .before .before .before .before .before .args .formulas .now) (c .before .before .before .before .before .before .before .before .before .before .before .before .before .before .args .scratch .now) (c .before .before .before .before .before .before .before .before .before .before .before .before .before .before .args .j) (c .before .before .before .before .before .before .before .before .before .before .before .before .before .before .pre .1 .row) (c .before .before .before .before .before .before .before .before .read-row .result) (c .before .before .before .before .before .before .before .before .read-row .ensures) (past-three (c .before .before .before .before .before .before .before .before .read-row .result .kind) (c .before .before .before .before .before .before .if2 .left) (c .before .before .before .before .if3 .left))), up-asks (c .before .before .before .before .before .before .before .before .before .before .before .before .before .before .pre .1) (c .before .before .before .before .before .before .before .before .before .if1 .left) (right-lower (c .before .before .before .before .before .before .before .before .before .before .before .before .before .before .args .frame) (c .before .before .before .before .before .before .before .before .before .before .before .before .before .before .args .formulas .now) (c .before .before .before .before .before .before .before .before .before .before .before .before .before .before .args .scratch .now) (c .before .before .before .before .before .before .before .before .before .before .before .before .before .before .args .j) (c .before .before .before .before .before .before .before .before .before .before .before .before .before .before .pre .1 .row) (c .before .before .before .before .before .before .before .before .read-row .result) (c .before .before .before .before .before .before .before .before .read-row .ensures) (past-three (c .before .before .before .before .before .before .before .before .read-row .result .kind) (c .before .before .before .before .before .before .if2 .left) (c .before .before .before .before .if3 .left))))
 
--- src/cycle.rt:100:9
+-- src/cycle.rt:116:9
 image-up-same-length-3 : (t : ℕ) → image-up-lts.Need-same-length-3 (read-row-reads.Asked, read-row-reads.Learnt, leaf-reads.Asked, leaf-reads.Learnt, image-below t, image.Post, equivalent-below t, equivalent.Post, join-reads.Asked, join-reads.Learnt) (image-up-at t) image-up.Post
 image-up-same-length-3 t c = c .before .before .before .before .before .before .before .image .kept .1 .1 .1 .1 .0
 
--- src/cycle.rt:100:9
+-- src/cycle.rt:116:9
 image-up-same-length-4 : (t : ℕ) → image-up-lts.Need-same-length-4 (read-row-reads.Asked, read-row-reads.Learnt, leaf-reads.Asked, leaf-reads.Learnt, image-below t, image.Post, equivalent-below t, equivalent.Post, join-reads.Asked, join-reads.Learnt) (image-up-at t) image-up.Post
 image-up-same-length-4 t c = c .before .before .before .before .before .before .before .image .kept .1 .1 .1 .1 .1 .0
 
--- src/cycle.rt:100:9
+-- src/cycle.rt:116:9
 image-up-same-length-5 : (t : ℕ) → image-up-lts.Need-same-length-5 (read-row-reads.Asked, read-row-reads.Learnt, leaf-reads.Asked, leaf-reads.Learnt, image-below t, image.Post, equivalent-below t, equivalent.Post, join-reads.Asked, join-reads.Learnt) (image-up-at t) image-up.Post
 image-up-same-length-5 t c = c .before .before .before .before .before .before .before .image .kept .1 .1 .1 .1 .1 .1 .0
 
--- src/cycle.rt:100:9
+-- src/cycle.rt:116:9
 image-up-returns-4 : (t : ℕ) → image-up-lts.Need-returns-4 (read-row-reads.Asked, read-row-reads.Learnt, leaf-reads.Asked, leaf-reads.Learnt, image-below t, image.Post, equivalent-below t, equivalent.Post, join-reads.Asked, join-reads.Learnt) (image-up-at t) image-up.Post
 image-up-returns-4 t c = record { images = λ at entry memo x. up-right-full plain (c .before .before .before .before .before .before .before .before .before .before .before .before .before .before .before .before .before .before .before .before .before .before .pre .1 .row) x (c .before .before .before .before .before .before .before .before .before .before .before .before .before .before .before .before .read-row .result) (c .before .before .before .before .before .before .before .before .before .before .before .before .before .before .before .before .read-row .ensures) (c .before .before .before .before .before .before .before .before .before .before .before .before .before .before .before .before .before .if1 .left) (past-three (c .before .before .before .before .before .before .before .before .before .before .before .before .before .before .before .before .read-row .result .kind) (c .before .before .before .before .before .before .before .before .before .before .before .before .before .before .if2 .left) (c .before .before .before .before .before .before .before .before .before .before .before .before .if3 .left)) (c .before .before .before .before .before .before .before .image .ensures .images) (c .if4 .taken); above = kept-from (omega (arith, right-lower (c .before .before .before .before .before .before .before .before .before .before .before .before .before .before .before .before .before .before .before .before .before .before .args .frame) (c .before .before .before .before .before .before .before .before .before .before .before .before .before .before .before .before .before .before .before .before .before .before .args .formulas .now) (c .before .before .before .before .before .before .before .before .before .before .before .before .before .before .before .before .before .before .before .before .before .before .args .scratch .now) (c .before .before .before .before .before .before .before .before .before .before .before .before .before .before .before .before .before .before .before .before .before .before .args .j) (c .before .before .before .before .before .before .before .before .before .before .before .before .before .before .before .before .before .before .before .before .before .before .pre .1 .row) (c .before .before .before .before .before .before .before .before .before .before .before .before .before .before .before .before .read-row .result) (c .before .before .before .before .before .before .before .before .before .before .before .before .before .before .before .before .read-row .ensures) (past-three (c .before .before .before .before .before .before .before .before .before .before .before .before .before .before .before .before .read-row .result .kind) (c .before .before .before .before .before .before .before .before .before .before .before .before .before .before .if2 .left) (c .before .before .before .before .before .before .before .before .before .before .before .before .if3 .left)))) (c .before .before .before .before .before .before .before .image .ensures .above) }
 
--- src/cycle.rt:107:9
+-- src/cycle.rt:123:9
 image-up-equivalent-requires : (t : ℕ) → image-up-lts.Need-equivalent-requires (read-row-reads.Asked, read-row-reads.Learnt, leaf-reads.Asked, leaf-reads.Learnt, image-below t, image.Post, equivalent-below t, equivalent.Post, join-reads.Asked, join-reads.Learnt) (image-up-at t) image-up.Post
 image-up-equivalent-requires t c κs = (omega (arith, c .before .before .before .before .before .before .before .before .before .before .before .before .before .before .before .before .before .before .before .before .before .before .before .before .before .before .before .pre .0), asks-second (c .before .before .before .before .before .before .before .before .before .before .before .before .before .before .before .before .before .before .before .before .before .before .before .before .before .before .before .args .frame) (c .before .before .before .before .before .before .before .before .before .before .before .before .before .before .before .before .before .before .before .before .before .before .before .before .before .before .before .args .formulas .now) (c .before .before .before .before .before .before .before .before .before .before .before .before .before .before .before .before .before .before .before .before .before .before .before .before .before .before .before .args .scratch .now) (c .before .before .before .before .before .before .before .before .before .before .before .before .before .before .before .before .before .before .before .before .before .before .before .before .before .before .before .args .j) (c .before .before .before .before .before .before .before .before .before .before .before .before .before .before .before .before .before .before .before .before .before .before .before .before .before .before .before .pre .1 .row) (c .before .before .before .before .before .before .before .before .before .before .before .before .before .before .before .before .before .before .before .before .before .read-row .result) (c .before .before .before .before .before .before .before .before .before .before .before .before .before .before .before .before .before .before .before .before .before .read-row .ensures) (c .before .before .before .before .before .before .before .before .before .before .before .before .before .before .before .before .before .before .before .before .before .before .before .before .before .before .before .pre .1) (c .before .before .before .before .before .before .before .before .before .before .before .before .before .before .before .before .before .before .before .before .before .before .if1 .left) (past-three (c .before .before .before .before .before .before .before .before .before .before .before .before .before .before .before .before .before .before .before .before .before .read-row .result .kind) (c .before .before .before .before .before .before .before .before .before .before .before .before .before .before .before .before .before .before .before .if2 .left) (c .before .before .before .before .before .before .before .before .before .before .before .before .before .before .before .before .before .if3 .left)) (c .before .before .before .before .before .before .before .before .before .before .before .before .image .ensures .images) (c .before .before .before .before .before .if4 .left) (c .before .before .before .before .before .before .before .before .before .before .before .before .image .kept .1 .1 .1 .1 .1 .1 .0))
 
--- src/cycle.rt:107:9
+-- src/cycle.rt:123:9
 image-up-same-length-6 : (t : ℕ) → image-up-lts.Need-same-length-6 (read-row-reads.Asked, read-row-reads.Learnt, leaf-reads.Asked, leaf-reads.Learnt, image-below t, image.Post, equivalent-below t, equivalent.Post, join-reads.Asked, join-reads.Learnt) (image-up-at t) image-up.Post
 image-up-same-length-6 t c = c .before .before .before .before .before .before .equivalent .kept .1 .1 .1 .1 .1 .1 .1 .0 ∙ c .before .before .before .before .before .before .before .before .before .before .before .before .before .before .before .before .before .before .before .image .kept .1 .1 .1 .1 .0
 
--- src/cycle.rt:107:9
+-- src/cycle.rt:123:9
 image-up-same-length-7 : (t : ℕ) → image-up-lts.Need-same-length-7 (read-row-reads.Asked, read-row-reads.Learnt, leaf-reads.Asked, leaf-reads.Learnt, image-below t, image.Post, equivalent-below t, equivalent.Post, join-reads.Asked, join-reads.Learnt) (image-up-at t) image-up.Post
 image-up-same-length-7 t c = c .before .before .before .before .before .before .equivalent .kept .1 .1 .1 .1 .1 .1 .1 .1 .0 ∙ c .before .before .before .before .before .before .before .before .before .before .before .before .before .before .before .before .before .before .before .image .kept .1 .1 .1 .1 .1 .0
 
--- src/cycle.rt:107:9
+-- src/cycle.rt:123:9
 image-up-same-length-8 : (t : ℕ) → image-up-lts.Need-same-length-8 (read-row-reads.Asked, read-row-reads.Learnt, leaf-reads.Asked, leaf-reads.Learnt, image-below t, image.Post, equivalent-below t, equivalent.Post, join-reads.Asked, join-reads.Learnt) (image-up-at t) image-up.Post
 image-up-same-length-8 t c = c .before .before .before .before .before .before .equivalent .kept .1 .1 .1 .1 .1 .1 .1 .1 .1 .0 ∙ c .before .before .before .before .before .before .before .before .before .before .before .before .before .before .before .before .before .before .before .image .kept .1 .1 .1 .1 .1 .1 .0
 
--- src/cycle.rt:107:9
+-- src/cycle.rt:123:9
 image-up-returns-5 : (t : ℕ) → image-up-lts.Need-returns-5 (read-row-reads.Asked, read-row-reads.Learnt, leaf-reads.Asked, leaf-reads.Learnt, image-below t, image.Post, equivalent-below t, equivalent.Post, join-reads.Asked, join-reads.Learnt) (image-up-at t) image-up.Post
 image-up-returns-5 t c = record { images = λ at entry memo x. up-equivalent plain (c .before .before .before .before .before .before .before .before .before .before .before .before .before .before .before .before .before .before .before .before .before .before .before .before .before .before .before .before .before .before .before .before .before .before .pre .1 .row) x (c .before .before .before .before .before .before .before .before .before .before .before .before .before .before .before .before .before .before .before .before .before .before .before .before .before .before .before .before .read-row .result) (c .before .before .before .before .before .before .before .before .before .before .before .before .before .before .before .before .before .before .before .before .before .before .before .before .before .before .before .before .read-row .ensures) (c .before .before .before .before .before .before .before .before .before .before .before .before .before .before .before .before .before .before .before .before .before .before .before .before .before .before .before .before .before .if1 .left) (past-three (c .before .before .before .before .before .before .before .before .before .before .before .before .before .before .before .before .before .before .before .before .before .before .before .before .before .before .before .before .read-row .result .kind) (c .before .before .before .before .before .before .before .before .before .before .before .before .before .before .before .before .before .before .before .before .before .before .before .before .before .before .if2 .left) (c .before .before .before .before .before .before .before .before .before .before .before .before .before .before .before .before .before .before .before .before .before .before .before .before .if3 .left)) (c .before .before .before .before .before .before .before .before .before .before .before .before .before .before .before .before .before .before .before .image .ensures .images) (c .before .before .before .before .before .before .before .before .before .before .before .before .if4 .left) (c .before .before .before .before .before .before .before .before .before .before .if5 .taken) (c .before .before .before .before .before .before .equivalent .ensures .images); above = kept-then (kept-from (omega (arith, right-lower (c .before .before .before .before .before .before .before .before .before .before .before .before .before .before .before .before .before .before .before .before .before .before .before .before .before .before .before .before .before .before .before .before .before .before .args .frame) (c .before .before .before .before .before .before .before .before .before .before .before .before .before .before .before .before .before .before .before .before .before .before .before .before .before .before .before .before .before .before .before .before .before .before .args .formulas .now) (c .before .before .before .before .before .before .before .before .before .before .before .before .before .before .before .before .before .before .before .before .before .before .before .before .before .before .before .before .before .before .before .before .before .before .args .scratch .now) (c .before .before .before .before .before .before .before .before .before .before .before .before .before .before .before .before .before .before .before .before .before .before .before .before .before .before .before .before .before .before .before .before .before .before .args .j) (c .before .before .before .before .before .before .before .before .before .before .before .before .before .before .before .before .before .before .before .before .before .before .before .before .before .before .before .before .before .before .before .before .before .before .pre .1 .row) (c .before .before .before .before .before .before .before .before .before .before .before .before .before .before .before .before .before .before .before .before .before .before .before .before .before .before .before .before .read-row .result) (c .before .before .before .before .before .before .before .before .before .before .before .before .before .before .before .before .before .before .before .before .before .before .before .before .before .before .before .before .read-row .ensures) (past-three (c .before .before .before .before .before .before .before .before .before .before .before .before .before .before .before .before .before .before .before .before .before .before .before .before .before .before .before .before .read-row .result .kind) (c .before .before .before .before .before .before .before .before .before .before .before .before .before .before .before .before .before .before .before .before .before .before .before .before .before .before .if2 .left) (c .before .before .before .before .before .before .before .before .before .before .before .before .before .before .before .before .before .before .before .before .before .before .before .before .if3 .left)))) (c .before .before .before .before .before .before .before .before .before .before .before .before .before .before .before .before .before .before .before .image .ensures .above)) (c .before .before .before .before .before .before .equivalent .ensures .above) }
 
--- src/cycle.rt:109:5
+-- src/cycle.rt:136:5
 image-up-join-requires : (t : ℕ) → image-up-lts.Need-join-requires (read-row-reads.Asked, read-row-reads.Learnt, leaf-reads.Asked, leaf-reads.Learnt, image-below t, image.Post, equivalent-below t, equivalent.Post, join-reads.Asked, join-reads.Learnt) (image-up-at t) image-up.Post
 image-up-join-requires t c κs = asks-join (asks-second (c .before .before .before .before .before .before .before .before .before .before .before .before .before .before .before .before .before .before .before .before .before .before .before .before .before .before .args .frame) (c .before .before .before .before .before .before .before .before .before .before .before .before .before .before .before .before .before .before .before .before .before .before .before .before .before .before .args .formulas .now) (c .before .before .before .before .before .before .before .before .before .before .before .before .before .before .before .before .before .before .before .before .before .before .before .before .before .before .args .scratch .now) (c .before .before .before .before .before .before .before .before .before .before .before .before .before .before .before .before .before .before .before .before .before .before .before .before .before .before .args .j) (c .before .before .before .before .before .before .before .before .before .before .before .before .before .before .before .before .before .before .before .before .before .before .before .before .before .before .pre .1 .row) (c .before .before .before .before .before .before .before .before .before .before .before .before .before .before .before .before .before .before .before .before .read-row .result) (c .before .before .before .before .before .before .before .before .before .before .before .before .before .before .before .before .before .before .before .before .read-row .ensures) (c .before .before .before .before .before .before .before .before .before .before .before .before .before .before .before .before .before .before .before .before .before .before .before .before .before .before .pre .1) (c .before .before .before .before .before .before .before .before .before .before .before .before .before .before .before .before .before .before .before .before .before .if1 .left) (past-three (c .before .before .before .before .before .before .before .before .before .before .before .before .before .before .before .before .before .before .before .before .read-row .result .kind) (c .before .before .before .before .before .before .before .before .before .before .before .before .before .before .before .before .before .before .if2 .left) (c .before .before .before .before .before .before .before .before .before .before .before .before .before .before .before .before .if3 .left)) (c .before .before .before .before .before .before .before .before .before .before .before .image .ensures .images) (c .before .before .before .before .if4 .left) (c .before .before .before .before .before .before .before .before .before .before .before .image .kept .1 .1 .1 .1 .1 .1 .0))
 
--- src/cycle.rt:72:1
+-- src/cycle.rt:88:1
 image-up-same-length-9 : (t : ℕ) → image-up-lts.Need-same-length-9 (read-row-reads.Asked, read-row-reads.Learnt, leaf-reads.Asked, leaf-reads.Learnt, image-below t, image.Post, equivalent-below t, equivalent.Post, join-reads.Asked, join-reads.Learnt) (image-up-at t) image-up.Post
 image-up-same-length-9 t c = c .before .before .join .kept .0 ∙ c .before .before .before .before .before .before .before .before .before .before .before .before .before .before .image .kept .1 .1 .1 .1 .0
 
--- src/cycle.rt:72:1
+-- src/cycle.rt:88:1
 image-up-same-length-10 : (t : ℕ) → image-up-lts.Need-same-length-10 (read-row-reads.Asked, read-row-reads.Learnt, leaf-reads.Asked, leaf-reads.Learnt, image-below t, image.Post, equivalent-below t, equivalent.Post, join-reads.Asked, join-reads.Learnt) (image-up-at t) image-up.Post
 image-up-same-length-10 t c = c .before .before .before .before .before .before .before .before .before .before .before .before .before .before .image .kept .1 .1 .1 .1 .1 .0
 
--- src/cycle.rt:72:1
+-- src/cycle.rt:88:1
 image-up-same-length-11 : (t : ℕ) → image-up-lts.Need-same-length-11 (read-row-reads.Asked, read-row-reads.Learnt, leaf-reads.Asked, leaf-reads.Learnt, image-below t, image.Post, equivalent-below t, equivalent.Post, join-reads.Asked, join-reads.Learnt) (image-up-at t) image-up.Post
 image-up-same-length-11 t c = c .before .before .before .before .before .before .before .before .before .before .before .before .before .before .image .kept .1 .1 .1 .1 .1 .1 .0
 
--- src/cycle.rt:72:1
+-- src/cycle.rt:88:1
 image-up-returns-6 : (t : ℕ) → image-up-lts.Need-returns-6 (read-row-reads.Asked, read-row-reads.Learnt, leaf-reads.Asked, leaf-reads.Learnt, image-below t, image.Post, equivalent-below t, equivalent.Post, join-reads.Asked, join-reads.Learnt) (image-up-at t) image-up.Post
 image-up-returns-6 t c = record { images = λ at entry memo x. up-join plain (c .before .before .before .before .before .before .before .before .before .before .before .before .before .before .before .before .before .before .before .before .before .before .before .before .before .before .before .before .before .pre .1 .row) x (c .before .before .before .before .before .before .before .before .before .before .before .before .before .before .before .before .before .before .before .before .before .before .before .read-row .result) (c .before .before .before .before .before .before .before .before .before .before .before .before .before .before .before .before .before .before .before .before .before .before .before .read-row .ensures) (c .before .before .before .before .before .before .before .before .before .before .before .before .before .before .before .before .before .before .before .before .before .before .before .before .if1 .left) (past-three (c .before .before .before .before .before .before .before .before .before .before .before .before .before .before .before .before .before .before .before .before .before .before .before .read-row .result .kind) (c .before .before .before .before .before .before .before .before .before .before .before .before .before .before .before .before .before .before .before .before .before .if2 .left) (c .before .before .before .before .before .before .before .before .before .before .before .before .before .before .before .before .before .before .before .if3 .left)) (c .before .before .before .before .before .before .before .before .before .before .before .before .before .before .image .ensures .images) (c .before .before .before .before .before .before .before .if4 .left) (c .before .before .before .before .before .if5 .left) (c .before .before .join .ensures _ (c .before .before .before .before .before .before .before .before .before .before .before .before .before .before .image .ensures .images .builds .done (c .before .before .before .before .before .before .before .if4 .left) .ready)); above = kept-from (omega (arith, right-lower (c .before .before .before .before .before .before .before .before .before .before .before .before .before .before .before .before .before .before .before .before .before .before .before .before .before .before .before .before .before .args .frame) (c .before .before .before .before .before .before .before .before .before .before .before .before .before .before .before .before .before .before .before .before .before .before .before .before .before .before .before .before .before .args .formulas .now) (c .before .before .before .before .before .before .before .before .before .before .before .before .before .before .before .before .before .before .before .before .before .before .before .before .before .before .before .before .before .args .scratch .now) (c .before .before .before .before .before .before .before .before .before .before .before .before .before .before .before .before .before .before .before .before .before .before .before .before .before .before .before .before .before .args .j) (c .before .before .before .before .before .before .before .before .before .before .before .before .before .before .before .before .before .before .before .before .before .before .before .before .before .before .before .before .before .pre .1 .row) (c .before .before .before .before .before .before .before .before .before .before .before .before .before .before .before .before .before .before .before .before .before .before .before .read-row .result) (c .before .before .before .before .before .before .before .before .before .before .before .before .before .before .before .before .before .before .before .before .before .before .before .read-row .ensures) (past-three (c .before .before .before .before .before .before .before .before .before .before .before .before .before .before .before .before .before .before .before .before .before .before .before .read-row .result .kind) (c .before .before .before .before .before .before .before .before .before .before .before .before .before .before .before .before .before .before .before .before .before .if2 .left) (c .before .before .before .before .before .before .before .before .before .before .before .before .before .before .before .before .before .before .before .if3 .left)))) (c .before .before .before .before .before .before .before .before .before .before .before .before .before .before .image .ensures .above) }
 
-abbrev negated-image-Inv-loop : negated-image-lts.InvT-loop
-negated-image-Inv-loop formulas i frame table₀ originals₀ scratch₀ known j₀ s₀ table originals scratch j s =
+-- src/cycle.rt:152:25
+negated-image-add-known : (t : ℕ) → negated-image-lts.Need-add-known (is-row-reads.Asked, is-row-reads.Learnt, standing-reads.Asked, standing-reads.Learnt, negated-image-anew-below t, negated-image-anew.Post) (negated-image-at t) negated-image.Post
+negated-image-add-known t c = omega (arith, c .before .before .before .before .before .pre .1 .source .limit, c .before .before .before .before .before .pre .1 .formula)
+
+-- src/cycle.rt:152:17
+negated-image-mul-known : (t : ℕ) → negated-image-lts.Need-mul-known (is-row-reads.Asked, is-row-reads.Learnt, standing-reads.Asked, standing-reads.Learnt, negated-image-anew-below t, negated-image-anew.Post) (negated-image-at t) negated-image.Post
+negated-image-mul-known t c = omega (arith, c .before .before .before .before .before .good, c .before .before .before .before .before .pre .1 .source .memo, c .before .before .before .before .before .pre .1 .formula, c .before .before .before .before .before .pre .1 .source .limit)
+
+-- src/cycle.rt:152:17
+negated-image-slice-read-known : (t : ℕ) → negated-image-lts.Need-slice-read-known (is-row-reads.Asked, is-row-reads.Learnt, standing-reads.Asked, standing-reads.Learnt, negated-image-anew-below t, negated-image-anew.Post) (negated-image-at t) negated-image.Post
+negated-image-slice-read-known t c = omega (arith, c .before .before .before .before .before .before .pre .1 .source .memo, c .before .before .before .before .before .before .pre .1 .formula)
+
+-- src/cycle.rt:153:8
+negated-image-is-row-requires : (t : ℕ) → negated-image-lts.Need-is-row-requires (is-row-reads.Asked, is-row-reads.Learnt, standing-reads.Asked, standing-reads.Learnt, negated-image-anew-below t, negated-image-anew.Post) (negated-image-at t) negated-image.Post
+negated-image-is-row-requires t c κs = search needs
+
+-- src/cycle.rt:154:29
+negated-image-sub-standing : (t : ℕ) → negated-image-lts.Need-sub-standing (is-row-reads.Asked, is-row-reads.Learnt, standing-reads.Asked, standing-reads.Learnt, negated-image-anew-below t, negated-image-anew.Post) (negated-image-at t) negated-image.Post
+negated-image-sub-standing t c = omega (arith, row-word (getD (c .before .before .before .before .before .before .before .before .args .scratch .now) (c .before .before .before .before .before .before .before .before .args .frame .formulas + c .before .before .before .before .before .before .before .before .args .i) 0) (sym (c .before .is-row .ensures) ∙ c .if1 .taken) .0)
+
+-- src/cycle.rt:154:9
+negated-image-standing-requires : (t : ℕ) → negated-image-lts.Need-standing-requires (is-row-reads.Asked, is-row-reads.Learnt, standing-reads.Asked, standing-reads.Learnt, negated-image-anew-below t, negated-image-anew.Post) (negated-image-at t) negated-image.Post
+negated-image-standing-requires t c κs = search needs
+
+-- src/cycle.rt:154:9
+negated-image-returns : (t : ℕ) → negated-image-lts.Need-returns (is-row-reads.Asked, is-row-reads.Learnt, standing-reads.Asked, standing-reads.Learnt, negated-image-anew-below t, negated-image-anew.Post) (negated-image-at t) negated-image.Post
+negated-image-returns t c = rw (c .standing .ensures) (reaches-known (c .before .before .before .before .before .before .before .before .before .args .frame) (c .before .before .before .before .before .before .before .before .before .args .formulas .now) (c .before .before .before .before .before .before .before .before .before .args .at) (store (c .before .before .before .before .before .before .before .before .before .args .table .now) (c .before .before .before .before .before .before .before .before .before .args .originals .now)) (c .before .before .before .before .before .before .before .before .before .args .scratch .now) negated (c .before .before .before .before .before .before .before .before .before .args .i) (getD (c .before .before .before .before .before .before .before .before .before .args .scratch .now) (c .before .before .before .before .before .before .before .before .before .args .frame .formulas + c .before .before .before .before .before .before .before .before .before .args .i) 0) (c .before .before .before .before .before .before .before .before .before .pre .1) refl (sym (c .before .before .is-row .ensures) ∙ c .before .if1 .taken))
+
+-- src/cycle.rt:156:5
+negated-image-negated-image-anew-requires : (t : ℕ) → negated-image-lts.Need-negated-image-anew-requires (is-row-reads.Asked, is-row-reads.Learnt, standing-reads.Asked, standing-reads.Learnt, negated-image-anew-below t, negated-image-anew.Post) (negated-image-at t) negated-image.Post
+negated-image-negated-image-anew-requires t c κs = (omega (arith, c .before .before .before .before .before .before .before .before .before .before .before .pre .0), c .before .before .before .before .before .before .before .before .before .before .before .pre .1)
+
+-- src/cycle.rt:140:1
+negated-image-same-length : (t : ℕ) → negated-image-lts.Need-same-length (is-row-reads.Asked, is-row-reads.Learnt, standing-reads.Asked, standing-reads.Learnt, negated-image-anew-below t, negated-image-anew.Post) (negated-image-at t) negated-image.Post
+negated-image-same-length t c = c .before .before .before .before .before .before .negated-image-anew .kept .1 .1 .1 .1 .0
+
+-- src/cycle.rt:140:1
+negated-image-same-length-2 : (t : ℕ) → negated-image-lts.Need-same-length-2 (is-row-reads.Asked, is-row-reads.Learnt, standing-reads.Asked, standing-reads.Learnt, negated-image-anew-below t, negated-image-anew.Post) (negated-image-at t) negated-image.Post
+negated-image-same-length-2 t c = c .before .before .before .before .before .before .negated-image-anew .kept .1 .1 .1 .1 .1 .0
+
+-- src/cycle.rt:140:1
+negated-image-same-length-3 : (t : ℕ) → negated-image-lts.Need-same-length-3 (is-row-reads.Asked, is-row-reads.Learnt, standing-reads.Asked, standing-reads.Learnt, negated-image-anew-below t, negated-image-anew.Post) (negated-image-at t) negated-image.Post
+negated-image-same-length-3 t c = c .before .before .before .before .before .before .negated-image-anew .kept .1 .1 .1 .1 .1 .1 .0
+
+-- src/cycle.rt:140:1
+negated-image-returns-2 : (t : ℕ) → negated-image-lts.Need-returns-2 (is-row-reads.Asked, is-row-reads.Learnt, standing-reads.Asked, standing-reads.Learnt, negated-image-anew-below t, negated-image-anew.Post) (negated-image-at t) negated-image.Post
+negated-image-returns-2 t c = c .before .before .before .before .before .before .negated-image-anew .ensures
+
+abbrev negated-image-anew-Inv-loop : negated-image-anew-lts.InvT-loop
+negated-image-anew-Inv-loop formulas i frame table₀ originals₀ scratch₀ j₀ s₀ table originals scratch j s =
     (at : Size) (before : Store) (entry : List ℕ)
     → Climbing frame formulas negated i at before entry j₀ s₀ (store table₀ originals₀) scratch₀
     → Climbing frame formulas negated i at before entry j s (store table originals) scratch
 
-abbrev negated-image-μ-loop : negated-image-lts.MeasureT-loop
-negated-image-μ-loop formulas i frame table₀ originals₀ scratch₀ known j₀ s₀ table originals scratch j s =
+abbrev negated-image-anew-μ-loop : negated-image-anew-lts.MeasureT-loop
+negated-image-anew-μ-loop formulas i frame table₀ originals₀ scratch₀ j₀ s₀ table originals scratch j s =
     i + 1 - j
 
--- src/cycle.rt:125:25
-negated-image-add-known : (t : ℕ) → negated-image-lts.Need-add-known (is-row-reads.Asked, is-row-reads.Learnt, standing-reads.Asked, standing-reads.Learnt, descend-reads.Asked, descend-reads.Learnt, negated-image-start-below t, negated-image-start.Post, negated-image-up-below t, negated-image-up.Post, note-reads.Asked, note-reads.Learnt, over-reads.Asked, over-reads.Learnt) (negated-image-at t) negated-image.Post negated-image-Inv-loop negated-image-μ-loop
-negated-image-add-known t c = omega (arith, c .before .before .before .before .before .pre .1 .source .limit, c .before .before .before .before .before .pre .1 .formula)
+-- src/cycle.rt:172:9
+negated-image-anew-descend-requires : (t : ℕ) → negated-image-anew-lts.Need-descend-requires (descend-reads.Asked, descend-reads.Learnt, negated-image-start-below t, negated-image-start.Post, negated-image-up-below t, negated-image-up.Post, note-reads.Asked, note-reads.Learnt, over-reads.Asked, over-reads.Learnt) (negated-image-anew-at t) negated-image-anew.Post negated-image-anew-Inv-loop negated-image-anew-μ-loop
+negated-image-anew-descend-requires t c κs = asks-row (c .before .before .before .before .before .pre .1)
 
--- src/cycle.rt:125:17
-negated-image-mul-known : (t : ℕ) → negated-image-lts.Need-mul-known (is-row-reads.Asked, is-row-reads.Learnt, standing-reads.Asked, standing-reads.Learnt, descend-reads.Asked, descend-reads.Learnt, negated-image-start-below t, negated-image-start.Post, negated-image-up-below t, negated-image-up.Post, note-reads.Asked, note-reads.Learnt, over-reads.Asked, over-reads.Learnt) (negated-image-at t) negated-image.Post negated-image-Inv-loop negated-image-μ-loop
-negated-image-mul-known t c = omega (arith, c .before .before .before .before .before .good, c .before .before .before .before .before .pre .1 .source .memo, c .before .before .before .before .before .pre .1 .formula, c .before .before .before .before .before .pre .1 .source .limit)
+-- src/cycle.rt:173:9
+negated-image-anew-negated-image-start-requires : (t : ℕ) → negated-image-anew-lts.Need-negated-image-start-requires (descend-reads.Asked, descend-reads.Learnt, negated-image-start-below t, negated-image-start.Post, negated-image-up-below t, negated-image-up.Post, note-reads.Asked, note-reads.Learnt, over-reads.Asked, over-reads.Learnt) (negated-image-anew-at t) negated-image-anew.Post negated-image-anew-Inv-loop negated-image-anew-μ-loop
+negated-image-anew-negated-image-start-requires t c κs = (omega (arith, c .before .before .before .before .before .before .before .before .before .before .before .pre .0, climb-within (c .before .before .before .before .before .descend .ensures .climb)), asks-lowest (c .before .before .before .before .before .before .before .before .before .before .before .pre .1) (c .before .before .before .before .before .descend .kept .1 .1 .1 .1 .0) (c .before .before .before .before .before .descend .ensures))
 
--- src/cycle.rt:125:17
-negated-image-slice-read-known : (t : ℕ) → negated-image-lts.Need-slice-read-known (is-row-reads.Asked, is-row-reads.Learnt, standing-reads.Asked, standing-reads.Learnt, descend-reads.Asked, descend-reads.Learnt, negated-image-start-below t, negated-image-start.Post, negated-image-up-below t, negated-image-up.Post, note-reads.Asked, note-reads.Learnt, over-reads.Asked, over-reads.Learnt) (negated-image-at t) negated-image.Post negated-image-Inv-loop negated-image-μ-loop
-negated-image-slice-read-known t c = omega (arith, c .before .before .before .before .before .before .pre .1 .source .memo, c .before .before .before .before .before .before .pre .1 .formula)
+-- src/cycle.rt:174:5
+negated-image-anew-loop-holds : (t : ℕ) → negated-image-anew-lts.Need-loop-holds (descend-reads.Asked, descend-reads.Learnt, negated-image-start-below t, negated-image-start.Post, negated-image-up-below t, negated-image-up.Post, note-reads.Asked, note-reads.Learnt, over-reads.Asked, over-reads.Learnt) (negated-image-anew-at t) negated-image-anew.Post negated-image-anew-Inv-loop negated-image-anew-μ-loop
+negated-image-anew-loop-holds t c = λ at before entry b. b
 
--- src/cycle.rt:126:8
-negated-image-is-row-requires : (t : ℕ) → negated-image-lts.Need-is-row-requires (is-row-reads.Asked, is-row-reads.Learnt, standing-reads.Asked, standing-reads.Learnt, descend-reads.Asked, descend-reads.Learnt, negated-image-start-below t, negated-image-start.Post, negated-image-up-below t, negated-image-up.Post, note-reads.Asked, note-reads.Learnt, over-reads.Asked, over-reads.Learnt) (negated-image-at t) negated-image.Post negated-image-Inv-loop negated-image-μ-loop
-negated-image-is-row-requires t c κs = search needs
+-- src/cycle.rt:175:17
+negated-image-anew-add-k : (t : ℕ) → negated-image-anew-lts.Need-add-k (descend-reads.Asked, descend-reads.Learnt, negated-image-start-below t, negated-image-start.Post, negated-image-up-below t, negated-image-up.Post, note-reads.Asked, note-reads.Learnt, over-reads.Asked, over-reads.Learnt) (negated-image-anew-at t) negated-image-anew.Post negated-image-anew-Inv-loop negated-image-anew-μ-loop
+negated-image-anew-add-k t c = omega (arith, c .before .loop-test .taken, c .before .before .before .before .before .before .before .before .before .before .before .before .before .before .before .before .before .before .before .before .before .pre .1 .source .limit, c .before .before .before .before .before .before .before .before .before .before .before .before .before .before .before .before .before .before .before .before .before .pre .1 .formula)
 
--- src/cycle.rt:127:29
-negated-image-sub-standing : (t : ℕ) → negated-image-lts.Need-sub-standing (is-row-reads.Asked, is-row-reads.Learnt, standing-reads.Asked, standing-reads.Learnt, descend-reads.Asked, descend-reads.Learnt, negated-image-start-below t, negated-image-start.Post, negated-image-up-below t, negated-image-up.Post, note-reads.Asked, note-reads.Learnt, over-reads.Asked, over-reads.Learnt) (negated-image-at t) negated-image.Post negated-image-Inv-loop negated-image-μ-loop
-negated-image-sub-standing t c = omega (arith, row-word (getD (c .before .before .before .before .before .before .before .before .args .scratch .now) (c .before .before .before .before .before .before .before .before .args .frame .formulas + c .before .before .before .before .before .before .before .before .args .i) 0) (sym (c .before .is-row .ensures) ∙ c .if1 .taken) .0)
+-- src/cycle.rt:176:20
+negated-image-anew-mul-word : (t : ℕ) → negated-image-anew-lts.Need-mul-word (descend-reads.Asked, descend-reads.Learnt, negated-image-start-below t, negated-image-start.Post, negated-image-up-below t, negated-image-up.Post, note-reads.Asked, note-reads.Learnt, over-reads.Asked, over-reads.Learnt) (negated-image-anew-at t) negated-image-anew.Post negated-image-anew-Inv-loop negated-image-anew-μ-loop
+negated-image-anew-mul-word t c = omega (arith, c .before .loop-test .taken, c .before .before .before .before .before .before .before .before .before .before .before .before .before .before .before .before .before .before .before .before .before .pre .1 .formula, c .before .before .before .before .before .before .before .before .before .before .before .before .before .before .before .before .before .before .before .before .before .pre .1 .source .limit)
 
--- src/cycle.rt:127:9
-negated-image-standing-requires : (t : ℕ) → negated-image-lts.Need-standing-requires (is-row-reads.Asked, is-row-reads.Learnt, standing-reads.Asked, standing-reads.Learnt, descend-reads.Asked, descend-reads.Learnt, negated-image-start-below t, negated-image-start.Post, negated-image-up-below t, negated-image-up.Post, note-reads.Asked, note-reads.Learnt, over-reads.Asked, over-reads.Learnt) (negated-image-at t) negated-image.Post negated-image-Inv-loop negated-image-μ-loop
-negated-image-standing-requires t c κs = search needs
+-- src/cycle.rt:176:20
+negated-image-anew-slice-read-word : (t : ℕ) → negated-image-anew-lts.Need-slice-read-word (descend-reads.Asked, descend-reads.Learnt, negated-image-start-below t, negated-image-start.Post, negated-image-up-below t, negated-image-up.Post, note-reads.Asked, note-reads.Learnt, over-reads.Asked, over-reads.Learnt) (negated-image-anew-at t) negated-image-anew.Post negated-image-anew-Inv-loop negated-image-anew-μ-loop
+negated-image-anew-slice-read-word t c = let g = c .before .before .before .loop .inv (c .before .before .before .before .before .before .before .before .before .before .before .before .before .before .before .before .before .before .before .before .before .before .args .at) (store (c .before .before .before .before .before .before .before .before .before .before .before .before .before .before .before .before .before .before .before .before .before .before .args .table .now) (c .before .before .before .before .before .before .before .before .before .before .before .before .before .before .before .before .before .before .before .before .before .before .args .originals .now)) (c .before .before .before .before .before .before .before .before .before .before .before .before .before .before .before .before .before .before .before .before .before .before .args .scratch .now) (climbing-begins (c .before .before .before .before .before .before .before .before .before .before .before .before .before .before .before .before .before .before .before .before .before .before .pre .1) (c .before .before .before .before .before .before .before .before .before .before .before .before .before .before .before .before .descend .ensures) (c .before .before .before .before .before .before .before .before .before .before .negated-image-start .ensures) (c .before .before .before .before .before .before .before .before .before .before .before .before .before .before .before .before .descend .kept .1 .1 .1 .1 .0) (c .before .before .before .before .before .before .before .before .before .before .negated-image-start .kept .1 .1 .1 .1 .1 .1 .0) (c .before .before .before .before .before .before .before .before .before .before .negated-image-start .kept .1 .1 .1 .1 .0) (c .before .before .before .before .before .before .before .before .before .before .negated-image-start .kept .1 .1 .1 .1 .1 .0)) in omega (arith, c .before .before .loop-test .taken, g .row .source .memo, g .row .formula)
 
--- src/cycle.rt:127:9
-negated-image-returns : (t : ℕ) → negated-image-lts.Need-returns (is-row-reads.Asked, is-row-reads.Learnt, standing-reads.Asked, standing-reads.Learnt, descend-reads.Asked, descend-reads.Learnt, negated-image-start-below t, negated-image-start.Post, negated-image-up-below t, negated-image-up.Post, note-reads.Asked, note-reads.Learnt, over-reads.Asked, over-reads.Learnt) (negated-image-at t) negated-image.Post negated-image-Inv-loop negated-image-μ-loop
-negated-image-returns t c = rw (c .standing .ensures) (reaches-known (c .before .before .before .before .before .before .before .before .before .args .frame) (c .before .before .before .before .before .before .before .before .before .args .formulas .now) (c .before .before .before .before .before .before .before .before .before .args .at) (store (c .before .before .before .before .before .before .before .before .before .args .table .now) (c .before .before .before .before .before .before .before .before .before .args .originals .now)) (c .before .before .before .before .before .before .before .before .before .args .scratch .now) negated (c .before .before .before .before .before .before .before .before .before .args .i) (getD (c .before .before .before .before .before .before .before .before .before .args .scratch .now) (c .before .before .before .before .before .before .before .before .before .args .frame .formulas + c .before .before .before .before .before .before .before .before .before .args .i) 0) (c .before .before .before .before .before .before .before .before .before .pre .1) refl (sym (c .before .before .is-row .ensures) ∙ c .before .if1 .taken))
+-- src/cycle.rt:176:20
+negated-image-anew-cast-word : (t : ℕ) → negated-image-anew-lts.Need-cast-word (descend-reads.Asked, descend-reads.Learnt, negated-image-start-below t, negated-image-start.Post, negated-image-up-below t, negated-image-up.Post, note-reads.Asked, note-reads.Learnt, over-reads.Asked, over-reads.Learnt) (negated-image-anew-at t) negated-image-anew.Post negated-image-anew-Inv-loop negated-image-anew-μ-loop
+negated-image-anew-cast-word t c = omega (arith, c .slice-known8 .given (c .before .before .before .before .before .before .before .before .before .before .before .before .before .before .before .before .before .before .before .before .before .before .args .frame .formulas + c .before .before .before .loop .j))
 
--- src/cycle.rt:129:9
-negated-image-descend-requires : (t : ℕ) → negated-image-lts.Need-descend-requires (is-row-reads.Asked, is-row-reads.Learnt, standing-reads.Asked, standing-reads.Learnt, descend-reads.Asked, descend-reads.Learnt, negated-image-start-below t, negated-image-start.Post, negated-image-up-below t, negated-image-up.Post, note-reads.Asked, note-reads.Learnt, over-reads.Asked, over-reads.Learnt) (negated-image-at t) negated-image.Post negated-image-Inv-loop negated-image-μ-loop
-negated-image-descend-requires t c κs = asks-row (c .before .before .before .before .before .before .before .before .before .pre .1)
+-- src/cycle.rt:177:9
+negated-image-anew-negated-image-up-requires : (t : ℕ) → negated-image-anew-lts.Need-negated-image-up-requires (descend-reads.Asked, descend-reads.Learnt, negated-image-start-below t, negated-image-start.Post, negated-image-up-below t, negated-image-up.Post, note-reads.Asked, note-reads.Learnt, over-reads.Asked, over-reads.Learnt) (negated-image-anew-at t) negated-image-anew.Post negated-image-anew-Inv-loop negated-image-anew-μ-loop
+negated-image-anew-negated-image-up-requires t c κs = let g = c .before .before .before .before .before .before .loop .inv (c .before .before .before .before .before .before .before .before .before .before .before .before .before .before .before .before .before .before .before .before .before .before .before .before .before .args .at) (store (c .before .before .before .before .before .before .before .before .before .before .before .before .before .before .before .before .before .before .before .before .before .before .before .before .before .args .table .now) (c .before .before .before .before .before .before .before .before .before .before .before .before .before .before .before .before .before .before .before .before .before .before .before .before .before .args .originals .now)) (c .before .before .before .before .before .before .before .before .before .before .before .before .before .before .before .before .before .before .before .before .before .before .before .before .before .args .scratch .now) (climbing-begins (c .before .before .before .before .before .before .before .before .before .before .before .before .before .before .before .before .before .before .before .before .before .before .before .before .before .pre .1) (c .before .before .before .before .before .before .before .before .before .before .before .before .before .before .before .before .before .before .before .descend .ensures) (c .before .before .before .before .before .before .before .before .before .before .before .before .before .negated-image-start .ensures) (c .before .before .before .before .before .before .before .before .before .before .before .before .before .before .before .before .before .before .before .descend .kept .1 .1 .1 .1 .0) (c .before .before .before .before .before .before .before .before .before .before .before .before .before .negated-image-start .kept .1 .1 .1 .1 .1 .1 .0) (c .before .before .before .before .before .before .before .before .before .before .before .before .before .negated-image-start .kept .1 .1 .1 .1 .0) (c .before .before .before .before .before .before .before .before .before .before .before .before .before .negated-image-start .kept .1 .1 .1 .1 .1 .0)) in (omega (arith, c .before .before .before .before .before .before .before .before .before .before .before .before .before .before .before .before .before .before .before .before .before .before .before .before .before .pre .0, c .before .before .before .before .before .loop-test .taken), climbing-asks g (c .before .before .before .before .before .loop-test .taken))
 
--- src/cycle.rt:130:9
-negated-image-negated-image-start-requires : (t : ℕ) → negated-image-lts.Need-negated-image-start-requires (is-row-reads.Asked, is-row-reads.Learnt, standing-reads.Asked, standing-reads.Learnt, descend-reads.Asked, descend-reads.Learnt, negated-image-start-below t, negated-image-start.Post, negated-image-up-below t, negated-image-up.Post, note-reads.Asked, note-reads.Learnt, over-reads.Asked, over-reads.Learnt) (negated-image-at t) negated-image.Post negated-image-Inv-loop negated-image-μ-loop
-negated-image-negated-image-start-requires t c κs = (omega (arith, c .before .before .before .before .before .before .before .before .before .before .before .before .before .before .before .pre .0, climb-within (c .before .before .before .before .before .descend .ensures .climb)), asks-lowest (c .before .before .before .before .before .before .before .before .before .before .before .before .before .before .before .pre .1) (c .before .before .before .before .before .descend .kept .1 .1 .1 .1 .0) (c .before .before .before .before .before .descend .ensures))
+-- src/cycle.rt:178:9
+negated-image-anew-note-requires : (t : ℕ) → negated-image-anew-lts.Need-note-requires (descend-reads.Asked, descend-reads.Learnt, negated-image-start-below t, negated-image-start.Post, negated-image-up-below t, negated-image-up.Post, note-reads.Asked, note-reads.Learnt, over-reads.Asked, over-reads.Learnt) (negated-image-anew-at t) negated-image-anew.Post negated-image-anew-Inv-loop negated-image-anew-μ-loop
+negated-image-anew-note-requires t c κs = let g = c .before .before .before .before .before .before .before .before .before .before .before .before .before .before .loop .inv (c .before .before .before .before .before .before .before .before .before .before .before .before .before .before .before .before .before .before .before .before .before .before .before .before .before .before .before .before .before .before .before .before .before .args .at) (store (c .before .before .before .before .before .before .before .before .before .before .before .before .before .before .before .before .before .before .before .before .before .before .before .before .before .before .before .before .before .before .before .before .before .args .table .now) (c .before .before .before .before .before .before .before .before .before .before .before .before .before .before .before .before .before .before .before .before .before .before .before .before .before .before .before .before .before .before .before .before .before .args .originals .now)) (c .before .before .before .before .before .before .before .before .before .before .before .before .before .before .before .before .before .before .before .before .before .before .before .before .before .before .before .before .before .before .before .before .before .args .scratch .now) (climbing-begins (c .before .before .before .before .before .before .before .before .before .before .before .before .before .before .before .before .before .before .before .before .before .before .before .before .before .before .before .before .before .before .before .before .before .pre .1) (c .before .before .before .before .before .before .before .before .before .before .before .before .before .before .before .before .before .before .before .before .before .before .before .before .before .before .before .descend .ensures) (c .before .before .before .before .before .before .before .before .before .before .before .before .before .before .before .before .before .before .before .before .before .negated-image-start .ensures) (c .before .before .before .before .before .before .before .before .before .before .before .before .before .before .before .before .before .before .before .before .before .before .before .before .before .before .before .descend .kept .1 .1 .1 .1 .0) (c .before .before .before .before .before .before .before .before .before .before .before .before .before .before .before .before .before .before .before .before .before .negated-image-start .kept .1 .1 .1 .1 .1 .1 .0) (c .before .before .before .before .before .before .before .before .before .before .before .before .before .before .before .before .before .before .before .before .before .negated-image-start .kept .1 .1 .1 .1 .0) (c .before .before .before .before .before .before .before .before .before .before .before .before .before .before .before .before .before .before .before .before .before .negated-image-start .kept .1 .1 .1 .1 .1 .0)) in climbing-notes g (c .before .before .before .before .before .before .before .before .before .before .before .before .before .loop-test .taken) (c .before .before .before .before .before .before .before .negated-image-up .ensures) (c .before .before .before .before .before .before .before .negated-image-up .kept .1 .1 .1 .1 .1 .1 .0)
 
--- src/cycle.rt:131:5
-negated-image-loop-holds : (t : ℕ) → negated-image-lts.Need-loop-holds (is-row-reads.Asked, is-row-reads.Learnt, standing-reads.Asked, standing-reads.Learnt, descend-reads.Asked, descend-reads.Learnt, negated-image-start-below t, negated-image-start.Post, negated-image-up-below t, negated-image-up.Post, note-reads.Asked, note-reads.Learnt, over-reads.Asked, over-reads.Learnt) (negated-image-at t) negated-image.Post negated-image-Inv-loop negated-image-μ-loop
-negated-image-loop-holds t c = λ at before entry b. b
+-- src/cycle.rt:179:9
+negated-image-anew-over-requires : (t : ℕ) → negated-image-anew-lts.Need-over-requires (descend-reads.Asked, descend-reads.Learnt, negated-image-start-below t, negated-image-start.Post, negated-image-up-below t, negated-image-up.Post, note-reads.Asked, note-reads.Learnt, over-reads.Asked, over-reads.Learnt) (negated-image-anew-at t) negated-image-anew.Post negated-image-anew-Inv-loop negated-image-anew-μ-loop
+negated-image-anew-over-requires t c κs = let g = c .before .before .before .before .before .before .before .before .before .before .before .before .before .before .before .before .before .loop .inv (c .before .before .before .before .before .before .before .before .before .before .before .before .before .before .before .before .before .before .before .before .before .before .before .before .before .before .before .before .before .before .before .before .before .before .before .before .args .at) (store (c .before .before .before .before .before .before .before .before .before .before .before .before .before .before .before .before .before .before .before .before .before .before .before .before .before .before .before .before .before .before .before .before .before .before .before .before .args .table .now) (c .before .before .before .before .before .before .before .before .before .before .before .before .before .before .before .before .before .before .before .before .before .before .before .before .before .before .before .before .before .before .before .before .before .before .before .before .args .originals .now)) (c .before .before .before .before .before .before .before .before .before .before .before .before .before .before .before .before .before .before .before .before .before .before .before .before .before .before .before .before .before .before .before .before .before .before .before .before .args .scratch .now) (climbing-begins (c .before .before .before .before .before .before .before .before .before .before .before .before .before .before .before .before .before .before .before .before .before .before .before .before .before .before .before .before .before .before .before .before .before .before .before .before .pre .1) (c .before .before .before .before .before .before .before .before .before .before .before .before .before .before .before .before .before .before .before .before .before .before .before .before .before .before .before .before .before .before .descend .ensures) (c .before .before .before .before .before .before .before .before .before .before .before .before .before .before .before .before .before .before .before .before .before .before .before .before .negated-image-start .ensures) (c .before .before .before .before .before .before .before .before .before .before .before .before .before .before .before .before .before .before .before .before .before .before .before .before .before .before .before .before .before .before .descend .kept .1 .1 .1 .1 .0) (c .before .before .before .before .before .before .before .before .before .before .before .before .before .before .before .before .before .before .before .before .before .before .before .before .negated-image-start .kept .1 .1 .1 .1 .1 .1 .0) (c .before .before .before .before .before .before .before .before .before .before .before .before .before .before .before .before .before .before .before .before .before .before .before .before .negated-image-start .kept .1 .1 .1 .1 .0) (c .before .before .before .before .before .before .before .before .before .before .before .before .before .before .before .before .before .before .before .before .before .before .before .before .negated-image-start .kept .1 .1 .1 .1 .1 .0)) in (omega (arith, c .before .before .before .before .before .before .before .before .before .before .before .before .before .before .before .before .before .before .before .before .before .before .before .before .before .before .before .before .before .before .before .before .before .before .before .before .pre .1 .formula, c .before .before .before .before .before .before .before .before .before .before .before .before .before .before .before .before .before .before .before .before .before .before .before .before .before .before .before .before .before .before .before .before .before .before .before .before .pre .1 .source .limit), climbing-word g (c .before .before .before .before .before .before .before .before .before .before .before .before .before .before .before .before .loop-test .taken) (getD (c .before .before .before .before .before .before .before .before .before .before .before .before .before .before .before .before .before .loop .scratch) (c .before .before .before .before .before .before .before .before .before .before .before .before .before .before .before .before .before .before .before .before .before .before .before .before .before .before .before .before .before .before .before .before .before .before .before .before .args .frame .formulas + c .before .before .before .before .before .before .before .before .before .before .before .before .before .before .before .before .before .loop .j) 0) refl)
 
--- src/cycle.rt:132:17
-negated-image-add-k : (t : ℕ) → negated-image-lts.Need-add-k (is-row-reads.Asked, is-row-reads.Learnt, standing-reads.Asked, standing-reads.Learnt, descend-reads.Asked, descend-reads.Learnt, negated-image-start-below t, negated-image-start.Post, negated-image-up-below t, negated-image-up.Post, note-reads.Asked, note-reads.Learnt, over-reads.Asked, over-reads.Learnt) (negated-image-at t) negated-image.Post negated-image-Inv-loop negated-image-μ-loop
-negated-image-add-k t c = omega (arith, c .before .loop-test .taken, c .before .before .before .before .before .before .before .before .before .before .before .before .before .before .before .before .before .before .before .before .before .before .before .before .before .pre .1 .source .limit, c .before .before .before .before .before .before .before .before .before .before .before .before .before .before .before .before .before .before .before .before .before .before .before .before .before .pre .1 .formula)
+-- src/cycle.rt:174:5
+negated-image-anew-loop-less : (t : ℕ) → negated-image-anew-lts.Need-loop-less (descend-reads.Asked, descend-reads.Learnt, negated-image-start-below t, negated-image-start.Post, negated-image-up-below t, negated-image-up.Post, note-reads.Asked, note-reads.Learnt, over-reads.Asked, over-reads.Learnt) (negated-image-anew-at t) negated-image-anew.Post negated-image-anew-Inv-loop negated-image-anew-μ-loop
+negated-image-anew-loop-less t c = let g = c .before .before .before .before .before .before .before .before .before .before .before .before .before .before .before .before .before .before .loop .inv (c .before .before .before .before .before .before .before .before .before .before .before .before .before .before .before .before .before .before .before .before .before .before .before .before .before .before .before .before .before .before .before .before .before .before .before .before .before .args .at) (store (c .before .before .before .before .before .before .before .before .before .before .before .before .before .before .before .before .before .before .before .before .before .before .before .before .before .before .before .before .before .before .before .before .before .before .before .before .before .args .table .now) (c .before .before .before .before .before .before .before .before .before .before .before .before .before .before .before .before .before .before .before .before .before .before .before .before .before .before .before .before .before .before .before .before .before .before .before .before .before .args .originals .now)) (c .before .before .before .before .before .before .before .before .before .before .before .before .before .before .before .before .before .before .before .before .before .before .before .before .before .before .before .before .before .before .before .before .before .before .before .before .before .args .scratch .now) (climbing-begins (c .before .before .before .before .before .before .before .before .before .before .before .before .before .before .before .before .before .before .before .before .before .before .before .before .before .before .before .before .before .before .before .before .before .before .before .before .before .pre .1) (c .before .before .before .before .before .before .before .before .before .before .before .before .before .before .before .before .before .before .before .before .before .before .before .before .before .before .before .before .before .before .before .descend .ensures) (c .before .before .before .before .before .before .before .before .before .before .before .before .before .before .before .before .before .before .before .before .before .before .before .before .before .negated-image-start .ensures) (c .before .before .before .before .before .before .before .before .before .before .before .before .before .before .before .before .before .before .before .before .before .before .before .before .before .before .before .before .before .before .before .descend .kept .1 .1 .1 .1 .0) (c .before .before .before .before .before .before .before .before .before .before .before .before .before .before .before .before .before .before .before .before .before .before .before .before .before .negated-image-start .kept .1 .1 .1 .1 .1 .1 .0) (c .before .before .before .before .before .before .before .before .before .before .before .before .before .before .before .before .before .before .before .before .before .before .before .before .before .negated-image-start .kept .1 .1 .1 .1 .0) (c .before .before .before .before .before .before .before .before .before .before .before .before .before .before .before .before .before .before .before .before .before .before .before .before .before .negated-image-start .kept .1 .1 .1 .1 .1 .0)) in let h : c .before .before .before .before .before .before .before .before .before .before .before .before .before .before .before .before .before .before .loop .j < c .over .result = rw (c .over .ensures) (climbing-rises g (c .before .before .before .before .before .before .before .before .before .before .before .before .before .before .before .before .before .loop-test .taken) (getD (c .before .before .before .before .before .before .before .before .before .before .before .before .before .before .before .before .before .before .loop .scratch) (c .before .before .before .before .before .before .before .before .before .before .before .before .before .before .before .before .before .before .before .before .before .before .before .before .before .before .before .before .before .before .before .before .before .before .before .before .before .args .frame .formulas + c .before .before .before .before .before .before .before .before .before .before .before .before .before .before .before .before .before .before .loop .j) 0) refl) in omega (arith, h, c .before .before .before .before .before .before .before .before .before .before .before .before .before .before .before .before .before .loop-test .taken)
 
--- src/cycle.rt:133:20
-negated-image-mul-word : (t : ℕ) → negated-image-lts.Need-mul-word (is-row-reads.Asked, is-row-reads.Learnt, standing-reads.Asked, standing-reads.Learnt, descend-reads.Asked, descend-reads.Learnt, negated-image-start-below t, negated-image-start.Post, negated-image-up-below t, negated-image-up.Post, note-reads.Asked, note-reads.Learnt, over-reads.Asked, over-reads.Learnt) (negated-image-at t) negated-image.Post negated-image-Inv-loop negated-image-μ-loop
-negated-image-mul-word t c = omega (arith, c .before .loop-test .taken, c .before .before .before .before .before .before .before .before .before .before .before .before .before .before .before .before .before .before .before .before .before .before .before .before .before .pre .1 .formula, c .before .before .before .before .before .before .before .before .before .before .before .before .before .before .before .before .before .before .before .before .before .before .before .before .before .pre .1 .source .limit)
+-- src/cycle.rt:174:5
+negated-image-anew-loop-again : (t : ℕ) → negated-image-anew-lts.Need-loop-again (descend-reads.Asked, descend-reads.Learnt, negated-image-start-below t, negated-image-start.Post, negated-image-up-below t, negated-image-up.Post, note-reads.Asked, note-reads.Learnt, over-reads.Asked, over-reads.Learnt) (negated-image-anew-at t) negated-image-anew.Post negated-image-anew-Inv-loop negated-image-anew-μ-loop
+negated-image-anew-loop-again t c = λ at before entry b. rw (c .before .before .before .note .ensures, c .over .ensures) (climbing-more (c .before .before .before .before .before .before .before .before .before .before .before .before .before .before .before .before .before .before .loop .inv at before entry b) (c .before .before .before .before .before .before .before .before .before .before .before .before .before .before .before .before .before .loop-test .taken) (getD (c .before .before .before .before .before .before .before .before .before .before .before .before .before .before .before .before .before .before .loop .scratch) (c .before .before .before .before .before .before .before .before .before .before .before .before .before .before .before .before .before .before .before .before .before .before .before .before .before .before .before .before .before .before .before .before .before .before .before .before .before .args .frame .formulas + c .before .before .before .before .before .before .before .before .before .before .before .before .before .before .before .before .before .before .loop .j) 0) refl (c .before .before .before .before .before .before .before .before .before .before .before .negated-image-up .ensures) (c .before .before .before .before .before .before .before .before .before .before .before .negated-image-up .kept .1 .1 .1 .1 .1 .1 .0) (c .before .before .before .before .before .before .before .before .before .before .before .negated-image-up .kept .1 .1 .1 .1 .0) (c .before .before .before .before .before .before .before .before .before .before .before .negated-image-up .kept .1 .1 .1 .1 .1 .0))
 
--- src/cycle.rt:133:20
-negated-image-slice-read-word : (t : ℕ) → negated-image-lts.Need-slice-read-word (is-row-reads.Asked, is-row-reads.Learnt, standing-reads.Asked, standing-reads.Learnt, descend-reads.Asked, descend-reads.Learnt, negated-image-start-below t, negated-image-start.Post, negated-image-up-below t, negated-image-up.Post, note-reads.Asked, note-reads.Learnt, over-reads.Asked, over-reads.Learnt) (negated-image-at t) negated-image.Post negated-image-Inv-loop negated-image-μ-loop
-negated-image-slice-read-word t c = let g = c .before .before .before .loop .inv (c .before .before .before .before .before .before .before .before .before .before .before .before .before .before .before .before .before .before .before .before .before .before .before .before .before .before .args .at) (store (c .before .before .before .before .before .before .before .before .before .before .before .before .before .before .before .before .before .before .before .before .before .before .before .before .before .before .args .table .now) (c .before .before .before .before .before .before .before .before .before .before .before .before .before .before .before .before .before .before .before .before .before .before .before .before .before .before .args .originals .now)) (c .before .before .before .before .before .before .before .before .before .before .before .before .before .before .before .before .before .before .before .before .before .before .before .before .before .before .args .scratch .now) (climbing-begins (c .before .before .before .before .before .before .before .before .before .before .before .before .before .before .before .before .before .before .before .before .before .before .before .before .before .before .pre .1) (c .before .before .before .before .before .before .before .before .before .before .before .before .before .before .before .before .descend .ensures) (c .before .before .before .before .before .before .before .before .before .before .negated-image-start .ensures) (c .before .before .before .before .before .before .before .before .before .before .before .before .before .before .before .before .descend .kept .1 .1 .1 .1 .0) (c .before .before .before .before .before .before .before .before .before .before .negated-image-start .kept .1 .1 .1 .1 .1 .1 .0) (c .before .before .before .before .before .before .before .before .before .before .negated-image-start .kept .1 .1 .1 .1 .0) (c .before .before .before .before .before .before .before .before .before .before .negated-image-start .kept .1 .1 .1 .1 .1 .0)) in omega (arith, c .before .before .loop-test .taken, g .row .source .memo, g .row .formula)
+-- src/cycle.rt:160:1
+negated-image-anew-same-length : (t : ℕ) → negated-image-anew-lts.Need-same-length (descend-reads.Asked, descend-reads.Learnt, negated-image-start-below t, negated-image-start.Post, negated-image-up-below t, negated-image-up.Post, note-reads.Asked, note-reads.Learnt, over-reads.Asked, over-reads.Learnt) (negated-image-anew-at t) negated-image-anew.Post negated-image-anew-Inv-loop negated-image-anew-μ-loop
+negated-image-anew-same-length t c = let g = c .before .loop .inv (c .before .before .before .before .before .before .before .before .before .before .before .before .before .before .before .before .before .before .before .before .args .at) (store (c .before .before .before .before .before .before .before .before .before .before .before .before .before .before .before .before .before .before .before .before .args .table .now) (c .before .before .before .before .before .before .before .before .before .before .before .before .before .before .before .before .before .before .before .before .args .originals .now)) (c .before .before .before .before .before .before .before .before .before .before .before .before .before .before .before .before .before .before .before .before .args .scratch .now) (climbing-begins (c .before .before .before .before .before .before .before .before .before .before .before .before .before .before .before .before .before .before .before .before .pre .1) (c .before .before .before .before .before .before .before .before .before .before .before .before .before .before .descend .ensures) (c .before .before .before .before .before .before .before .before .negated-image-start .ensures) (c .before .before .before .before .before .before .before .before .before .before .before .before .before .before .descend .kept .1 .1 .1 .1 .0) (c .before .before .before .before .before .before .before .before .negated-image-start .kept .1 .1 .1 .1 .1 .1 .0) (c .before .before .before .before .before .before .before .before .negated-image-start .kept .1 .1 .1 .1 .0) (c .before .before .before .before .before .before .before .before .negated-image-start .kept .1 .1 .1 .1 .1 .0)) in g .table
 
--- src/cycle.rt:133:20
-negated-image-cast-word : (t : ℕ) → negated-image-lts.Need-cast-word (is-row-reads.Asked, is-row-reads.Learnt, standing-reads.Asked, standing-reads.Learnt, descend-reads.Asked, descend-reads.Learnt, negated-image-start-below t, negated-image-start.Post, negated-image-up-below t, negated-image-up.Post, note-reads.Asked, note-reads.Learnt, over-reads.Asked, over-reads.Learnt) (negated-image-at t) negated-image.Post negated-image-Inv-loop negated-image-μ-loop
-negated-image-cast-word t c = omega (arith, c .slice-known9 .given (c .before .before .before .before .before .before .before .before .before .before .before .before .before .before .before .before .before .before .before .before .before .before .before .before .before .before .args .frame .formulas + c .before .before .before .loop .j))
+-- src/cycle.rt:160:1
+negated-image-anew-same-length-2 : (t : ℕ) → negated-image-anew-lts.Need-same-length-2 (descend-reads.Asked, descend-reads.Learnt, negated-image-start-below t, negated-image-start.Post, negated-image-up-below t, negated-image-up.Post, note-reads.Asked, note-reads.Learnt, over-reads.Asked, over-reads.Learnt) (negated-image-anew-at t) negated-image-anew.Post negated-image-anew-Inv-loop negated-image-anew-μ-loop
+negated-image-anew-same-length-2 t c = let g = c .before .loop .inv (c .before .before .before .before .before .before .before .before .before .before .before .before .before .before .before .before .before .before .before .before .args .at) (store (c .before .before .before .before .before .before .before .before .before .before .before .before .before .before .before .before .before .before .before .before .args .table .now) (c .before .before .before .before .before .before .before .before .before .before .before .before .before .before .before .before .before .before .before .before .args .originals .now)) (c .before .before .before .before .before .before .before .before .before .before .before .before .before .before .before .before .before .before .before .before .args .scratch .now) (climbing-begins (c .before .before .before .before .before .before .before .before .before .before .before .before .before .before .before .before .before .before .before .before .pre .1) (c .before .before .before .before .before .before .before .before .before .before .before .before .before .before .descend .ensures) (c .before .before .before .before .before .before .before .before .negated-image-start .ensures) (c .before .before .before .before .before .before .before .before .before .before .before .before .before .before .descend .kept .1 .1 .1 .1 .0) (c .before .before .before .before .before .before .before .before .negated-image-start .kept .1 .1 .1 .1 .1 .1 .0) (c .before .before .before .before .before .before .before .before .negated-image-start .kept .1 .1 .1 .1 .0) (c .before .before .before .before .before .before .before .before .negated-image-start .kept .1 .1 .1 .1 .1 .0)) in g .originals
 
--- src/cycle.rt:134:9
-negated-image-negated-image-up-requires : (t : ℕ) → negated-image-lts.Need-negated-image-up-requires (is-row-reads.Asked, is-row-reads.Learnt, standing-reads.Asked, standing-reads.Learnt, descend-reads.Asked, descend-reads.Learnt, negated-image-start-below t, negated-image-start.Post, negated-image-up-below t, negated-image-up.Post, note-reads.Asked, note-reads.Learnt, over-reads.Asked, over-reads.Learnt) (negated-image-at t) negated-image.Post negated-image-Inv-loop negated-image-μ-loop
-negated-image-negated-image-up-requires t c κs = let g = c .before .before .before .before .before .before .loop .inv (c .before .before .before .before .before .before .before .before .before .before .before .before .before .before .before .before .before .before .before .before .before .before .before .before .before .before .before .before .before .args .at) (store (c .before .before .before .before .before .before .before .before .before .before .before .before .before .before .before .before .before .before .before .before .before .before .before .before .before .before .before .before .before .args .table .now) (c .before .before .before .before .before .before .before .before .before .before .before .before .before .before .before .before .before .before .before .before .before .before .before .before .before .before .before .before .before .args .originals .now)) (c .before .before .before .before .before .before .before .before .before .before .before .before .before .before .before .before .before .before .before .before .before .before .before .before .before .before .before .before .before .args .scratch .now) (climbing-begins (c .before .before .before .before .before .before .before .before .before .before .before .before .before .before .before .before .before .before .before .before .before .before .before .before .before .before .before .before .before .pre .1) (c .before .before .before .before .before .before .before .before .before .before .before .before .before .before .before .before .before .before .before .descend .ensures) (c .before .before .before .before .before .before .before .before .before .before .before .before .before .negated-image-start .ensures) (c .before .before .before .before .before .before .before .before .before .before .before .before .before .before .before .before .before .before .before .descend .kept .1 .1 .1 .1 .0) (c .before .before .before .before .before .before .before .before .before .before .before .before .before .negated-image-start .kept .1 .1 .1 .1 .1 .1 .0) (c .before .before .before .before .before .before .before .before .before .before .before .before .before .negated-image-start .kept .1 .1 .1 .1 .0) (c .before .before .before .before .before .before .before .before .before .before .before .before .before .negated-image-start .kept .1 .1 .1 .1 .1 .0)) in (omega (arith, c .before .before .before .before .before .before .before .before .before .before .before .before .before .before .before .before .before .before .before .before .before .before .before .before .before .before .before .before .before .pre .0, c .before .before .before .before .before .loop-test .taken), climbing-asks g (c .before .before .before .before .before .loop-test .taken))
+-- src/cycle.rt:160:1
+negated-image-anew-same-length-3 : (t : ℕ) → negated-image-anew-lts.Need-same-length-3 (descend-reads.Asked, descend-reads.Learnt, negated-image-start-below t, negated-image-start.Post, negated-image-up-below t, negated-image-up.Post, note-reads.Asked, note-reads.Learnt, over-reads.Asked, over-reads.Learnt) (negated-image-anew-at t) negated-image-anew.Post negated-image-anew-Inv-loop negated-image-anew-μ-loop
+negated-image-anew-same-length-3 t c = let g = c .before .loop .inv (c .before .before .before .before .before .before .before .before .before .before .before .before .before .before .before .before .before .before .before .before .args .at) (store (c .before .before .before .before .before .before .before .before .before .before .before .before .before .before .before .before .before .before .before .before .args .table .now) (c .before .before .before .before .before .before .before .before .before .before .before .before .before .before .before .before .before .before .before .before .args .originals .now)) (c .before .before .before .before .before .before .before .before .before .before .before .before .before .before .before .before .before .before .before .before .args .scratch .now) (climbing-begins (c .before .before .before .before .before .before .before .before .before .before .before .before .before .before .before .before .before .before .before .before .pre .1) (c .before .before .before .before .before .before .before .before .before .before .before .before .before .before .descend .ensures) (c .before .before .before .before .before .before .before .before .negated-image-start .ensures) (c .before .before .before .before .before .before .before .before .before .before .before .before .before .before .descend .kept .1 .1 .1 .1 .0) (c .before .before .before .before .before .before .before .before .negated-image-start .kept .1 .1 .1 .1 .1 .1 .0) (c .before .before .before .before .before .before .before .before .negated-image-start .kept .1 .1 .1 .1 .0) (c .before .before .before .before .before .before .before .before .negated-image-start .kept .1 .1 .1 .1 .1 .0)) in g .long
 
--- src/cycle.rt:135:9
-negated-image-note-requires : (t : ℕ) → negated-image-lts.Need-note-requires (is-row-reads.Asked, is-row-reads.Learnt, standing-reads.Asked, standing-reads.Learnt, descend-reads.Asked, descend-reads.Learnt, negated-image-start-below t, negated-image-start.Post, negated-image-up-below t, negated-image-up.Post, note-reads.Asked, note-reads.Learnt, over-reads.Asked, over-reads.Learnt) (negated-image-at t) negated-image.Post negated-image-Inv-loop negated-image-μ-loop
-negated-image-note-requires t c κs = let g = c .before .before .before .before .before .before .before .before .before .before .before .before .before .before .loop .inv (c .before .before .before .before .before .before .before .before .before .before .before .before .before .before .before .before .before .before .before .before .before .before .before .before .before .before .before .before .before .before .before .before .before .before .before .before .before .args .at) (store (c .before .before .before .before .before .before .before .before .before .before .before .before .before .before .before .before .before .before .before .before .before .before .before .before .before .before .before .before .before .before .before .before .before .before .before .before .before .args .table .now) (c .before .before .before .before .before .before .before .before .before .before .before .before .before .before .before .before .before .before .before .before .before .before .before .before .before .before .before .before .before .before .before .before .before .before .before .before .before .args .originals .now)) (c .before .before .before .before .before .before .before .before .before .before .before .before .before .before .before .before .before .before .before .before .before .before .before .before .before .before .before .before .before .before .before .before .before .before .before .before .before .args .scratch .now) (climbing-begins (c .before .before .before .before .before .before .before .before .before .before .before .before .before .before .before .before .before .before .before .before .before .before .before .before .before .before .before .before .before .before .before .before .before .before .before .before .before .pre .1) (c .before .before .before .before .before .before .before .before .before .before .before .before .before .before .before .before .before .before .before .before .before .before .before .before .before .before .before .descend .ensures) (c .before .before .before .before .before .before .before .before .before .before .before .before .before .before .before .before .before .before .before .before .before .negated-image-start .ensures) (c .before .before .before .before .before .before .before .before .before .before .before .before .before .before .before .before .before .before .before .before .before .before .before .before .before .before .before .descend .kept .1 .1 .1 .1 .0) (c .before .before .before .before .before .before .before .before .before .before .before .before .before .before .before .before .before .before .before .before .before .negated-image-start .kept .1 .1 .1 .1 .1 .1 .0) (c .before .before .before .before .before .before .before .before .before .before .before .before .before .before .before .before .before .before .before .before .before .negated-image-start .kept .1 .1 .1 .1 .0) (c .before .before .before .before .before .before .before .before .before .before .before .before .before .before .before .before .before .before .before .before .before .negated-image-start .kept .1 .1 .1 .1 .1 .0)) in climbing-notes g (c .before .before .before .before .before .before .before .before .before .before .before .before .before .loop-test .taken) (c .before .before .before .before .before .before .before .negated-image-up .ensures) (c .before .before .before .before .before .before .before .negated-image-up .kept .1 .1 .1 .1 .1 .1 .0)
+-- src/cycle.rt:160:1
+negated-image-anew-returns : (t : ℕ) → negated-image-anew-lts.Need-returns (descend-reads.Asked, descend-reads.Learnt, negated-image-start-below t, negated-image-start.Post, negated-image-up-below t, negated-image-up.Post, note-reads.Asked, note-reads.Learnt, over-reads.Asked, over-reads.Learnt) (negated-image-anew-at t) negated-image-anew.Post negated-image-anew-Inv-loop negated-image-anew-μ-loop
+negated-image-anew-returns t c = let g = c .before .loop .inv (c .before .before .before .before .before .before .before .before .before .before .before .before .before .before .before .before .before .before .before .before .args .at) (store (c .before .before .before .before .before .before .before .before .before .before .before .before .before .before .before .before .before .before .before .before .args .table .now) (c .before .before .before .before .before .before .before .before .before .before .before .before .before .before .before .before .before .before .before .before .args .originals .now)) (c .before .before .before .before .before .before .before .before .before .before .before .before .before .before .before .before .before .before .before .before .args .scratch .now) (climbing-begins (c .before .before .before .before .before .before .before .before .before .before .before .before .before .before .before .before .before .before .before .before .pre .1) (c .before .before .before .before .before .before .before .before .before .before .before .before .before .before .descend .ensures) (c .before .before .before .before .before .before .before .before .negated-image-start .ensures) (c .before .before .before .before .before .before .before .before .before .before .before .before .before .before .descend .kept .1 .1 .1 .1 .0) (c .before .before .before .before .before .before .before .before .negated-image-start .kept .1 .1 .1 .1 .1 .1 .0) (c .before .before .before .before .before .before .before .before .negated-image-start .kept .1 .1 .1 .1 .0) (c .before .before .before .before .before .before .before .before .negated-image-start .kept .1 .1 .1 .1 .1 .0)) in climbing-ends g (c .loop-test .left)
 
--- src/cycle.rt:136:9
-negated-image-over-requires : (t : ℕ) → negated-image-lts.Need-over-requires (is-row-reads.Asked, is-row-reads.Learnt, standing-reads.Asked, standing-reads.Learnt, descend-reads.Asked, descend-reads.Learnt, negated-image-start-below t, negated-image-start.Post, negated-image-up-below t, negated-image-up.Post, note-reads.Asked, note-reads.Learnt, over-reads.Asked, over-reads.Learnt) (negated-image-at t) negated-image.Post negated-image-Inv-loop negated-image-μ-loop
-negated-image-over-requires t c κs = let g = c .before .before .before .before .before .before .before .before .before .before .before .before .before .before .before .before .before .loop .inv (c .before .before .before .before .before .before .before .before .before .before .before .before .before .before .before .before .before .before .before .before .before .before .before .before .before .before .before .before .before .before .before .before .before .before .before .before .before .before .before .before .args .at) (store (c .before .before .before .before .before .before .before .before .before .before .before .before .before .before .before .before .before .before .before .before .before .before .before .before .before .before .before .before .before .before .before .before .before .before .before .before .before .before .before .before .args .table .now) (c .before .before .before .before .before .before .before .before .before .before .before .before .before .before .before .before .before .before .before .before .before .before .before .before .before .before .before .before .before .before .before .before .before .before .before .before .before .before .before .before .args .originals .now)) (c .before .before .before .before .before .before .before .before .before .before .before .before .before .before .before .before .before .before .before .before .before .before .before .before .before .before .before .before .before .before .before .before .before .before .before .before .before .before .before .before .args .scratch .now) (climbing-begins (c .before .before .before .before .before .before .before .before .before .before .before .before .before .before .before .before .before .before .before .before .before .before .before .before .before .before .before .before .before .before .before .before .before .before .before .before .before .before .before .before .pre .1) (c .before .before .before .before .before .before .before .before .before .before .before .before .before .before .before .before .before .before .before .before .before .before .before .before .before .before .before .before .before .before .descend .ensures) (c .before .before .before .before .before .before .before .before .before .before .before .before .before .before .before .before .before .before .before .before .before .before .before .before .negated-image-start .ensures) (c .before .before .before .before .before .before .before .before .before .before .before .before .before .before .before .before .before .before .before .before .before .before .before .before .before .before .before .before .before .before .descend .kept .1 .1 .1 .1 .0) (c .before .before .before .before .before .before .before .before .before .before .before .before .before .before .before .before .before .before .before .before .before .before .before .before .negated-image-start .kept .1 .1 .1 .1 .1 .1 .0) (c .before .before .before .before .before .before .before .before .before .before .before .before .before .before .before .before .before .before .before .before .before .before .before .before .negated-image-start .kept .1 .1 .1 .1 .0) (c .before .before .before .before .before .before .before .before .before .before .before .before .before .before .before .before .before .before .before .before .before .before .before .before .negated-image-start .kept .1 .1 .1 .1 .1 .0)) in (omega (arith, c .before .before .before .before .before .before .before .before .before .before .before .before .before .before .before .before .before .before .before .before .before .before .before .before .before .before .before .before .before .before .before .before .before .before .before .before .before .before .before .before .pre .1 .formula, c .before .before .before .before .before .before .before .before .before .before .before .before .before .before .before .before .before .before .before .before .before .before .before .before .before .before .before .before .before .before .before .before .before .before .before .before .before .before .before .before .pre .1 .source .limit), climbing-word g (c .before .before .before .before .before .before .before .before .before .before .before .before .before .before .before .before .loop-test .taken) (getD (c .before .before .before .before .before .before .before .before .before .before .before .before .before .before .before .before .before .loop .scratch) (c .before .before .before .before .before .before .before .before .before .before .before .before .before .before .before .before .before .before .before .before .before .before .before .before .before .before .before .before .before .before .before .before .before .before .before .before .before .before .before .before .args .frame .formulas + c .before .before .before .before .before .before .before .before .before .before .before .before .before .before .before .before .before .loop .j) 0) refl)
-
--- src/cycle.rt:131:5
-negated-image-loop-less : (t : ℕ) → negated-image-lts.Need-loop-less (is-row-reads.Asked, is-row-reads.Learnt, standing-reads.Asked, standing-reads.Learnt, descend-reads.Asked, descend-reads.Learnt, negated-image-start-below t, negated-image-start.Post, negated-image-up-below t, negated-image-up.Post, note-reads.Asked, note-reads.Learnt, over-reads.Asked, over-reads.Learnt) (negated-image-at t) negated-image.Post negated-image-Inv-loop negated-image-μ-loop
-negated-image-loop-less t c = let g = c .before .before .before .before .before .before .before .before .before .before .before .before .before .before .before .before .before .before .loop .inv (c .before .before .before .before .before .before .before .before .before .before .before .before .before .before .before .before .before .before .before .before .before .before .before .before .before .before .before .before .before .before .before .before .before .before .before .before .before .before .before .before .before .args .at) (store (c .before .before .before .before .before .before .before .before .before .before .before .before .before .before .before .before .before .before .before .before .before .before .before .before .before .before .before .before .before .before .before .before .before .before .before .before .before .before .before .before .before .args .table .now) (c .before .before .before .before .before .before .before .before .before .before .before .before .before .before .before .before .before .before .before .before .before .before .before .before .before .before .before .before .before .before .before .before .before .before .before .before .before .before .before .before .before .args .originals .now)) (c .before .before .before .before .before .before .before .before .before .before .before .before .before .before .before .before .before .before .before .before .before .before .before .before .before .before .before .before .before .before .before .before .before .before .before .before .before .before .before .before .before .args .scratch .now) (climbing-begins (c .before .before .before .before .before .before .before .before .before .before .before .before .before .before .before .before .before .before .before .before .before .before .before .before .before .before .before .before .before .before .before .before .before .before .before .before .before .before .before .before .before .pre .1) (c .before .before .before .before .before .before .before .before .before .before .before .before .before .before .before .before .before .before .before .before .before .before .before .before .before .before .before .before .before .before .before .descend .ensures) (c .before .before .before .before .before .before .before .before .before .before .before .before .before .before .before .before .before .before .before .before .before .before .before .before .before .negated-image-start .ensures) (c .before .before .before .before .before .before .before .before .before .before .before .before .before .before .before .before .before .before .before .before .before .before .before .before .before .before .before .before .before .before .before .descend .kept .1 .1 .1 .1 .0) (c .before .before .before .before .before .before .before .before .before .before .before .before .before .before .before .before .before .before .before .before .before .before .before .before .before .negated-image-start .kept .1 .1 .1 .1 .1 .1 .0) (c .before .before .before .before .before .before .before .before .before .before .before .before .before .before .before .before .before .before .before .before .before .before .before .before .before .negated-image-start .kept .1 .1 .1 .1 .0) (c .before .before .before .before .before .before .before .before .before .before .before .before .before .before .before .before .before .before .before .before .before .before .before .before .before .negated-image-start .kept .1 .1 .1 .1 .1 .0)) in let h : c .before .before .before .before .before .before .before .before .before .before .before .before .before .before .before .before .before .before .loop .j < c .over .result = rw (c .over .ensures) (climbing-rises g (c .before .before .before .before .before .before .before .before .before .before .before .before .before .before .before .before .before .loop-test .taken) (getD (c .before .before .before .before .before .before .before .before .before .before .before .before .before .before .before .before .before .before .loop .scratch) (c .before .before .before .before .before .before .before .before .before .before .before .before .before .before .before .before .before .before .before .before .before .before .before .before .before .before .before .before .before .before .before .before .before .before .before .before .before .before .before .before .before .args .frame .formulas + c .before .before .before .before .before .before .before .before .before .before .before .before .before .before .before .before .before .before .loop .j) 0) refl) in omega (arith, h, c .before .before .before .before .before .before .before .before .before .before .before .before .before .before .before .before .before .loop-test .taken)
-
--- src/cycle.rt:131:5
-negated-image-loop-again : (t : ℕ) → negated-image-lts.Need-loop-again (is-row-reads.Asked, is-row-reads.Learnt, standing-reads.Asked, standing-reads.Learnt, descend-reads.Asked, descend-reads.Learnt, negated-image-start-below t, negated-image-start.Post, negated-image-up-below t, negated-image-up.Post, note-reads.Asked, note-reads.Learnt, over-reads.Asked, over-reads.Learnt) (negated-image-at t) negated-image.Post negated-image-Inv-loop negated-image-μ-loop
-negated-image-loop-again t c = λ at before entry b. rw (c .before .before .before .note .ensures, c .over .ensures) (climbing-more (c .before .before .before .before .before .before .before .before .before .before .before .before .before .before .before .before .before .before .loop .inv at before entry b) (c .before .before .before .before .before .before .before .before .before .before .before .before .before .before .before .before .before .loop-test .taken) (getD (c .before .before .before .before .before .before .before .before .before .before .before .before .before .before .before .before .before .before .loop .scratch) (c .before .before .before .before .before .before .before .before .before .before .before .before .before .before .before .before .before .before .before .before .before .before .before .before .before .before .before .before .before .before .before .before .before .before .before .before .before .before .before .before .before .args .frame .formulas + c .before .before .before .before .before .before .before .before .before .before .before .before .before .before .before .before .before .before .loop .j) 0) refl (c .before .before .before .before .before .before .before .before .before .before .before .negated-image-up .ensures) (c .before .before .before .before .before .before .before .before .before .before .before .negated-image-up .kept .1 .1 .1 .1 .1 .1 .0) (c .before .before .before .before .before .before .before .before .before .before .before .negated-image-up .kept .1 .1 .1 .1 .0) (c .before .before .before .before .before .before .before .before .before .before .before .negated-image-up .kept .1 .1 .1 .1 .1 .0))
-
--- src/cycle.rt:113:1
-negated-image-same-length : (t : ℕ) → negated-image-lts.Need-same-length (is-row-reads.Asked, is-row-reads.Learnt, standing-reads.Asked, standing-reads.Learnt, descend-reads.Asked, descend-reads.Learnt, negated-image-start-below t, negated-image-start.Post, negated-image-up-below t, negated-image-up.Post, note-reads.Asked, note-reads.Learnt, over-reads.Asked, over-reads.Learnt) (negated-image-at t) negated-image.Post negated-image-Inv-loop negated-image-μ-loop
-negated-image-same-length t c = let g = c .before .loop .inv (c .before .before .before .before .before .before .before .before .before .before .before .before .before .before .before .before .before .before .before .before .before .before .before .before .args .at) (store (c .before .before .before .before .before .before .before .before .before .before .before .before .before .before .before .before .before .before .before .before .before .before .before .before .args .table .now) (c .before .before .before .before .before .before .before .before .before .before .before .before .before .before .before .before .before .before .before .before .before .before .before .before .args .originals .now)) (c .before .before .before .before .before .before .before .before .before .before .before .before .before .before .before .before .before .before .before .before .before .before .before .before .args .scratch .now) (climbing-begins (c .before .before .before .before .before .before .before .before .before .before .before .before .before .before .before .before .before .before .before .before .before .before .before .before .pre .1) (c .before .before .before .before .before .before .before .before .before .before .before .before .before .before .descend .ensures) (c .before .before .before .before .before .before .before .before .negated-image-start .ensures) (c .before .before .before .before .before .before .before .before .before .before .before .before .before .before .descend .kept .1 .1 .1 .1 .0) (c .before .before .before .before .before .before .before .before .negated-image-start .kept .1 .1 .1 .1 .1 .1 .0) (c .before .before .before .before .before .before .before .before .negated-image-start .kept .1 .1 .1 .1 .0) (c .before .before .before .before .before .before .before .before .negated-image-start .kept .1 .1 .1 .1 .1 .0)) in g .table
-
--- src/cycle.rt:113:1
-negated-image-same-length-2 : (t : ℕ) → negated-image-lts.Need-same-length-2 (is-row-reads.Asked, is-row-reads.Learnt, standing-reads.Asked, standing-reads.Learnt, descend-reads.Asked, descend-reads.Learnt, negated-image-start-below t, negated-image-start.Post, negated-image-up-below t, negated-image-up.Post, note-reads.Asked, note-reads.Learnt, over-reads.Asked, over-reads.Learnt) (negated-image-at t) negated-image.Post negated-image-Inv-loop negated-image-μ-loop
-negated-image-same-length-2 t c = let g = c .before .loop .inv (c .before .before .before .before .before .before .before .before .before .before .before .before .before .before .before .before .before .before .before .before .before .before .before .before .args .at) (store (c .before .before .before .before .before .before .before .before .before .before .before .before .before .before .before .before .before .before .before .before .before .before .before .before .args .table .now) (c .before .before .before .before .before .before .before .before .before .before .before .before .before .before .before .before .before .before .before .before .before .before .before .before .args .originals .now)) (c .before .before .before .before .before .before .before .before .before .before .before .before .before .before .before .before .before .before .before .before .before .before .before .before .args .scratch .now) (climbing-begins (c .before .before .before .before .before .before .before .before .before .before .before .before .before .before .before .before .before .before .before .before .before .before .before .before .pre .1) (c .before .before .before .before .before .before .before .before .before .before .before .before .before .before .descend .ensures) (c .before .before .before .before .before .before .before .before .negated-image-start .ensures) (c .before .before .before .before .before .before .before .before .before .before .before .before .before .before .descend .kept .1 .1 .1 .1 .0) (c .before .before .before .before .before .before .before .before .negated-image-start .kept .1 .1 .1 .1 .1 .1 .0) (c .before .before .before .before .before .before .before .before .negated-image-start .kept .1 .1 .1 .1 .0) (c .before .before .before .before .before .before .before .before .negated-image-start .kept .1 .1 .1 .1 .1 .0)) in g .originals
-
--- src/cycle.rt:113:1
-negated-image-same-length-3 : (t : ℕ) → negated-image-lts.Need-same-length-3 (is-row-reads.Asked, is-row-reads.Learnt, standing-reads.Asked, standing-reads.Learnt, descend-reads.Asked, descend-reads.Learnt, negated-image-start-below t, negated-image-start.Post, negated-image-up-below t, negated-image-up.Post, note-reads.Asked, note-reads.Learnt, over-reads.Asked, over-reads.Learnt) (negated-image-at t) negated-image.Post negated-image-Inv-loop negated-image-μ-loop
-negated-image-same-length-3 t c = let g = c .before .loop .inv (c .before .before .before .before .before .before .before .before .before .before .before .before .before .before .before .before .before .before .before .before .before .before .before .before .args .at) (store (c .before .before .before .before .before .before .before .before .before .before .before .before .before .before .before .before .before .before .before .before .before .before .before .before .args .table .now) (c .before .before .before .before .before .before .before .before .before .before .before .before .before .before .before .before .before .before .before .before .before .before .before .before .args .originals .now)) (c .before .before .before .before .before .before .before .before .before .before .before .before .before .before .before .before .before .before .before .before .before .before .before .before .args .scratch .now) (climbing-begins (c .before .before .before .before .before .before .before .before .before .before .before .before .before .before .before .before .before .before .before .before .before .before .before .before .pre .1) (c .before .before .before .before .before .before .before .before .before .before .before .before .before .before .descend .ensures) (c .before .before .before .before .before .before .before .before .negated-image-start .ensures) (c .before .before .before .before .before .before .before .before .before .before .before .before .before .before .descend .kept .1 .1 .1 .1 .0) (c .before .before .before .before .before .before .before .before .negated-image-start .kept .1 .1 .1 .1 .1 .1 .0) (c .before .before .before .before .before .before .before .before .negated-image-start .kept .1 .1 .1 .1 .0) (c .before .before .before .before .before .before .before .before .negated-image-start .kept .1 .1 .1 .1 .1 .0)) in g .long
-
--- src/cycle.rt:113:1
-negated-image-returns-2 : (t : ℕ) → negated-image-lts.Need-returns-2 (is-row-reads.Asked, is-row-reads.Learnt, standing-reads.Asked, standing-reads.Learnt, descend-reads.Asked, descend-reads.Learnt, negated-image-start-below t, negated-image-start.Post, negated-image-up-below t, negated-image-up.Post, note-reads.Asked, note-reads.Learnt, over-reads.Asked, over-reads.Learnt) (negated-image-at t) negated-image.Post negated-image-Inv-loop negated-image-μ-loop
-negated-image-returns-2 t c = let g = c .before .loop .inv (c .before .before .before .before .before .before .before .before .before .before .before .before .before .before .before .before .before .before .before .before .before .before .before .before .args .at) (store (c .before .before .before .before .before .before .before .before .before .before .before .before .before .before .before .before .before .before .before .before .before .before .before .before .args .table .now) (c .before .before .before .before .before .before .before .before .before .before .before .before .before .before .before .before .before .before .before .before .before .before .before .before .args .originals .now)) (c .before .before .before .before .before .before .before .before .before .before .before .before .before .before .before .before .before .before .before .before .before .before .before .before .args .scratch .now) (climbing-begins (c .before .before .before .before .before .before .before .before .before .before .before .before .before .before .before .before .before .before .before .before .before .before .before .before .pre .1) (c .before .before .before .before .before .before .before .before .before .before .before .before .before .before .descend .ensures) (c .before .before .before .before .before .before .before .before .negated-image-start .ensures) (c .before .before .before .before .before .before .before .before .before .before .before .before .before .before .descend .kept .1 .1 .1 .1 .0) (c .before .before .before .before .before .before .before .before .negated-image-start .kept .1 .1 .1 .1 .1 .1 .0) (c .before .before .before .before .before .before .before .before .negated-image-start .kept .1 .1 .1 .1 .0) (c .before .before .before .before .before .before .before .before .negated-image-start .kept .1 .1 .1 .1 .1 .0)) in climbing-ends g (c .loop-test .left)
-
--- src/cycle.rt:154:9
+-- src/cycle.rt:197:9
 negated-image-start-read-row-requires : (t : ℕ) → negated-image-start-lts.Need-read-row-requires (read-row-reads.Asked, read-row-reads.Learnt, standing-reads.Asked, standing-reads.Learnt, keeps-side-reads.Asked, keeps-side-reads.Learnt, negated-image-below t, negated-image.Post, image-below t, image.Post) (negated-image-start-at t) negated-image-start.Post
 negated-image-start-read-row-requires t c κs = omega (arith, c .before .before .before .before .pre .1 .source .words, c .before .before .before .before .pre .1 .formula)
 
--- src/cycle.rt:156:9
+-- src/cycle.rt:199:9
 negated-image-start-standing-requires : (t : ℕ) → negated-image-start-lts.Need-standing-requires (read-row-reads.Asked, read-row-reads.Learnt, standing-reads.Asked, standing-reads.Learnt, keeps-side-reads.Asked, keeps-side-reads.Learnt, negated-image-below t, negated-image.Post, image-below t, image.Post) (negated-image-start-at t) negated-image-start.Post
 negated-image-start-standing-requires t c κs = search needs
 
--- src/cycle.rt:156:9
+-- src/cycle.rt:199:9
 negated-image-start-returns : (t : ℕ) → negated-image-start-lts.Need-returns (read-row-reads.Asked, read-row-reads.Learnt, standing-reads.Asked, standing-reads.Learnt, keeps-side-reads.Asked, keeps-side-reads.Learnt, negated-image-below t, negated-image.Post, image-below t, image.Post) (negated-image-start-at t) negated-image-start.Post
 negated-image-start-returns t c = rw (c .standing .ensures) (start-none (c .before .before .before .before .before .before .before .before .args .frame) (c .before .before .before .before .before .before .before .before .args .formulas .now) (c .before .before .before .before .before .before .before .before .args .scratch .now) (c .before .before .before .before .before .before .before .before .args .j) (asks-row (c .before .before .before .before .before .before .before .before .pre .1)) (c .before .before .before .read-row .result) (c .before .before .before .read-row .ensures) negated (c .before .if1 .taken) (c .before .before .before .before .before .before .before .before .pre .1))
 
--- src/cycle.rt:158:8
+-- src/cycle.rt:201:8
 negated-image-start-keeps-side-requires : (t : ℕ) → negated-image-start-lts.Need-keeps-side-requires (read-row-reads.Asked, read-row-reads.Learnt, standing-reads.Asked, standing-reads.Learnt, keeps-side-reads.Asked, keeps-side-reads.Learnt, negated-image-below t, negated-image.Post, image-below t, image.Post) (negated-image-start-at t) negated-image-start.Post
 negated-image-start-keeps-side-requires t c κs = search needs
 
--- src/cycle.rt:159:40
+-- src/cycle.rt:202:40
 negated-image-start-cast-negated-image : (t : ℕ) → negated-image-start-lts.Need-cast-negated-image (read-row-reads.Asked, read-row-reads.Learnt, standing-reads.Asked, standing-reads.Learnt, keeps-side-reads.Asked, keeps-side-reads.Learnt, negated-image-below t, negated-image.Post, image-below t, image.Post) (negated-image-start-at t) negated-image-start.Post
 negated-image-start-cast-negated-image t c = search needs
 
--- src/cycle.rt:159:9
+-- src/cycle.rt:202:9
 negated-image-start-negated-image-requires : (t : ℕ) → negated-image-start-lts.Need-negated-image-requires (read-row-reads.Asked, read-row-reads.Learnt, standing-reads.Asked, standing-reads.Learnt, keeps-side-reads.Asked, keeps-side-reads.Learnt, negated-image-below t, negated-image.Post, image-below t, image.Post) (negated-image-start-at t) negated-image-start.Post
 negated-image-start-negated-image-requires t c κs = (omega (arith, c .before .before .before .before .before .before .before .before .before .before .before .before .before .pre .0, left-lower (c .before .before .before .before .before .before .before .before .before .before .before .before .before .args .frame) (c .before .before .before .before .before .before .before .before .before .before .before .before .before .args .formulas .now) (c .before .before .before .before .before .before .before .before .before .before .before .before .before .args .scratch .now) (c .before .before .before .before .before .before .before .before .before .before .before .before .before .args .j) (asks-row (c .before .before .before .before .before .before .before .before .before .before .before .before .before .pre .1)) (c .before .before .before .before .before .before .before .before .read-row .result) (c .before .before .before .before .before .before .before .before .read-row .ensures) (c .before .before .before .before .before .before .if1 .left)), asks-lower (c .before .before .before .before .before .before .before .before .before .before .before .before .before .pre .1) (left-lower (c .before .before .before .before .before .before .before .before .before .before .before .before .before .args .frame) (c .before .before .before .before .before .before .before .before .before .before .before .before .before .args .formulas .now) (c .before .before .before .before .before .before .before .before .before .before .before .before .before .args .scratch .now) (c .before .before .before .before .before .before .before .before .before .before .before .before .before .args .j) (asks-row (c .before .before .before .before .before .before .before .before .before .before .before .before .before .pre .1)) (c .before .before .before .before .before .before .before .before .read-row .result) (c .before .before .before .before .before .before .before .before .read-row .ensures) (c .before .before .before .before .before .before .if1 .left)))
 
--- src/cycle.rt:159:9
+-- src/cycle.rt:202:9
 negated-image-start-same-length : (t : ℕ) → negated-image-start-lts.Need-same-length (read-row-reads.Asked, read-row-reads.Learnt, standing-reads.Asked, standing-reads.Learnt, keeps-side-reads.Asked, keeps-side-reads.Learnt, negated-image-below t, negated-image.Post, image-below t, image.Post) (negated-image-start-at t) negated-image-start.Post
 negated-image-start-same-length t c = c .before .before .before .before .before .before .negated-image .kept .1 .1 .1 .1 .0
 
--- src/cycle.rt:159:9
+-- src/cycle.rt:202:9
 negated-image-start-same-length-2 : (t : ℕ) → negated-image-start-lts.Need-same-length-2 (read-row-reads.Asked, read-row-reads.Learnt, standing-reads.Asked, standing-reads.Learnt, keeps-side-reads.Asked, keeps-side-reads.Learnt, negated-image-below t, negated-image.Post, image-below t, image.Post) (negated-image-start-at t) negated-image-start.Post
 negated-image-start-same-length-2 t c = c .before .before .before .before .before .before .negated-image .kept .1 .1 .1 .1 .1 .0
 
--- src/cycle.rt:159:9
+-- src/cycle.rt:202:9
 negated-image-start-same-length-3 : (t : ℕ) → negated-image-start-lts.Need-same-length-3 (read-row-reads.Asked, read-row-reads.Learnt, standing-reads.Asked, standing-reads.Learnt, keeps-side-reads.Asked, keeps-side-reads.Learnt, negated-image-below t, negated-image.Post, image-below t, image.Post) (negated-image-start-at t) negated-image-start.Post
 negated-image-start-same-length-3 t c = c .before .before .before .before .before .before .negated-image .kept .1 .1 .1 .1 .1 .1 .0
 
--- src/cycle.rt:159:9
+-- src/cycle.rt:202:9
 negated-image-start-returns-2 : (t : ℕ) → negated-image-start-lts.Need-returns-2 (read-row-reads.Asked, read-row-reads.Learnt, standing-reads.Asked, standing-reads.Learnt, keeps-side-reads.Asked, keeps-side-reads.Learnt, negated-image-below t, negated-image.Post, image-below t, image.Post) (negated-image-start-at t) negated-image-start.Post
 negated-image-start-returns-2 t c = start-own (c .before .before .before .before .before .before .before .before .before .before .before .before .before .before .before .before .before .before .before .before .args .frame) (c .before .before .before .before .before .before .before .before .before .before .before .before .before .before .before .before .before .before .before .before .args .formulas .now) (c .before .before .before .before .before .before .before .before .before .before .before .before .before .before .before .before .before .before .before .before .args .scratch .now) (c .before .before .before .before .before .before .before .before .before .before .before .before .before .before .before .before .before .before .before .before .args .j) (asks-row (c .before .before .before .before .before .before .before .before .before .before .before .before .before .before .before .before .before .before .before .before .pre .1)) (c .before .before .before .before .before .before .before .before .before .before .before .before .before .before .before .read-row .result) (c .before .before .before .before .before .before .before .before .before .before .before .before .before .before .before .read-row .ensures) negated (c .before .before .before .before .before .before .before .before .before .before .before .before .before .if1 .left) (sym (c .before .before .before .before .before .before .before .before .before .before .before .before .keeps-side .ensures) ∙ c .before .before .before .before .before .before .before .before .before .before .before .if2 .taken) (c .before .before .before .before .before .before .negated-image .ensures)
 
--- src/cycle.rt:161:21
+-- src/cycle.rt:204:21
 negated-image-start-cast-image : (t : ℕ) → negated-image-start-lts.Need-cast-image (read-row-reads.Asked, read-row-reads.Learnt, standing-reads.Asked, standing-reads.Learnt, keeps-side-reads.Asked, keeps-side-reads.Learnt, negated-image-below t, negated-image.Post, image-below t, image.Post) (negated-image-start-at t) negated-image-start.Post
 negated-image-start-cast-image t c = search needs
 
--- src/cycle.rt:161:5
+-- src/cycle.rt:204:5
 negated-image-start-image-requires : (t : ℕ) → negated-image-start-lts.Need-image-requires (read-row-reads.Asked, read-row-reads.Learnt, standing-reads.Asked, standing-reads.Learnt, keeps-side-reads.Asked, keeps-side-reads.Learnt, negated-image-below t, negated-image.Post, image-below t, image.Post) (negated-image-start-at t) negated-image-start.Post
 negated-image-start-image-requires t c κs = (omega (arith, c .before .before .before .before .before .before .before .before .before .before .before .before .before .pre .0, left-lower (c .before .before .before .before .before .before .before .before .before .before .before .before .before .args .frame) (c .before .before .before .before .before .before .before .before .before .before .before .before .before .args .formulas .now) (c .before .before .before .before .before .before .before .before .before .before .before .before .before .args .scratch .now) (c .before .before .before .before .before .before .before .before .before .before .before .before .before .args .j) (asks-row (c .before .before .before .before .before .before .before .before .before .before .before .before .before .pre .1)) (c .before .before .before .before .before .before .before .before .read-row .result) (c .before .before .before .before .before .before .before .before .read-row .ensures) (c .before .before .before .before .before .before .if1 .left)), asks-lower (c .before .before .before .before .before .before .before .before .before .before .before .before .before .pre .1) (left-lower (c .before .before .before .before .before .before .before .before .before .before .before .before .before .args .frame) (c .before .before .before .before .before .before .before .before .before .before .before .before .before .args .formulas .now) (c .before .before .before .before .before .before .before .before .before .before .before .before .before .args .scratch .now) (c .before .before .before .before .before .before .before .before .before .before .before .before .before .args .j) (asks-row (c .before .before .before .before .before .before .before .before .before .before .before .before .before .pre .1)) (c .before .before .before .before .before .before .before .before .read-row .result) (c .before .before .before .before .before .before .before .before .read-row .ensures) (c .before .before .before .before .before .before .if1 .left)))
 
--- src/cycle.rt:142:1
+-- src/cycle.rt:185:1
 negated-image-start-same-length-4 : (t : ℕ) → negated-image-start-lts.Need-same-length-4 (read-row-reads.Asked, read-row-reads.Learnt, standing-reads.Asked, standing-reads.Learnt, keeps-side-reads.Asked, keeps-side-reads.Learnt, negated-image-below t, negated-image.Post, image-below t, image.Post) (negated-image-start-at t) negated-image-start.Post
 negated-image-start-same-length-4 t c = c .before .before .before .before .before .before .image .kept .1 .1 .1 .1 .0
 
--- src/cycle.rt:142:1
+-- src/cycle.rt:185:1
 negated-image-start-same-length-5 : (t : ℕ) → negated-image-start-lts.Need-same-length-5 (read-row-reads.Asked, read-row-reads.Learnt, standing-reads.Asked, standing-reads.Learnt, keeps-side-reads.Asked, keeps-side-reads.Learnt, negated-image-below t, negated-image.Post, image-below t, image.Post) (negated-image-start-at t) negated-image-start.Post
 negated-image-start-same-length-5 t c = c .before .before .before .before .before .before .image .kept .1 .1 .1 .1 .1 .0
 
--- src/cycle.rt:142:1
+-- src/cycle.rt:185:1
 negated-image-start-same-length-6 : (t : ℕ) → negated-image-start-lts.Need-same-length-6 (read-row-reads.Asked, read-row-reads.Learnt, standing-reads.Asked, standing-reads.Learnt, keeps-side-reads.Asked, keeps-side-reads.Learnt, negated-image-below t, negated-image.Post, image-below t, image.Post) (negated-image-start-at t) negated-image-start.Post
 negated-image-start-same-length-6 t c = c .before .before .before .before .before .before .image .kept .1 .1 .1 .1 .1 .1 .0
 
--- src/cycle.rt:142:1
+-- src/cycle.rt:185:1
 negated-image-start-returns-3 : (t : ℕ) → negated-image-start-lts.Need-returns-3 (read-row-reads.Asked, read-row-reads.Learnt, standing-reads.Asked, standing-reads.Learnt, keeps-side-reads.Asked, keeps-side-reads.Learnt, negated-image-below t, negated-image.Post, image-below t, image.Post) (negated-image-start-at t) negated-image-start.Post
 negated-image-start-returns-3 t c = start-other (c .before .before .before .before .before .before .before .before .before .before .before .before .before .before .before .before .before .before .before .before .args .frame) (c .before .before .before .before .before .before .before .before .before .before .before .before .before .before .before .before .before .before .before .before .args .formulas .now) (c .before .before .before .before .before .before .before .before .before .before .before .before .before .before .before .before .before .before .before .before .args .scratch .now) (c .before .before .before .before .before .before .before .before .before .before .before .before .before .before .before .before .before .before .before .before .args .j) (asks-row (c .before .before .before .before .before .before .before .before .before .before .before .before .before .before .before .before .before .before .before .before .pre .1)) (c .before .before .before .before .before .before .before .before .before .before .before .before .before .before .before .read-row .result) (c .before .before .before .before .before .before .before .before .before .before .before .before .before .before .before .read-row .ensures) negated (c .before .before .before .before .before .before .before .before .before .before .before .before .before .if1 .left) (sym (c .before .before .before .before .before .before .before .before .before .before .before .before .keeps-side .ensures) ∙ c .before .before .before .before .before .before .before .before .before .before .before .if2 .left) (c .before .before .before .before .before .before .image .ensures)
 
--- src/cycle.rt:178:9
+-- src/cycle.rt:221:9
 negated-image-up-returns : (t : ℕ) → negated-image-up-lts.Need-returns (read-row-reads.Asked, read-row-reads.Learnt, leaf-reads.Asked, leaf-reads.Learnt, negated-image-below t, negated-image.Post, equivalent-below t, equivalent.Post, join-reads.Asked, join-reads.Learnt) (negated-image-up-at t) negated-image-up.Post
 negated-image-up-returns t c = record { images = λ at entry memo x. up-full negated (c .before .before .before .before .before .pre .1 .row) x (c .if1 .taken); above = kept-refl (c .before .before .before .before .before .args .j) (c .before .before .before .before .before .args .frame) (c .before .before .before .before .before .args .scratch .now) }
 
--- src/cycle.rt:180:9
+-- src/cycle.rt:223:9
 negated-image-up-read-row-requires : (t : ℕ) → negated-image-up-lts.Need-read-row-requires (read-row-reads.Asked, read-row-reads.Learnt, leaf-reads.Asked, leaf-reads.Learnt, negated-image-below t, negated-image.Post, equivalent-below t, equivalent.Post, join-reads.Asked, join-reads.Learnt) (negated-image-up-at t) negated-image-up.Post
 negated-image-up-read-row-requires t c κs = omega (arith, c .before .before .before .before .before .pre .1 .row .source .words, c .before .before .before .before .before .pre .1 .row .formula)
 
--- src/cycle.rt:186:9
+-- src/cycle.rt:229:9
 negated-image-up-leaf-requires : (t : ℕ) → negated-image-up-lts.Need-leaf-requires (read-row-reads.Asked, read-row-reads.Learnt, leaf-reads.Asked, leaf-reads.Learnt, negated-image-below t, negated-image.Post, equivalent-below t, equivalent.Post, join-reads.Asked, join-reads.Learnt) (negated-image-up-at t) negated-image-up.Post
 negated-image-up-leaf-requires t c κs = leaf-ready (c .before .before .before .before .before .before .before .before .before .before .args .frame) (c .before .before .before .before .before .before .before .before .before .before .args .formulas .now) (c .before .before .before .before .before .before .before .before .before .before .args .scratch .now) (c .before .before .before .before .before .before .before .before .before .before .args .j) (c .before .before .before .before .before .before .before .before .before .before .pre .1 .row) (c .before .before .before .before .read-row .result) (c .before .before .before .before .read-row .ensures) (c .before .before .if2 .taken) (c .before .before .before .before .before .before .before .before .before .before .pre .1 .ready (c .before .before .before .before .before .if1 .left))
 
--- src/cycle.rt:186:9
+-- src/cycle.rt:229:9
 negated-image-up-same-length : (t : ℕ) → negated-image-up-lts.Need-same-length (read-row-reads.Asked, read-row-reads.Learnt, leaf-reads.Asked, leaf-reads.Learnt, negated-image-below t, negated-image.Post, equivalent-below t, equivalent.Post, join-reads.Asked, join-reads.Learnt) (negated-image-up-at t) negated-image-up.Post
 negated-image-up-same-length t c = c .before .before .before .before .leaf .kept .1 .1 .1 .1 .0
 
--- src/cycle.rt:186:9
+-- src/cycle.rt:229:9
 negated-image-up-same-length-2 : (t : ℕ) → negated-image-up-lts.Need-same-length-2 (read-row-reads.Asked, read-row-reads.Learnt, leaf-reads.Asked, leaf-reads.Learnt, negated-image-below t, negated-image.Post, equivalent-below t, equivalent.Post, join-reads.Asked, join-reads.Learnt) (negated-image-up-at t) negated-image-up.Post
 negated-image-up-same-length-2 t c = c .before .before .before .before .leaf .kept .1 .1 .1 .1 .1 .0
 
--- src/cycle.rt:186:9
+-- src/cycle.rt:229:9
 negated-image-up-returns-2 : (t : ℕ) → negated-image-up-lts.Need-returns-2 (read-row-reads.Asked, read-row-reads.Learnt, leaf-reads.Asked, leaf-reads.Learnt, negated-image-below t, negated-image.Post, equivalent-below t, equivalent.Post, join-reads.Asked, join-reads.Learnt) (negated-image-up-at t) negated-image-up.Post
 negated-image-up-returns-2 t c = record { images = λ at entry memo x. up-leaf negated (c .before .before .before .before .before .before .before .before .before .before .before .before .before .before .before .pre .1 .row) x (c .before .before .before .before .before .before .before .before .before .read-row .result) (c .before .before .before .before .before .before .before .before .before .read-row .ensures) (c .before .before .before .before .before .before .before .before .before .before .if1 .left) (c .before .before .before .before .before .before .before .if2 .taken) (c .before .before .before .before .leaf .ensures); above = kept-refl (c .before .before .before .before .before .before .before .before .before .before .before .before .before .before .before .args .j) (c .before .before .before .before .before .before .before .before .before .before .before .before .before .before .before .args .frame) (c .before .before .before .before .before .before .before .before .before .before .before .before .before .before .before .args .scratch .now) }
 
--- src/cycle.rt:189:9
+-- src/cycle.rt:232:9
 negated-image-up-returns-3 : (t : ℕ) → negated-image-up-lts.Need-returns-3 (read-row-reads.Asked, read-row-reads.Learnt, leaf-reads.Asked, leaf-reads.Learnt, negated-image-below t, negated-image.Post, equivalent-below t, equivalent.Post, join-reads.Asked, join-reads.Learnt) (negated-image-up-at t) negated-image-up.Post
 negated-image-up-returns-3 t c = record { images = λ at entry memo x. up-not negated (c .before .before .before .before .before .before .before .before .before .before .pre .1 .row) x (c .before .before .before .before .read-row .result) (c .before .before .before .before .read-row .ensures) (c .if3 .taken); above = kept-refl (c .before .before .before .before .before .before .before .before .before .before .args .j) (c .before .before .before .before .before .before .before .before .before .before .args .frame) (c .before .before .before .before .before .before .before .before .before .before .args .scratch .now) }
 
--- src/cycle.rt:191:37
+-- src/cycle.rt:234:37
 negated-image-up-cast-negated-image : (t : ℕ) → negated-image-up-lts.Need-cast-negated-image (read-row-reads.Asked, read-row-reads.Learnt, leaf-reads.Asked, leaf-reads.Learnt, negated-image-below t, negated-image.Post, equivalent-below t, equivalent.Post, join-reads.Asked, join-reads.Learnt) (negated-image-up-at t) negated-image-up.Post
 negated-image-up-cast-negated-image t c = search needs
 
--- src/cycle.rt:191:9
+-- src/cycle.rt:234:9
 negated-image-up-negated-image-requires : (t : ℕ) → negated-image-up-lts.Need-negated-image-requires (read-row-reads.Asked, read-row-reads.Learnt, leaf-reads.Asked, leaf-reads.Learnt, negated-image-below t, negated-image.Post, equivalent-below t, equivalent.Post, join-reads.Asked, join-reads.Learnt) (negated-image-up-at t) negated-image-up.Post
 negated-image-up-negated-image-requires t c κs = (omega (arith, c .before .before .before .before .before .before .before .before .before .before .before .before .before .before .pre .0, right-lower (c .before .before .before .before .before .before .before .before .before .before .before .before .before .before .args .frame) (c .before .before .before .before .before .before .before .before .before .before .before .before .before .before .args .formulas .now) (c .before .before .before .before .before .before .before .before .before .before .before .before .before .before .args .scratch .now) (c .before .before .before .before .before .before .before .before .before .before .before .before .before .before .args .j) (c .before .before .before .before .before .before .before .before .before .before .before .before .before .before .pre .1 .row) (c .before .before .before .before .before .before .before .before .read-row .result) (c .before .before .before .before .before .before .before .before .read-row .ensures) (past-three (c .before .before .before .before .before .before .before .before .read-row .result .kind) (c .before .before .before .before .before .before .if2 .left) (c .before .before .before .before .if3 .left))), up-asks (c .before .before .before .before .before .before .before .before .before .before .before .before .before .before .pre .1) (c .before .before .before .before .before .before .before .before .before .if1 .left) (right-lower (c .before .before .before .before .before .before .before .before .before .before .before .before .before .before .args .frame) (c .before .before .before .before .before .before .before .before .before .before .before .before .before .before .args .formulas .now) (c .before .before .before .before .before .before .before .before .before .before .before .before .before .before .args .scratch .now) (c .before .before .before .before .before .before .before .before .before .before .before .before .before .before .args .j) (c .before .before .before .before .before .before .before .before .before .before .before .before .before .before .pre .1 .row) (c .before .before .before .before .before .before .before .before .read-row .result) (c .before .before .before .before .before .before .before .before .read-row .ensures) (past-three (c .before .before .before .before .before .before .before .before .read-row .result .kind) (c .before .before .before .before .before .before .if2 .left) (c .before .before .before .before .if3 .left))))
 
--- src/cycle.rt:193:9
+-- src/cycle.rt:236:9
 negated-image-up-same-length-3 : (t : ℕ) → negated-image-up-lts.Need-same-length-3 (read-row-reads.Asked, read-row-reads.Learnt, leaf-reads.Asked, leaf-reads.Learnt, negated-image-below t, negated-image.Post, equivalent-below t, equivalent.Post, join-reads.Asked, join-reads.Learnt) (negated-image-up-at t) negated-image-up.Post
 negated-image-up-same-length-3 t c = c .before .before .before .before .before .before .before .negated-image .kept .1 .1 .1 .1 .0
 
--- src/cycle.rt:193:9
+-- src/cycle.rt:236:9
 negated-image-up-same-length-4 : (t : ℕ) → negated-image-up-lts.Need-same-length-4 (read-row-reads.Asked, read-row-reads.Learnt, leaf-reads.Asked, leaf-reads.Learnt, negated-image-below t, negated-image.Post, equivalent-below t, equivalent.Post, join-reads.Asked, join-reads.Learnt) (negated-image-up-at t) negated-image-up.Post
 negated-image-up-same-length-4 t c = c .before .before .before .before .before .before .before .negated-image .kept .1 .1 .1 .1 .1 .0
 
--- src/cycle.rt:193:9
+-- src/cycle.rt:236:9
 negated-image-up-same-length-5 : (t : ℕ) → negated-image-up-lts.Need-same-length-5 (read-row-reads.Asked, read-row-reads.Learnt, leaf-reads.Asked, leaf-reads.Learnt, negated-image-below t, negated-image.Post, equivalent-below t, equivalent.Post, join-reads.Asked, join-reads.Learnt) (negated-image-up-at t) negated-image-up.Post
 negated-image-up-same-length-5 t c = c .before .before .before .before .before .before .before .negated-image .kept .1 .1 .1 .1 .1 .1 .0
 
--- src/cycle.rt:193:9
+-- src/cycle.rt:236:9
 negated-image-up-returns-4 : (t : ℕ) → negated-image-up-lts.Need-returns-4 (read-row-reads.Asked, read-row-reads.Learnt, leaf-reads.Asked, leaf-reads.Learnt, negated-image-below t, negated-image.Post, equivalent-below t, equivalent.Post, join-reads.Asked, join-reads.Learnt) (negated-image-up-at t) negated-image-up.Post
 negated-image-up-returns-4 t c = record { images = λ at entry memo x. up-right-full negated (c .before .before .before .before .before .before .before .before .before .before .before .before .before .before .before .before .before .before .before .before .before .before .pre .1 .row) x (c .before .before .before .before .before .before .before .before .before .before .before .before .before .before .before .before .read-row .result) (c .before .before .before .before .before .before .before .before .before .before .before .before .before .before .before .before .read-row .ensures) (c .before .before .before .before .before .before .before .before .before .before .before .before .before .before .before .before .before .if1 .left) (past-three (c .before .before .before .before .before .before .before .before .before .before .before .before .before .before .before .before .read-row .result .kind) (c .before .before .before .before .before .before .before .before .before .before .before .before .before .before .if2 .left) (c .before .before .before .before .before .before .before .before .before .before .before .before .if3 .left)) (c .before .before .before .before .before .before .before .negated-image .ensures .images) (c .if4 .taken); above = kept-from (omega (arith, right-lower (c .before .before .before .before .before .before .before .before .before .before .before .before .before .before .before .before .before .before .before .before .before .before .args .frame) (c .before .before .before .before .before .before .before .before .before .before .before .before .before .before .before .before .before .before .before .before .before .before .args .formulas .now) (c .before .before .before .before .before .before .before .before .before .before .before .before .before .before .before .before .before .before .before .before .before .before .args .scratch .now) (c .before .before .before .before .before .before .before .before .before .before .before .before .before .before .before .before .before .before .before .before .before .before .args .j) (c .before .before .before .before .before .before .before .before .before .before .before .before .before .before .before .before .before .before .before .before .before .before .pre .1 .row) (c .before .before .before .before .before .before .before .before .before .before .before .before .before .before .before .before .read-row .result) (c .before .before .before .before .before .before .before .before .before .before .before .before .before .before .before .before .read-row .ensures) (past-three (c .before .before .before .before .before .before .before .before .before .before .before .before .before .before .before .before .read-row .result .kind) (c .before .before .before .before .before .before .before .before .before .before .before .before .before .before .if2 .left) (c .before .before .before .before .before .before .before .before .before .before .before .before .if3 .left)))) (c .before .before .before .before .before .before .before .negated-image .ensures .above) }
 
--- src/cycle.rt:200:9
+-- src/cycle.rt:243:9
 negated-image-up-equivalent-requires : (t : ℕ) → negated-image-up-lts.Need-equivalent-requires (read-row-reads.Asked, read-row-reads.Learnt, leaf-reads.Asked, leaf-reads.Learnt, negated-image-below t, negated-image.Post, equivalent-below t, equivalent.Post, join-reads.Asked, join-reads.Learnt) (negated-image-up-at t) negated-image-up.Post
 negated-image-up-equivalent-requires t c κs = (omega (arith, c .before .before .before .before .before .before .before .before .before .before .before .before .before .before .before .before .before .before .before .before .before .before .before .before .before .before .before .pre .0), asks-second (c .before .before .before .before .before .before .before .before .before .before .before .before .before .before .before .before .before .before .before .before .before .before .before .before .before .before .before .args .frame) (c .before .before .before .before .before .before .before .before .before .before .before .before .before .before .before .before .before .before .before .before .before .before .before .before .before .before .before .args .formulas .now) (c .before .before .before .before .before .before .before .before .before .before .before .before .before .before .before .before .before .before .before .before .before .before .before .before .before .before .before .args .scratch .now) (c .before .before .before .before .before .before .before .before .before .before .before .before .before .before .before .before .before .before .before .before .before .before .before .before .before .before .before .args .j) (c .before .before .before .before .before .before .before .before .before .before .before .before .before .before .before .before .before .before .before .before .before .before .before .before .before .before .before .pre .1 .row) (c .before .before .before .before .before .before .before .before .before .before .before .before .before .before .before .before .before .before .before .before .before .read-row .result) (c .before .before .before .before .before .before .before .before .before .before .before .before .before .before .before .before .before .before .before .before .before .read-row .ensures) (c .before .before .before .before .before .before .before .before .before .before .before .before .before .before .before .before .before .before .before .before .before .before .before .before .before .before .before .pre .1) (c .before .before .before .before .before .before .before .before .before .before .before .before .before .before .before .before .before .before .before .before .before .before .if1 .left) (past-three (c .before .before .before .before .before .before .before .before .before .before .before .before .before .before .before .before .before .before .before .before .before .read-row .result .kind) (c .before .before .before .before .before .before .before .before .before .before .before .before .before .before .before .before .before .before .before .if2 .left) (c .before .before .before .before .before .before .before .before .before .before .before .before .before .before .before .before .before .if3 .left)) (c .before .before .before .before .before .before .before .before .before .before .before .before .negated-image .ensures .images) (c .before .before .before .before .before .if4 .left) (c .before .before .before .before .before .before .before .before .before .before .before .before .negated-image .kept .1 .1 .1 .1 .1 .1 .0))
 
--- src/cycle.rt:200:9
+-- src/cycle.rt:243:9
 negated-image-up-same-length-6 : (t : ℕ) → negated-image-up-lts.Need-same-length-6 (read-row-reads.Asked, read-row-reads.Learnt, leaf-reads.Asked, leaf-reads.Learnt, negated-image-below t, negated-image.Post, equivalent-below t, equivalent.Post, join-reads.Asked, join-reads.Learnt) (negated-image-up-at t) negated-image-up.Post
 negated-image-up-same-length-6 t c = c .before .before .before .before .before .before .equivalent .kept .1 .1 .1 .1 .1 .1 .1 .0 ∙ c .before .before .before .before .before .before .before .before .before .before .before .before .before .before .before .before .before .before .before .negated-image .kept .1 .1 .1 .1 .0
 
--- src/cycle.rt:200:9
+-- src/cycle.rt:243:9
 negated-image-up-same-length-7 : (t : ℕ) → negated-image-up-lts.Need-same-length-7 (read-row-reads.Asked, read-row-reads.Learnt, leaf-reads.Asked, leaf-reads.Learnt, negated-image-below t, negated-image.Post, equivalent-below t, equivalent.Post, join-reads.Asked, join-reads.Learnt) (negated-image-up-at t) negated-image-up.Post
 negated-image-up-same-length-7 t c = c .before .before .before .before .before .before .equivalent .kept .1 .1 .1 .1 .1 .1 .1 .1 .0 ∙ c .before .before .before .before .before .before .before .before .before .before .before .before .before .before .before .before .before .before .before .negated-image .kept .1 .1 .1 .1 .1 .0
 
--- src/cycle.rt:200:9
+-- src/cycle.rt:243:9
 negated-image-up-same-length-8 : (t : ℕ) → negated-image-up-lts.Need-same-length-8 (read-row-reads.Asked, read-row-reads.Learnt, leaf-reads.Asked, leaf-reads.Learnt, negated-image-below t, negated-image.Post, equivalent-below t, equivalent.Post, join-reads.Asked, join-reads.Learnt) (negated-image-up-at t) negated-image-up.Post
 negated-image-up-same-length-8 t c = c .before .before .before .before .before .before .equivalent .kept .1 .1 .1 .1 .1 .1 .1 .1 .1 .0 ∙ c .before .before .before .before .before .before .before .before .before .before .before .before .before .before .before .before .before .before .before .negated-image .kept .1 .1 .1 .1 .1 .1 .0
 
--- src/cycle.rt:200:9
+-- src/cycle.rt:243:9
 negated-image-up-returns-5 : (t : ℕ) → negated-image-up-lts.Need-returns-5 (read-row-reads.Asked, read-row-reads.Learnt, leaf-reads.Asked, leaf-reads.Learnt, negated-image-below t, negated-image.Post, equivalent-below t, equivalent.Post, join-reads.Asked, join-reads.Learnt) (negated-image-up-at t) negated-image-up.Post
 negated-image-up-returns-5 t c = record { images = λ at entry memo x. up-equivalent negated (c .before .before .before .before .before .before .before .before .before .before .before .before .before .before .before .before .before .before .before .before .before .before .before .before .before .before .before .before .before .before .before .before .before .before .pre .1 .row) x (c .before .before .before .before .before .before .before .before .before .before .before .before .before .before .before .before .before .before .before .before .before .before .before .before .before .before .before .before .read-row .result) (c .before .before .before .before .before .before .before .before .before .before .before .before .before .before .before .before .before .before .before .before .before .before .before .before .before .before .before .before .read-row .ensures) (c .before .before .before .before .before .before .before .before .before .before .before .before .before .before .before .before .before .before .before .before .before .before .before .before .before .before .before .before .before .if1 .left) (past-three (c .before .before .before .before .before .before .before .before .before .before .before .before .before .before .before .before .before .before .before .before .before .before .before .before .before .before .before .before .read-row .result .kind) (c .before .before .before .before .before .before .before .before .before .before .before .before .before .before .before .before .before .before .before .before .before .before .before .before .before .before .if2 .left) (c .before .before .before .before .before .before .before .before .before .before .before .before .before .before .before .before .before .before .before .before .before .before .before .before .if3 .left)) (c .before .before .before .before .before .before .before .before .before .before .before .before .before .before .before .before .before .before .before .negated-image .ensures .images) (c .before .before .before .before .before .before .before .before .before .before .before .before .if4 .left) (c .before .before .before .before .before .before .before .before .before .before .if5 .taken) (c .before .before .before .before .before .before .equivalent .ensures .images); above = kept-then (kept-from (omega (arith, right-lower (c .before .before .before .before .before .before .before .before .before .before .before .before .before .before .before .before .before .before .before .before .before .before .before .before .before .before .before .before .before .before .before .before .before .before .args .frame) (c .before .before .before .before .before .before .before .before .before .before .before .before .before .before .before .before .before .before .before .before .before .before .before .before .before .before .before .before .before .before .before .before .before .before .args .formulas .now) (c .before .before .before .before .before .before .before .before .before .before .before .before .before .before .before .before .before .before .before .before .before .before .before .before .before .before .before .before .before .before .before .before .before .before .args .scratch .now) (c .before .before .before .before .before .before .before .before .before .before .before .before .before .before .before .before .before .before .before .before .before .before .before .before .before .before .before .before .before .before .before .before .before .before .args .j) (c .before .before .before .before .before .before .before .before .before .before .before .before .before .before .before .before .before .before .before .before .before .before .before .before .before .before .before .before .before .before .before .before .before .before .pre .1 .row) (c .before .before .before .before .before .before .before .before .before .before .before .before .before .before .before .before .before .before .before .before .before .before .before .before .before .before .before .before .read-row .result) (c .before .before .before .before .before .before .before .before .before .before .before .before .before .before .before .before .before .before .before .before .before .before .before .before .before .before .before .before .read-row .ensures) (past-three (c .before .before .before .before .before .before .before .before .before .before .before .before .before .before .before .before .before .before .before .before .before .before .before .before .before .before .before .before .read-row .result .kind) (c .before .before .before .before .before .before .before .before .before .before .before .before .before .before .before .before .before .before .before .before .before .before .before .before .before .before .if2 .left) (c .before .before .before .before .before .before .before .before .before .before .before .before .before .before .before .before .before .before .before .before .before .before .before .before .if3 .left)))) (c .before .before .before .before .before .before .before .before .before .before .before .before .before .before .before .before .before .before .before .negated-image .ensures .above)) (c .before .before .before .before .before .before .equivalent .ensures .above) }
 
--- src/cycle.rt:202:5
+-- src/cycle.rt:256:5
 negated-image-up-join-requires : (t : ℕ) → negated-image-up-lts.Need-join-requires (read-row-reads.Asked, read-row-reads.Learnt, leaf-reads.Asked, leaf-reads.Learnt, negated-image-below t, negated-image.Post, equivalent-below t, equivalent.Post, join-reads.Asked, join-reads.Learnt) (negated-image-up-at t) negated-image-up.Post
 negated-image-up-join-requires t c κs = asks-join (asks-second (c .before .before .before .before .before .before .before .before .before .before .before .before .before .before .before .before .before .before .before .before .before .before .before .before .before .before .args .frame) (c .before .before .before .before .before .before .before .before .before .before .before .before .before .before .before .before .before .before .before .before .before .before .before .before .before .before .args .formulas .now) (c .before .before .before .before .before .before .before .before .before .before .before .before .before .before .before .before .before .before .before .before .before .before .before .before .before .before .args .scratch .now) (c .before .before .before .before .before .before .before .before .before .before .before .before .before .before .before .before .before .before .before .before .before .before .before .before .before .before .args .j) (c .before .before .before .before .before .before .before .before .before .before .before .before .before .before .before .before .before .before .before .before .before .before .before .before .before .before .pre .1 .row) (c .before .before .before .before .before .before .before .before .before .before .before .before .before .before .before .before .before .before .before .before .read-row .result) (c .before .before .before .before .before .before .before .before .before .before .before .before .before .before .before .before .before .before .before .before .read-row .ensures) (c .before .before .before .before .before .before .before .before .before .before .before .before .before .before .before .before .before .before .before .before .before .before .before .before .before .before .pre .1) (c .before .before .before .before .before .before .before .before .before .before .before .before .before .before .before .before .before .before .before .before .before .if1 .left) (past-three (c .before .before .before .before .before .before .before .before .before .before .before .before .before .before .before .before .before .before .before .before .read-row .result .kind) (c .before .before .before .before .before .before .before .before .before .before .before .before .before .before .before .before .before .before .if2 .left) (c .before .before .before .before .before .before .before .before .before .before .before .before .before .before .before .before .if3 .left)) (c .before .before .before .before .before .before .before .before .before .before .before .negated-image .ensures .images) (c .before .before .before .before .if4 .left) (c .before .before .before .before .before .before .before .before .before .before .before .negated-image .kept .1 .1 .1 .1 .1 .1 .0))
 
--- src/cycle.rt:165:1
+-- src/cycle.rt:208:1
 negated-image-up-same-length-9 : (t : ℕ) → negated-image-up-lts.Need-same-length-9 (read-row-reads.Asked, read-row-reads.Learnt, leaf-reads.Asked, leaf-reads.Learnt, negated-image-below t, negated-image.Post, equivalent-below t, equivalent.Post, join-reads.Asked, join-reads.Learnt) (negated-image-up-at t) negated-image-up.Post
 negated-image-up-same-length-9 t c = c .before .before .join .kept .0 ∙ c .before .before .before .before .before .before .before .before .before .before .before .before .before .before .negated-image .kept .1 .1 .1 .1 .0
 
--- src/cycle.rt:165:1
+-- src/cycle.rt:208:1
 negated-image-up-same-length-10 : (t : ℕ) → negated-image-up-lts.Need-same-length-10 (read-row-reads.Asked, read-row-reads.Learnt, leaf-reads.Asked, leaf-reads.Learnt, negated-image-below t, negated-image.Post, equivalent-below t, equivalent.Post, join-reads.Asked, join-reads.Learnt) (negated-image-up-at t) negated-image-up.Post
 negated-image-up-same-length-10 t c = c .before .before .before .before .before .before .before .before .before .before .before .before .before .before .negated-image .kept .1 .1 .1 .1 .1 .0
 
--- src/cycle.rt:165:1
+-- src/cycle.rt:208:1
 negated-image-up-same-length-11 : (t : ℕ) → negated-image-up-lts.Need-same-length-11 (read-row-reads.Asked, read-row-reads.Learnt, leaf-reads.Asked, leaf-reads.Learnt, negated-image-below t, negated-image.Post, equivalent-below t, equivalent.Post, join-reads.Asked, join-reads.Learnt) (negated-image-up-at t) negated-image-up.Post
 negated-image-up-same-length-11 t c = c .before .before .before .before .before .before .before .before .before .before .before .before .before .before .negated-image .kept .1 .1 .1 .1 .1 .1 .0
 
--- src/cycle.rt:165:1
+-- src/cycle.rt:208:1
 negated-image-up-returns-6 : (t : ℕ) → negated-image-up-lts.Need-returns-6 (read-row-reads.Asked, read-row-reads.Learnt, leaf-reads.Asked, leaf-reads.Learnt, negated-image-below t, negated-image.Post, equivalent-below t, equivalent.Post, join-reads.Asked, join-reads.Learnt) (negated-image-up-at t) negated-image-up.Post
 negated-image-up-returns-6 t c = record { images = λ at entry memo x. up-join negated (c .before .before .before .before .before .before .before .before .before .before .before .before .before .before .before .before .before .before .before .before .before .before .before .before .before .before .before .before .before .pre .1 .row) x (c .before .before .before .before .before .before .before .before .before .before .before .before .before .before .before .before .before .before .before .before .before .before .before .read-row .result) (c .before .before .before .before .before .before .before .before .before .before .before .before .before .before .before .before .before .before .before .before .before .before .before .read-row .ensures) (c .before .before .before .before .before .before .before .before .before .before .before .before .before .before .before .before .before .before .before .before .before .before .before .before .if1 .left) (past-three (c .before .before .before .before .before .before .before .before .before .before .before .before .before .before .before .before .before .before .before .before .before .before .before .read-row .result .kind) (c .before .before .before .before .before .before .before .before .before .before .before .before .before .before .before .before .before .before .before .before .before .if2 .left) (c .before .before .before .before .before .before .before .before .before .before .before .before .before .before .before .before .before .before .before .if3 .left)) (c .before .before .before .before .before .before .before .before .before .before .before .before .before .before .negated-image .ensures .images) (c .before .before .before .before .before .before .before .if4 .left) (c .before .before .before .before .before .if5 .left) (c .before .before .join .ensures _ (c .before .before .before .before .before .before .before .before .before .before .before .before .before .before .negated-image .ensures .images .builds .done (c .before .before .before .before .before .before .before .if4 .left) .ready)); above = kept-from (omega (arith, right-lower (c .before .before .before .before .before .before .before .before .before .before .before .before .before .before .before .before .before .before .before .before .before .before .before .before .before .before .before .before .before .args .frame) (c .before .before .before .before .before .before .before .before .before .before .before .before .before .before .before .before .before .before .before .before .before .before .before .before .before .before .before .before .before .args .formulas .now) (c .before .before .before .before .before .before .before .before .before .before .before .before .before .before .before .before .before .before .before .before .before .before .before .before .before .before .before .before .before .args .scratch .now) (c .before .before .before .before .before .before .before .before .before .before .before .before .before .before .before .before .before .before .before .before .before .before .before .before .before .before .before .before .before .args .j) (c .before .before .before .before .before .before .before .before .before .before .before .before .before .before .before .before .before .before .before .before .before .before .before .before .before .before .before .before .before .pre .1 .row) (c .before .before .before .before .before .before .before .before .before .before .before .before .before .before .before .before .before .before .before .before .before .before .before .read-row .result) (c .before .before .before .before .before .before .before .before .before .before .before .before .before .before .before .before .before .before .before .before .before .before .before .read-row .ensures) (past-three (c .before .before .before .before .before .before .before .before .before .before .before .before .before .before .before .before .before .before .before .before .before .before .before .read-row .result .kind) (c .before .before .before .before .before .before .before .before .before .before .before .before .before .before .before .before .before .before .before .before .before .if2 .left) (c .before .before .before .before .before .before .before .before .before .before .before .before .before .before .before .before .before .before .before .if3 .left)))) (c .before .before .before .before .before .before .before .before .before .before .before .before .before .before .negated-image .ensures .above) }
 
--- src/cycle.rt:281:9
+-- src/cycle.rt:364:9
 operand-negated-image-requires : (t : ℕ) → operand-lts.Need-negated-image-requires (negated-image-below t, negated-image.Post, image-below t, image.Post) (operand-at t) operand.Post
 operand-negated-image-requires t c κs = (omega (arith, c .before .before .before .before .before .before .before .before .pre .0), c .before .before .before .before .before .before .before .before .pre .1)
 
--- src/cycle.rt:281:9
+-- src/cycle.rt:364:9
 operand-same-length : (t : ℕ) → operand-lts.Need-same-length (negated-image-below t, negated-image.Post, image-below t, image.Post) (operand-at t) operand.Post
 operand-same-length t c = c .before .before .before .before .before .before .negated-image .kept .1 .1 .1 .1 .0
 
--- src/cycle.rt:281:9
+-- src/cycle.rt:364:9
 operand-same-length-2 : (t : ℕ) → operand-lts.Need-same-length-2 (negated-image-below t, negated-image.Post, image-below t, image.Post) (operand-at t) operand.Post
 operand-same-length-2 t c = c .before .before .before .before .before .before .negated-image .kept .1 .1 .1 .1 .1 .0
 
--- src/cycle.rt:281:9
+-- src/cycle.rt:364:9
 operand-same-length-3 : (t : ℕ) → operand-lts.Need-same-length-3 (negated-image-below t, negated-image.Post, image-below t, image.Post) (operand-at t) operand.Post
 operand-same-length-3 t c = c .before .before .before .before .before .before .negated-image .kept .1 .1 .1 .1 .1 .1 .0
 
--- src/cycle.rt:281:9
+-- src/cycle.rt:364:9
 operand-returns : (t : ℕ) → operand-lts.Need-returns (negated-image-below t, negated-image.Post, image-below t, image.Post) (operand-at t) operand.Post
 operand-returns t c = rw (c .before .before .before .before .before .before .before .before .before .before .if1 .taken) (c .before .before .before .before .before .before .negated-image .ensures)
 
--- src/cycle.rt:283:5
+-- src/cycle.rt:366:5
 operand-image-requires : (t : ℕ) → operand-lts.Need-image-requires (negated-image-below t, negated-image.Post, image-below t, image.Post) (operand-at t) operand.Post
 operand-image-requires t c κs = (omega (arith, c .before .before .before .before .before .before .before .before .pre .0), c .before .before .before .before .before .before .before .before .pre .1)
 
--- src/cycle.rt:267:1
+-- src/cycle.rt:350:1
 operand-same-length-4 : (t : ℕ) → operand-lts.Need-same-length-4 (negated-image-below t, negated-image.Post, image-below t, image.Post) (operand-at t) operand.Post
 operand-same-length-4 t c = c .before .before .before .before .before .before .image .kept .1 .1 .1 .1 .0
 
--- src/cycle.rt:267:1
+-- src/cycle.rt:350:1
 operand-same-length-5 : (t : ℕ) → operand-lts.Need-same-length-5 (negated-image-below t, negated-image.Post, image-below t, image.Post) (operand-at t) operand.Post
 operand-same-length-5 t c = c .before .before .before .before .before .before .image .kept .1 .1 .1 .1 .1 .0
 
--- src/cycle.rt:267:1
+-- src/cycle.rt:350:1
 operand-same-length-6 : (t : ℕ) → operand-lts.Need-same-length-6 (negated-image-below t, negated-image.Post, image-below t, image.Post) (operand-at t) operand.Post
 operand-same-length-6 t c = c .before .before .before .before .before .before .image .kept .1 .1 .1 .1 .1 .1 .0
 
--- src/cycle.rt:267:1
+-- src/cycle.rt:350:1
 operand-returns-2 : (t : ℕ) → operand-lts.Need-returns-2 (negated-image-below t, negated-image.Post, image-below t, image.Post) (operand-at t) operand.Post
 operand-returns-2 t c = rw (c .before .before .before .before .before .before .before .before .before .before .if1 .left) (c .before .before .before .before .before .before .image .ensures)
 
--- src/cycle.rt:250:9
+-- src/cycle.rt:314:9
 pair-read-row-requires : (t : ℕ) → pair-lts.Need-read-row-requires (read-row-reads.Asked, read-row-reads.Learnt, negated-image-below t, negated-image.Post, operand-below t, operand.Post, join-reads.Asked, join-reads.Learnt) (pair-at t) pair.Post
 pair-read-row-requires t c κs = omega (arith, c .before .before .before .before .pre .1 .asks .source .words, c .before .before .before .before .pre .1 .asks .formula)
 
--- src/cycle.rt:251:37
+-- src/cycle.rt:315:37
 pair-cast-negated-image : (t : ℕ) → pair-lts.Need-cast-negated-image (read-row-reads.Asked, read-row-reads.Learnt, negated-image-below t, negated-image.Post, operand-below t, operand.Post, join-reads.Asked, join-reads.Learnt) (pair-at t) pair.Post
 pair-cast-negated-image t c = search needs
 
--- src/cycle.rt:251:9
+-- src/cycle.rt:315:9
 pair-negated-image-requires : (t : ℕ) → pair-lts.Need-negated-image-requires (read-row-reads.Asked, read-row-reads.Learnt, negated-image-below t, negated-image.Post, operand-below t, operand.Post, join-reads.Asked, join-reads.Learnt) (pair-at t) pair.Post
 pair-negated-image-requires t c κs = (omega (arith, c .before .before .before .before .before .before .before .before .before .pre .0, pair-left (c .before .before .before .before .before .before .before .before .before .pre .1) (c .before .before .before .before .read-row .ensures)), asks-lower (c .before .before .before .before .before .before .before .before .before .pre .1 .asks) (pair-left (c .before .before .before .before .before .before .before .before .before .pre .1) (c .before .before .before .before .read-row .ensures)))
 
--- src/cycle.rt:253:9
+-- src/cycle.rt:317:9
 pair-same-length : (t : ℕ) → pair-lts.Need-same-length (read-row-reads.Asked, read-row-reads.Learnt, negated-image-below t, negated-image.Post, operand-below t, operand.Post, join-reads.Asked, join-reads.Learnt) (pair-at t) pair.Post
 pair-same-length t c = c .before .before .before .before .before .before .before .negated-image .kept .1 .1 .1 .1 .0
 
--- src/cycle.rt:253:9
+-- src/cycle.rt:317:9
 pair-same-length-2 : (t : ℕ) → pair-lts.Need-same-length-2 (read-row-reads.Asked, read-row-reads.Learnt, negated-image-below t, negated-image.Post, operand-below t, operand.Post, join-reads.Asked, join-reads.Learnt) (pair-at t) pair.Post
 pair-same-length-2 t c = c .before .before .before .before .before .before .before .negated-image .kept .1 .1 .1 .1 .1 .0
 
--- src/cycle.rt:253:9
+-- src/cycle.rt:317:9
 pair-same-length-3 : (t : ℕ) → pair-lts.Need-same-length-3 (read-row-reads.Asked, read-row-reads.Learnt, negated-image-below t, negated-image.Post, operand-below t, operand.Post, join-reads.Asked, join-reads.Learnt) (pair-at t) pair.Post
 pair-same-length-3 t c = c .before .before .before .before .before .before .before .negated-image .kept .1 .1 .1 .1 .1 .1 .0
 
--- src/cycle.rt:253:9
+-- src/cycle.rt:317:9
 pair-returns : (t : ℕ) → pair-lts.Need-returns (read-row-reads.Asked, read-row-reads.Learnt, negated-image-below t, negated-image.Post, operand-below t, operand.Post, join-reads.Asked, join-reads.Learnt) (pair-at t) pair.Post
 pair-returns t c = record { images = images-as (pair-read (c .before .before .before .before .before .before .before .before .before .before .before .before .before .before .before .before .before .pre .1) (c .before .before .before .before .before .before .before .before .before .before .before .before .read-row .ensures) (c .before .before .before .before .before .before .before .before .before .before .before .before .before .before .before .before .before .args .crossed)) (pair-left-full plain (steady-image-at (c .before .before .before .before .before .before .before .before .before .before .before .before .before .before .before .before .before .args .frame) (c .before .before .before .before .before .before .before .before .before .before .before .before .before .before .before .before .before .args .formulas .now) (side (not (c .before .before .before .before .before .before .before .before .before .before .before .before .before .before .before .before .before .args .crossed))) (c .before .before .before .before .before .before .before .before .before .before .before .before .read-row .result .b)) (c .before .before .before .before .before .before .before .negated-image .ensures .images) (c .if1 .taken)); above = kept-from (omega (arith, pair-left (c .before .before .before .before .before .before .before .before .before .before .before .before .before .before .before .before .before .pre .1) (c .before .before .before .before .before .before .before .before .before .before .before .before .read-row .ensures))) (c .before .before .before .before .before .before .before .negated-image .ensures .above) }
 
--- src/cycle.rt:259:31
+-- src/cycle.rt:325:9
 pair-cast-operand : (t : ℕ) → pair-lts.Need-cast-operand (read-row-reads.Asked, read-row-reads.Learnt, negated-image-below t, negated-image.Post, operand-below t, operand.Post, join-reads.Asked, join-reads.Learnt) (pair-at t) pair.Post
 pair-cast-operand t c = search needs
 
--- src/cycle.rt:259:9
+-- src/cycle.rt:323:9
 pair-operand-requires : (t : ℕ) → pair-lts.Need-operand-requires (read-row-reads.Asked, read-row-reads.Learnt, negated-image-below t, negated-image.Post, operand-below t, operand.Post, join-reads.Asked, join-reads.Learnt) (pair-at t) pair.Post
 pair-operand-requires t c κs = (omega (arith, c .before .before .before .before .before .before .before .before .before .before .before .before .before .before .before .before .before .before .before .before .before .pre .0, pair-right (c .before .before .before .before .before .before .before .before .before .before .before .before .before .before .before .before .before .before .before .before .before .pre .1) (c .before .before .before .before .before .before .before .before .before .before .before .before .before .before .before .before .read-row .ensures)), asks-next (c .before .before .before .before .before .before .before .before .before .before .before .before .before .before .before .before .read-row .result .b) (c .before .before .before .before .before .before .before .before .before .before .before .before .before .before .before .before .before .before .before .before .before .pre .1 .asks) (c .before .before .before .before .before .before .before .before .before .before .before .negated-image .ensures .images) (c .before .before .before .before .if1 .left) (c .before .before .before .before .before .before .before .before .before .before .before .negated-image .kept .1 .1 .1 .1 .1 .1 .0) (omega (arith, pair-right (c .before .before .before .before .before .before .before .before .before .before .before .before .before .before .before .before .before .before .before .before .before .pre .1) (c .before .before .before .before .before .before .before .before .before .before .before .before .before .before .before .before .read-row .ensures), c .before .before .before .before .before .before .before .before .before .before .before .before .before .before .before .before .before .before .before .before .before .pre .1 .asks .formula)))
 
--- src/cycle.rt:261:9
+-- src/cycle.rt:334:9
 pair-same-length-4 : (t : ℕ) → pair-lts.Need-same-length-4 (read-row-reads.Asked, read-row-reads.Learnt, negated-image-below t, negated-image.Post, operand-below t, operand.Post, join-reads.Asked, join-reads.Learnt) (pair-at t) pair.Post
 pair-same-length-4 t c = c .before .before .before .before .before .before .before .operand .kept .1 .1 .1 .1 .1 .0 ∙ c .before .before .before .before .before .before .before .before .before .before .before .before .before .before .before .before .before .before .before .negated-image .kept .1 .1 .1 .1 .0
 
--- src/cycle.rt:261:9
+-- src/cycle.rt:334:9
 pair-same-length-5 : (t : ℕ) → pair-lts.Need-same-length-5 (read-row-reads.Asked, read-row-reads.Learnt, negated-image-below t, negated-image.Post, operand-below t, operand.Post, join-reads.Asked, join-reads.Learnt) (pair-at t) pair.Post
 pair-same-length-5 t c = c .before .before .before .before .before .before .before .operand .kept .1 .1 .1 .1 .1 .1 .0 ∙ c .before .before .before .before .before .before .before .before .before .before .before .before .before .before .before .before .before .before .before .negated-image .kept .1 .1 .1 .1 .1 .0
 
--- src/cycle.rt:261:9
+-- src/cycle.rt:334:9
 pair-same-length-6 : (t : ℕ) → pair-lts.Need-same-length-6 (read-row-reads.Asked, read-row-reads.Learnt, negated-image-below t, negated-image.Post, operand-below t, operand.Post, join-reads.Asked, join-reads.Learnt) (pair-at t) pair.Post
 pair-same-length-6 t c = c .before .before .before .before .before .before .before .operand .kept .1 .1 .1 .1 .1 .1 .1 .0 ∙ c .before .before .before .before .before .before .before .before .before .before .before .before .before .before .before .before .before .before .before .negated-image .kept .1 .1 .1 .1 .1 .1 .0
 
--- src/cycle.rt:261:9
+-- src/cycle.rt:334:9
 pair-returns-2 : (t : ℕ) → pair-lts.Need-returns-2 (read-row-reads.Asked, read-row-reads.Learnt, negated-image-below t, negated-image.Post, operand-below t, operand.Post, join-reads.Asked, join-reads.Learnt) (pair-at t) pair.Post
 pair-returns-2 t c = record { images = images-as (pair-read (c .before .before .before .before .before .before .before .before .before .before .before .before .before .before .before .before .before .before .before .before .before .before .before .before .before .before .before .before .before .pre .1) (c .before .before .before .before .before .before .before .before .before .before .before .before .before .before .before .before .before .before .before .before .before .before .before .before .read-row .ensures) (c .before .before .before .before .before .before .before .before .before .before .before .before .before .before .before .before .before .before .before .before .before .before .before .before .before .before .before .before .before .args .crossed)) (pair-right-full plain (steady-image-at (c .before .before .before .before .before .before .before .before .before .before .before .before .before .before .before .before .before .before .before .before .before .before .before .before .before .before .before .before .before .args .frame) (c .before .before .before .before .before .before .before .before .before .before .before .before .before .before .before .before .before .before .before .before .before .before .before .before .before .before .before .before .before .args .formulas .now) (side (not (c .before .before .before .before .before .before .before .before .before .before .before .before .before .before .before .before .before .before .before .before .before .before .before .before .before .before .before .before .before .args .crossed))) (c .before .before .before .before .before .before .before .before .before .before .before .before .before .before .before .before .before .before .before .before .before .before .before .before .read-row .result .b)) (c .before .before .before .before .before .before .before .before .before .before .before .before .before .before .before .before .before .before .before .negated-image .ensures .images) (c .before .before .before .before .before .before .before .before .before .before .before .before .if1 .left) (c .before .before .before .before .before .before .before .operand .ensures .images) (c .if2 .taken)); above = kept-then (kept-from (omega (arith, pair-left (c .before .before .before .before .before .before .before .before .before .before .before .before .before .before .before .before .before .before .before .before .before .before .before .before .before .before .before .before .before .pre .1) (c .before .before .before .before .before .before .before .before .before .before .before .before .before .before .before .before .before .before .before .before .before .before .before .before .read-row .ensures))) (c .before .before .before .before .before .before .before .before .before .before .before .before .before .before .before .before .before .before .before .negated-image .ensures .above)) (kept-from (omega (arith, pair-right (c .before .before .before .before .before .before .before .before .before .before .before .before .before .before .before .before .before .before .before .before .before .before .before .before .before .before .before .before .before .pre .1) (c .before .before .before .before .before .before .before .before .before .before .before .before .before .before .before .before .before .before .before .before .before .before .before .before .read-row .ensures))) (c .before .before .before .before .before .before .before .operand .ensures .above)) }
 
--- src/cycle.rt:263:5
+-- src/cycle.rt:336:5
 pair-join-requires : (t : ℕ) → pair-lts.Need-join-requires (read-row-reads.Asked, read-row-reads.Learnt, negated-image-below t, negated-image.Post, operand-below t, operand.Post, join-reads.Asked, join-reads.Learnt) (pair-at t) pair.Post
 pair-join-requires t c κs = join-asks ((c .before .before .before .before .before .before .before .before .before .before .before .before .before .before .before .before .before .before .before .before .negated-image .ensures .images) .builds) (c .before .before .before .before .before .before .before .before .before .before .before .before .before .if1 .left) ((c .before .before .before .before .before .before .before .before .operand .ensures .images) .builds) (c .before .if2 .left)
 
--- src/cycle.rt:237:1
+-- src/cycle.rt:301:1
 pair-same-length-7 : (t : ℕ) → pair-lts.Need-same-length-7 (read-row-reads.Asked, read-row-reads.Learnt, negated-image-below t, negated-image.Post, operand-below t, operand.Post, join-reads.Asked, join-reads.Learnt) (pair-at t) pair.Post
 pair-same-length-7 t c = c .before .before .join .kept .0 ∙ c .before .before .before .before .before .before .before .before .before .before .before .operand .kept .1 .1 .1 .1 .1 .0 ∙ c .before .before .before .before .before .before .before .before .before .before .before .before .before .before .before .before .before .before .before .before .before .before .before .negated-image .kept .1 .1 .1 .1 .0
 
--- src/cycle.rt:237:1
+-- src/cycle.rt:301:1
 pair-same-length-8 : (t : ℕ) → pair-lts.Need-same-length-8 (read-row-reads.Asked, read-row-reads.Learnt, negated-image-below t, negated-image.Post, operand-below t, operand.Post, join-reads.Asked, join-reads.Learnt) (pair-at t) pair.Post
 pair-same-length-8 t c = c .before .before .before .before .before .before .before .before .before .before .before .operand .kept .1 .1 .1 .1 .1 .1 .0 ∙ c .before .before .before .before .before .before .before .before .before .before .before .before .before .before .before .before .before .before .before .before .before .before .before .negated-image .kept .1 .1 .1 .1 .1 .0
 
--- src/cycle.rt:237:1
+-- src/cycle.rt:301:1
 pair-same-length-9 : (t : ℕ) → pair-lts.Need-same-length-9 (read-row-reads.Asked, read-row-reads.Learnt, negated-image-below t, negated-image.Post, operand-below t, operand.Post, join-reads.Asked, join-reads.Learnt) (pair-at t) pair.Post
 pair-same-length-9 t c = c .before .before .before .before .before .before .before .before .before .before .before .operand .kept .1 .1 .1 .1 .1 .1 .1 .0 ∙ c .before .before .before .before .before .before .before .before .before .before .before .before .before .before .before .before .before .before .before .before .before .before .before .negated-image .kept .1 .1 .1 .1 .1 .1 .0
 
--- src/cycle.rt:237:1
+-- src/cycle.rt:301:1
 pair-returns-3 : (t : ℕ) → pair-lts.Need-returns-3 (read-row-reads.Asked, read-row-reads.Learnt, negated-image-below t, negated-image.Post, operand-below t, operand.Post, join-reads.Asked, join-reads.Learnt) (pair-at t) pair.Post
 pair-returns-3 t c = record { images = images-as (pair-read (c .before .before .before .before .before .before .before .before .before .before .before .before .before .before .before .before .before .before .before .before .before .before .before .before .before .before .before .before .before .before .before .before .before .pre .1) (c .before .before .before .before .before .before .before .before .before .before .before .before .before .before .before .before .before .before .before .before .before .before .before .before .before .before .before .before .read-row .ensures) (c .before .before .before .before .before .before .before .before .before .before .before .before .before .before .before .before .before .before .before .before .before .before .before .before .before .before .before .before .before .before .before .before .before .args .crossed)) (pair-done plain (steady-image-at (c .before .before .before .before .before .before .before .before .before .before .before .before .before .before .before .before .before .before .before .before .before .before .before .before .before .before .before .before .before .before .before .before .before .args .frame) (c .before .before .before .before .before .before .before .before .before .before .before .before .before .before .before .before .before .before .before .before .before .before .before .before .before .before .before .before .before .before .before .before .before .args .formulas .now) (side (not (c .before .before .before .before .before .before .before .before .before .before .before .before .before .before .before .before .before .before .before .before .before .before .before .before .before .before .before .before .before .before .before .before .before .args .crossed))) (c .before .before .before .before .before .before .before .before .before .before .before .before .before .before .before .before .before .before .before .before .before .before .before .before .before .before .before .before .read-row .result .b)) (c .before .before .before .before .before .before .before .before .before .before .before .before .before .before .before .before .before .before .before .before .before .before .before .negated-image .ensures .images) (c .before .before .before .before .before .before .before .before .before .before .before .before .before .before .before .before .if1 .left) (c .before .before .before .before .before .before .before .before .before .before .before .operand .ensures .images) (c .before .before .before .before .if2 .left) (c .before .before .join .ensures _ ((c .before .before .before .before .before .before .before .before .before .before .before .operand .ensures .images) .builds .done (c .before .before .before .before .if2 .left) .ready))); above = kept-then (kept-from (omega (arith, pair-left (c .before .before .before .before .before .before .before .before .before .before .before .before .before .before .before .before .before .before .before .before .before .before .before .before .before .before .before .before .before .before .before .before .before .pre .1) (c .before .before .before .before .before .before .before .before .before .before .before .before .before .before .before .before .before .before .before .before .before .before .before .before .before .before .before .before .read-row .ensures))) (c .before .before .before .before .before .before .before .before .before .before .before .before .before .before .before .before .before .before .before .before .before .before .before .negated-image .ensures .above)) (kept-from (omega (arith, pair-right (c .before .before .before .before .before .before .before .before .before .before .before .before .before .before .before .before .before .before .before .before .before .before .before .before .before .before .before .before .before .before .before .before .before .pre .1) (c .before .before .before .before .before .before .before .before .before .before .before .before .before .before .before .before .before .before .before .before .before .before .before .before .before .before .before .before .read-row .ensures))) (c .before .before .before .before .before .before .before .before .before .before .before .operand .ensures .above)) }
 
-pub +equivalent+image+image-start+image-up+negated-image+negated-image-start+negated-image-up+operand+pair-spec :
+pub +equivalent+image+image-anew+image-start+image-up+negated-image+negated-image-anew+negated-image-start+negated-image-up+operand+pair-spec :
     {M : Type 1} → statement M
-+equivalent+image+image-start+image-up+negated-image+negated-image-start+negated-image-up+operand+pair-spec =
++equivalent+image+image-anew+image-start+image-up+negated-image+negated-image-anew+negated-image-start+negated-image-up+operand+pair-spec =
     close
     μ-equivalent
     μ-image
+    μ-image-anew
     μ-image-start
     μ-image-up
     μ-negated-image
+    μ-negated-image-anew
     μ-negated-image-start
     μ-negated-image-up
     μ-operand
@@ -882,6 +960,23 @@ pub +equivalent+image+image-start+image-up+negated-image+negated-image-start+neg
       is-row-reads.Learnt,
       standing-reads.Asked,
       standing-reads.Learnt,
+      image-anew-below t,
+      image-anew.Post,
+    )
+    (image-at t)
+    image.Post
+    (image-mul-known t)
+    (image-slice-read-known t)
+    (image-is-row-requires t)
+    (image-sub-standing t)
+    (image-standing-requires t)
+    (image-returns t)
+    (image-image-anew-requires t)
+    (image-same-length t)
+    (image-same-length-2 t)
+    (image-same-length-3 t)
+    (image-returns-2 t))
+    (λ t. image-anew-lts.spec (
       descend-reads.Asked,
       descend-reads.Learnt,
       image-start-below t,
@@ -893,31 +988,25 @@ pub +equivalent+image+image-start+image-up+negated-image+negated-image-start+neg
       over-reads.Asked,
       over-reads.Learnt,
     )
-    (image-at t)
-    image.Post
-    image-Inv-loop
-    image-μ-loop
-    (image-mul-known t)
-    (image-slice-read-known t)
-    (image-is-row-requires t)
-    (image-sub-standing t)
-    (image-standing-requires t)
-    (image-returns t)
-    (image-descend-requires t)
-    (image-image-start-requires t)
-    (image-loop-holds t)
-    (image-mul-word t)
-    (image-slice-read-word t)
-    (image-cast-word t)
-    (image-image-up-requires t)
-    (image-note-requires t)
-    (image-over-requires t)
-    (image-loop-less t)
-    (image-loop-again t)
-    (image-same-length t)
-    (image-same-length-2 t)
-    (image-same-length-3 t)
-    (image-returns-2 t))
+    (image-anew-at t)
+    image-anew.Post
+    image-anew-Inv-loop
+    image-anew-μ-loop
+    (image-anew-descend-requires t)
+    (image-anew-image-start-requires t)
+    (image-anew-loop-holds t)
+    (image-anew-mul-word t)
+    (image-anew-slice-read-word t)
+    (image-anew-cast-word t)
+    (image-anew-image-up-requires t)
+    (image-anew-note-requires t)
+    (image-anew-over-requires t)
+    (image-anew-loop-less t)
+    (image-anew-loop-again t)
+    (image-anew-same-length t)
+    (image-anew-same-length-2 t)
+    (image-anew-same-length-3 t)
+    (image-anew-returns t))
     (λ t. image-start-lts.spec (
       read-row-reads.Asked,
       read-row-reads.Learnt,
@@ -990,6 +1079,24 @@ pub +equivalent+image+image-start+image-up+negated-image+negated-image-start+neg
       is-row-reads.Learnt,
       standing-reads.Asked,
       standing-reads.Learnt,
+      negated-image-anew-below t,
+      negated-image-anew.Post,
+    )
+    (negated-image-at t)
+    negated-image.Post
+    (negated-image-add-known t)
+    (negated-image-mul-known t)
+    (negated-image-slice-read-known t)
+    (negated-image-is-row-requires t)
+    (negated-image-sub-standing t)
+    (negated-image-standing-requires t)
+    (negated-image-returns t)
+    (negated-image-negated-image-anew-requires t)
+    (negated-image-same-length t)
+    (negated-image-same-length-2 t)
+    (negated-image-same-length-3 t)
+    (negated-image-returns-2 t))
+    (λ t. negated-image-anew-lts.spec (
       descend-reads.Asked,
       descend-reads.Learnt,
       negated-image-start-below t,
@@ -1001,33 +1108,26 @@ pub +equivalent+image+image-start+image-up+negated-image+negated-image-start+neg
       over-reads.Asked,
       over-reads.Learnt,
     )
-    (negated-image-at t)
-    negated-image.Post
-    negated-image-Inv-loop
-    negated-image-μ-loop
-    (negated-image-add-known t)
-    (negated-image-mul-known t)
-    (negated-image-slice-read-known t)
-    (negated-image-is-row-requires t)
-    (negated-image-sub-standing t)
-    (negated-image-standing-requires t)
-    (negated-image-returns t)
-    (negated-image-descend-requires t)
-    (negated-image-negated-image-start-requires t)
-    (negated-image-loop-holds t)
-    (negated-image-add-k t)
-    (negated-image-mul-word t)
-    (negated-image-slice-read-word t)
-    (negated-image-cast-word t)
-    (negated-image-negated-image-up-requires t)
-    (negated-image-note-requires t)
-    (negated-image-over-requires t)
-    (negated-image-loop-less t)
-    (negated-image-loop-again t)
-    (negated-image-same-length t)
-    (negated-image-same-length-2 t)
-    (negated-image-same-length-3 t)
-    (negated-image-returns-2 t))
+    (negated-image-anew-at t)
+    negated-image-anew.Post
+    negated-image-anew-Inv-loop
+    negated-image-anew-μ-loop
+    (negated-image-anew-descend-requires t)
+    (negated-image-anew-negated-image-start-requires t)
+    (negated-image-anew-loop-holds t)
+    (negated-image-anew-add-k t)
+    (negated-image-anew-mul-word t)
+    (negated-image-anew-slice-read-word t)
+    (negated-image-anew-cast-word t)
+    (negated-image-anew-negated-image-up-requires t)
+    (negated-image-anew-note-requires t)
+    (negated-image-anew-over-requires t)
+    (negated-image-anew-loop-less t)
+    (negated-image-anew-loop-again t)
+    (negated-image-anew-same-length t)
+    (negated-image-anew-same-length-2 t)
+    (negated-image-anew-same-length-3 t)
+    (negated-image-anew-returns t))
     (λ t. negated-image-start-lts.spec (
       read-row-reads.Asked,
       read-row-reads.Learnt,
