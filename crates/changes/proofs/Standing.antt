@@ -57,8 +57,9 @@ cleared-more {from} {k} {before} {l} h room c =
 pub asks-fresh :
     {frame : Frame} {formulas effects notes : List ℕ} {at : Size} {s : Store} {scratch : List ℕ} {e : ℕ} (t : Target)
     → StandsAt frame formulas effects notes at s scratch e
+    → t .variable < frame .variables
     → Asks frame formulas effects notes t at s scratch e
-asks-fresh {frame} t a =
+asks-fresh {frame} t a h =
     record {
       source = a .stands .source;
       effect-source = a .stands .effect-source;
@@ -67,9 +68,10 @@ asks-fresh {frame} t a =
       memo = a .stands .memo;
       effect-memo =
           record {
-            known = λ d r h q.
+            known = λ d r g q.
                 absurd (omega (arith, q, a .stands .clean (2 * frame .formulas + d) (omega arith)));
           };
+      variable = h;
       effect = a .effect;
     }
 
@@ -236,7 +238,7 @@ pub leaves-step :
 leaves-step steady n b = record { noted = λ q. noted-grows (done-grows steady (b .done q)) n }
 
 -- D, freed of conflict with A.
-module _ {notes : List ℕ} (frame : Frame) (formulas effects : List ℕ) (at : Size) (before : Store) (scratch : List ℕ) (e v a d : ℕ) (s : Deletes frame formulas effects notes at before scratch e d) where
+module _ {notes : List ℕ} (frame : Frame) (formulas effects : List ℕ) (at : Size) (before : Store) (scratch : List ℕ) (e v a d : ℕ) (s : Deletes frame formulas effects notes at before scratch e v d) where
   tree : Effect
   tree = effect-tree frame formulas effects e
 

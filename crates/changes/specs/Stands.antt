@@ -33,8 +33,9 @@ pub record StandsAt (frame : Frame) (formulas effects notes : List ℕ) (at : Si
   pub noted : Noted frame formulas effects notes (held at s)
   pub effect : e < frame .effects
 
-pub record Deletes (frame : Frame) (formulas effects notes : List ℕ) (at : Size) (s : Store) (scratch : List ℕ) (e d : ℕ) : Type 0 where
+pub record Deletes (frame : Frame) (formulas effects notes : List ℕ) (at : Size) (s : Store) (scratch : List ℕ) (e v d : ℕ) : Type 0 where
   pub stands : StandsAt frame formulas effects notes at s scratch e
+  pub variable : v < frame .variables
   pub row : d < at .rows
 
 -- A step leaves notes that are right, unless there was no room.

@@ -27,7 +27,7 @@ pub fn deletes(
     originals: &mut [u16],
     scratch: &mut [u16],
 ) -> Step
-    requires { ⌜ Deletes frame (now formulas) (now effects) (now notes) at (store (now table) (now originals)) (now scratch) e d ⌝ }
+    requires { ⌜ Deletes frame (now formulas) (now effects) (now notes) at (store (now table) (now originals)) (now scratch) e v d ⌝ }
     ensures { λ r. ⌜ Images (deletes-of (frame .variables) (effect-tree frame (now (formulas .entry)) (now (effects .entry)) e) v a d) frame (now (formulas .entry)) at (store (now (table .entry)) (now (originals .entry))) (store (now (table .exit)) (now (originals .exit))) (now (scratch .entry)) (now (scratch .exit)) r × Leaves (r .full) frame (now (formulas .entry)) (now (effects .entry)) (now (notes .exit)) (size-of r) (store (now (table .exit)) (now (originals .exit))) ⌝ }
 {
     if a == 0 {

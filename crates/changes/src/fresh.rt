@@ -40,7 +40,7 @@ pub fn condition_of(
     originals: &mut [u16],
     scratch: &mut [u16],
 ) -> Step
-    requires { ⌜ StandsAt frame (now formulas) (now effects) (now notes) at (store (now table) (now originals)) (now scratch) e ⌝ }
+    requires { ⌜ StandsAt frame (now formulas) (now effects) (now notes) at (store (now table) (now originals)) (now scratch) e × (t .variable < frame .variables) ⌝ }
     ensures { λ r. ⌜ Images (condition-at frame (now (formulas .entry)) (now (effects .entry)) t e) frame (now (formulas .entry)) at (store (now (table .entry)) (now (originals .entry))) (store (now (table .exit)) (now (originals .exit))) (now (scratch .entry)) (now (scratch .exit)) r × Leaves (r .full) frame (now (formulas .entry)) (now (effects .entry)) (now (notes .exit)) (size-of r) (store (now (table .exit)) (now (originals .exit))) ⌝ }
 {
     let r = condition(
@@ -74,7 +74,7 @@ pub fn condition_if(
     originals: &mut [u16],
     scratch: &mut [u16],
 ) -> Step
-    requires { ⌜ StandsAt frame (now formulas) (now effects) (now notes) at (store (now table) (now originals)) (now scratch) e × (named ≡ false → Unnamed frame (now formulas) (now effects) (t .clear) (t .variable) e) ⌝ }
+    requires { ⌜ StandsAt frame (now formulas) (now effects) (now notes) at (store (now table) (now originals)) (now scratch) e × (t .variable < frame .variables) × (named ≡ false → Unnamed frame (now formulas) (now effects) (t .clear) (t .variable) e) ⌝ }
     ensures { λ r. ⌜ Images (condition-at frame (now (formulas .entry)) (now (effects .entry)) t e) frame (now (formulas .entry)) at (store (now (table .entry)) (now (originals .entry))) (store (now (table .exit)) (now (originals .exit))) (now (scratch .entry)) (now (scratch .exit)) r × Leaves (r .full) frame (now (formulas .entry)) (now (effects .entry)) (now (notes .exit)) (size-of r) (store (now (table .exit)) (now (originals .exit))) ⌝ }
 {
     if named {

@@ -7,6 +7,7 @@ use formula_builder::Frame;
 use formula_builder::Size;
 ghost use mathlib.Core.Path.{_≡_};
 ghost use mathlib.Core.Bool.{true, false};
+ghost use Prim.Native.Nat.{_<_};
 ghost use Rattle.normal_form.specs.Operators.{changes-of};
 ghost use Rattle.formula_builder.specs.Held.{store};
 ghost use Rattle.conditions.specs.Conditions.{effect-tree, Unnamed};
@@ -28,7 +29,7 @@ pub fn change_of(
     originals: &mut [u16],
     scratch: &mut [u16],
 ) -> Change
-    requires { ⌜ StandsAt frame (now formulas) (now effects) (now notes) at (store (now table) (now originals)) (now scratch) e × (sets ≡ false → Unnamed frame (now formulas) (now effects) false v e) × (clears ≡ false → Unnamed frame (now formulas) (now effects) true v e) ⌝ }
+    requires { ⌜ StandsAt frame (now formulas) (now effects) (now notes) at (store (now table) (now originals)) (now scratch) e × (sets ≡ false → Unnamed frame (now formulas) (now effects) false v e) × (clears ≡ false → Unnamed frame (now formulas) (now effects) true v e) × (v < frame .variables) ⌝ }
     ensures { λ r. ⌜ Makes (changes-of (frame .variables) (effect-tree frame (now (formulas .entry)) (now (effects .entry)) e) v) frame (now (formulas .entry)) at (store (now (table .entry)) (now (originals .entry))) (store (now (table .exit)) (now (originals .exit))) (now (scratch .entry)) (now (scratch .exit)) (r .full) (size-after r) (made v r) × Leaves (r .full) frame (now (formulas .entry)) (now (effects .entry)) (now (notes .exit)) (size-after r) (store (now (table .exit)) (now (originals .exit))) ⌝ }
 {
     let set = Target {

@@ -2,7 +2,7 @@
 use Prim.Native.Nat.{ℕ, zero, suc, _+_, _-_, _≤_, _<_}
 use native.Mathlib.Omega.{arith}
 use mathlib.Core.Path.{_≡_, refl, sym, ap, _∙_}
-use mathlib.Core.Bool.{true, false}
+use mathlib.Core.Bool.{Bool, true, false}
 use mathlib.Core.List.{List}
 use lib.ListN.{length}
 use Rattle.task.specs.Table.{row-at}
@@ -15,7 +15,7 @@ use Rattle.images.proofs.Memos.{done-known}
 use Rattle.conditions.specs.declared.Target.{Target}
 use Rattle.conditions.specs.declared.Bottom.{Bottom}
 use Rattle.conditions.specs.Conditions.{condition-at, path-at, PathStays, Asks, Conditions}
-use Rattle.conditions.specs.Paths.{spine, onward, AsksSeen, Sees, Follows, Descent, AsksDescent, Descended, AsksBelow, AsksOnward, Climbs, Rising}
+use Rattle.conditions.specs.Paths.{spine, onward, entry-row, entry-right, Skips, AsksSeen, Sees, Follows, Descent, AsksDescent, Descended, AsksBelow, AsksOnward, Climbs, Rising}
 use Rattle.conditions.proofs.Rows.{of-spine}
 use Rattle.conditions.proofs.Notes.{steady-condition-at, looks, stays-refl, stays-trans, stays-fewer}
 use Rattle.conditions.proofs.Memos.{conditions-as, conditions-wider, asks-next, conditions-bind, conditions-stop, conditions-known}
@@ -31,8 +31,15 @@ asks-seen a = record { source = a .effect-source; looks = looks a refl; formulas
 pub asks-descent :
     {frame : Frame} {formulas effects notes : List ℕ} {t : Target} {at : Size} {before : Store} {scratch : List ℕ} {e from : ℕ}
     → AsksBelow frame formulas effects notes t at before scratch e from
-    → AsksDescent frame effects notes scratch e from
-asks-descent x = record { seen = asks-seen (x .asks); composed = x .composed; room = x .room }
+    → AsksDescent frame effects notes scratch t e from
+asks-descent x =
+    record {
+      seen = asks-seen (x .asks);
+      sets = x .asks .noted .sets;
+      variable = x .asks .variable;
+      composed = x .composed;
+      room = x .room;
+    }
 
 -- a row of which nothing is known names effects
 pub asks-below :
@@ -44,32 +51,41 @@ pub asks-below :
     → AsksBelow frame formulas effects notes t at before scratch e from
 asks-below from a s h room = record { asks = a; composed = s .composed (omega (arith, h)); room = room }
 
+-- the last entry: its row, and whether the way goes to the right
+abbrev row-over : Frame → List ℕ → ℕ → ℕ
+row-over frame notes depth = entry-row (path-at frame notes (depth - 1))
+
+abbrev right-over : Frame → List ℕ → ℕ → Bool
+right-over frame notes depth = entry-right (path-at frame notes (depth - 1))
+
 -- one entry less
 descent-up :
-    {frame : Frame} {effects notes : List ℕ} {from depth e i : ℕ}
-    → Descent frame effects notes from depth e i
+    {frame : Frame} {effects notes : List ℕ} {t : Target} {from depth e i : ℕ}
+    → Descent frame effects notes t from depth e i
     → from < depth
-    → Descent frame effects notes from (depth - 1) e (path-at frame notes (depth - 1))
+    → Descent frame effects notes t from (depth - 1) e (entry-row (path-at frame notes (depth - 1)))
 descent-up {depth = depth} x h =
     record {
       begins = omega (arith, h);
       last = x .entries (depth - 1) (omega (arith, h)) (omega (arith, h));
       entries = λ d g k. x .entries d g (omega (arith, k));
       composed = λ d g k. x .composed d g (omega (arith, k));
+      skips = λ d g k. x .skips d g (omega (arith, k));
     }
 
 -- the entries are read from their words alone
 descent-stays :
-    {frame : Frame} {effects notes notes' : List ℕ} {from depth e i : ℕ}
+    {frame : Frame} {effects notes notes' : List ℕ} {t : Target} {from depth e i : ℕ}
     → PathStays frame notes notes' depth
-    → Descent frame effects notes from depth e i
-    → Descent frame effects notes' from depth e i
-descent-stays {frame} {effects} {notes} {notes'} {from} {depth} {e} {i} s x =
+    → Descent frame effects notes t from depth e i
+    → Descent frame effects notes' t from depth e i
+descent-stays {frame} {effects} {notes} {notes'} {t} {from} {depth} {e} {i} s x =
     record {
       begins = x .begins;
       last = follows (omega arith) refl (x .last);
-      entries = λ d g h. follows (omega (arith, h)) (s .same d h) (x .entries d g h);
+      entries = λ d g h. follows (omega (arith, h)) (ap (λ v. entry-row v) (s .same d h)) (x .entries d g h);
       composed = λ d g h. rw (s .same d h) (x .composed d g h);
+      skips = λ d g h. rw (s .same d h) (x .skips d g h);
     }
   where
     follows :
@@ -77,33 +93,37 @@ descent-stays {frame} {effects} {notes} {notes'} {from} {depth} {e} {i} s x =
     follows {d} {j} {k} h same f =
         record {
           first = λ z. same ∙ f .first z;
-          next = λ g. same ∙ f .next g ∙ ap (spine effects) (sym (s .same (d - 1) (omega (arith, g, h))));
+          next = λ g.
+              same ∙ f .next g ∙ ap (λ v. spine effects (entry-right v) (entry-row v)) (sym (s .same (d - 1) (omega (arith, g, h))));
           falls = omega (arith, f .falls, same);
         }
 
 -- Up the path that begins with row e, with what building its condition asks.
 module _ {frame : Frame} {formulas effects notes : List ℕ} {t : Target} {at : Size} {before : Store} {scratch : List ℕ} {e from : ℕ} (a : AsksBelow frame formulas effects notes t at before scratch e from) where
   -- an entry and what is known of it
-  module _ {notes₁ : List ℕ} {depth i : ℕ} (x : Descent frame effects notes₁ from depth e i) (h : from < depth) where
-    pub entry-lower : path-at frame notes₁ (depth - 1) + (depth - 1) < frame .effects
+  module _ {notes₁ : List ℕ} {depth i : ℕ} (x : Descent frame effects notes₁ t from depth e i) (h : from < depth) where
+    pub entry-lower : row-over frame notes₁ depth + (depth - 1) < frame .effects
     entry-lower = omega (arith, x .entries (depth - 1) (omega (arith, h)) (omega (arith, h)) .falls, a .room)
 
-    pub entry-most : path-at frame notes₁ (depth - 1) ≤ e
+    pub entry-most : row-over frame notes₁ depth ≤ e
     entry-most = omega (arith, x .entries (depth - 1) (omega (arith, h)) (omega (arith, h)) .falls, h)
 
-    entry-composed : 3 ≤ row-at effects (path-at frame notes₁ (depth - 1)) .kind
+    entry-composed : 3 ≤ row-at effects (row-over frame notes₁ depth) .kind
     entry-composed = x .composed (depth - 1) (omega (arith, h)) (omega (arith, h))
 
+    entry-skips : Skips frame effects t (right-over frame notes₁ depth) (row-over frame notes₁ depth)
+    entry-skips = x .skips (depth - 1) (omega (arith, h)) (omega (arith, h))
+
     entry-read :
-        condition-at frame formulas effects t (path-at frame notes₁ (depth - 1))
-        ≡ bind (condition-at frame formulas effects t (spine effects (path-at frame notes₁ (depth - 1))))
-        (λ l. onward frame formulas effects t (path-at frame notes₁ (depth - 1)) l)
+        condition-at frame formulas effects t (row-over frame notes₁ depth)
+        ≡ bind (condition-at frame formulas effects t (spine effects (right-over frame notes₁ depth) (row-over frame notes₁ depth)))
+        (λ l. onward frame formulas effects t (right-over frame notes₁ depth) (row-over frame notes₁ depth) l)
     entry-read =
-        of-spine frame formulas effects scratch (a .asks .effect-source) (path-at frame notes₁ (depth - 1)) (omega (arith, entry-lower)) t
-        entry-composed
+        of-spine frame formulas effects scratch (a .asks .effect-source) (row-over frame notes₁ depth) (omega (arith, entry-lower)) t
+        (right-over frame notes₁ depth) entry-skips entry-composed
 
     spine-is :
-        condition-at frame formulas effects t (spine effects (path-at frame notes₁ (depth - 1))) ≡ condition-at frame formulas effects t i
+        condition-at frame formulas effects t (spine effects (right-over frame notes₁ depth) (row-over frame notes₁ depth)) ≡ condition-at frame formulas effects t i
     spine-is = ap (λ j. condition-at frame formulas effects t j) (sym (x .last .next h))
 
   -- The step is full: so it is for each entry above.
@@ -111,17 +131,18 @@ module _ {frame : Frame} {formulas effects notes : List ℕ} {t : Target} {at : 
       {notes₁ notes₂ : List ℕ} {after : Store} {s2 : List ℕ} {r : Step} (n depth i : ℕ)
       → depth ≡ from + n
       → r .full ≡ true
-      → Descent frame effects notes₁ from depth e i
+      → Descent frame effects notes₁ t from depth e i
       → Conditions (condition-at frame formulas effects t i) frame formulas effects notes₂ t e at before after scratch s2 r
       → Conditions (condition-at frame formulas effects t e) frame formulas effects notes₂ t e at before after scratch s2 r
   full-up zero depth i q g x y =
       conditions-as (ap (λ j. condition-at frame formulas effects t j) (sym (x .last .first (omega (arith, q))))) y
   full-up {notes₁ = notes₁} (suc n) depth i q g x y =
       let h : from < depth = omega (arith, q) in
-      let j = path-at frame notes₁ (depth - 1) in
+      let j = row-over frame notes₁ depth in
+      let right = right-over frame notes₁ depth in
       full-up n (depth - 1) j (omega (arith, q)) g (descent-up x h)
       (conditions-as (entry-read x h)
-      (conditions-stop (λ l. onward frame formulas effects t j l) (λ l. steady-onward frame formulas effects t j l)
+      (conditions-stop (λ l. onward frame formulas effects t right j l) (λ l. steady-onward frame formulas effects t right j l)
       (conditions-as (spine-is x h) y) g))
 
   -- The bottom's condition is known.
@@ -140,6 +161,7 @@ module _ {frame : Frame} {formulas effects notes : List ℕ} {t : Target} {at : 
         noted = x .noted formulas _ (a .asks .noted);
         memo = a .asks .memo;
         effect-memo = a .asks .effect-memo;
+        variable = a .asks .variable;
         effect = omega (arith, low, a .asks .effect);
       } in
       record {
@@ -174,38 +196,40 @@ module _ {frame : Frame} {formulas effects notes : List ℕ} {t : Target} {at : 
         }
 
     -- The next entry, i.
-    module _ (h : from < depth) {i : ℕ} (top : i ≡ path-at frame notes₁ (depth - 1)) where
-      pub rising-room : i + (depth - 1) < frame .effects
-      rising-room = omega (arith, top, entry-lower (x .descent) h)
+    module _ (h : from < depth) {w : ℕ} (top : w ≡ path-at frame notes₁ (depth - 1)) where
+      pub rising-room : entry-row w + (depth - 1) < frame .effects
+      rising-room = rw top (entry-lower (x .descent) h)
 
-      pub rising-falls : i ≤ e
-      rising-falls = omega (arith, top, entry-most (x .descent) h)
+      pub rising-falls : entry-row w ≤ e
+      rising-falls = rw top (entry-most (x .descent) h)
 
       pub rising-asks :
           length s1 ≡ length scratch
-          → AsksOnward frame formulas effects notes₁ t l mid s1 i (depth - 1)
+          → AsksOnward frame formulas effects notes₁ t l mid s1 (entry-right w) (entry-row w) (depth - 1)
       rising-asks long =
           rw top
           (record {
             below =
                 record {
-                  asks = asks-next (path-at frame notes₁ (depth - 1)) (a .asks) (x .climbs .conditions) (x .going) long (omega (arith, entry-lower (x .descent) h));
+                  asks = asks-next (row-over frame notes₁ depth) (a .asks) (x .climbs .conditions) (x .going) long (omega (arith, entry-lower (x .descent) h));
                   composed = entry-composed (x .descent) h;
                   room = entry-lower (x .descent) h;
                 };
             going = x .going;
+            skips = entry-skips (x .descent) h;
             known =
                 rw (sym (x .descent .last .next h))
                 (done-known (steady-condition-at frame formulas effects t (x .row)) (x .climbs .conditions .builds .done (x .going)));
           })
 
-      module _ {notes₂ : List ℕ} {after : Store} {s2 : List ℕ} {r : Step} (y : Climbs (onward frame formulas effects t i (l .row)) frame formulas effects notes₁ notes₂ t i (depth - 1) (size-of l) mid after s1 s2 r) where
+      module _ {notes₂ : List ℕ} {after : Store} {s2 : List ℕ} {r : Step} (y : Climbs (onward frame formulas effects t (entry-right w) (entry-row w) (l .row)) frame formulas effects notes₁ notes₂ t (entry-row w) (depth - 1) (size-of l) mid after s1 s2 r) where
         climbed :
-            Conditions (condition-at frame formulas effects t (path-at frame notes₁ (depth - 1))) frame formulas effects notes₂ t e at before after scratch s2 r
+            Conditions (condition-at frame formulas effects t (row-over frame notes₁ depth)) frame formulas effects notes₂ t e at before after scratch s2 r
         climbed =
-            let j = path-at frame notes₁ (depth - 1) in
+            let j = row-over frame notes₁ depth in
+            let right = right-over frame notes₁ depth in
             conditions-as (entry-read (x .descent) h)
-            (conditions-bind (λ l. onward frame formulas effects t j l)
+            (conditions-bind (λ l. onward frame formulas effects t right j l)
             (conditions-as (spine-is (x .descent) h) (x .climbs .conditions)) (x .going)
             (conditions-wider (entry-most (x .descent) h) (rw top at (y .conditions))))
 
@@ -217,7 +241,7 @@ module _ {frame : Frame} {formulas effects notes : List ℕ} {t : Target} {at : 
             → Rising frame formulas effects notes₀ notes₂ t e from (depth - 1) at before after scratch s2 r
         rising-more g =
             record {
-              row = path-at frame notes₁ (depth - 1);
+              row = row-over frame notes₁ depth;
               descent = descent-stays (y .stays) (descent-up (x .descent) h);
               climbs = record { conditions = climbed; stays = stayed };
               going = g;
@@ -229,6 +253,6 @@ module _ {frame : Frame} {formulas effects notes : List ℕ} {t : Target} {at : 
         rising-full g =
             record {
               conditions =
-                  full-up (depth - 1 - from) (depth - 1) (path-at frame notes₁ (depth - 1)) (omega (arith, h)) g (descent-up (x .descent) h) climbed;
+                  full-up (depth - 1 - from) (depth - 1) (row-over frame notes₁ depth) (omega (arith, h)) g (descent-up (x .descent) h) climbed;
               stays = stays-trans frame down stayed;
             }

@@ -1,14 +1,12 @@
--- Whether an effect's row is an atom, by its words, and whether a variable lies outside its span. Assumes nothing.
-use Prim.Native.Nat.{ℕ, zero, suc, _+_, _*_, _≤_, _<_}
+-- Whether an effect's row is an atom, by its words. Assumes nothing.
+use Prim.Native.Nat.{ℕ, zero, suc}
 use native.Mathlib.Omega.{arith}
-use mathlib.Core.Path.{_≡_, refl, sym}
+use mathlib.Core.Path.{_≡_, refl, sym, _∙_}
 use mathlib.Core.Bool.{Bool, true, false}
-use mathlib.Core.List.{List}
-use lib.Dec.{eqb, ltb}
-use lib.ListN.{getD}
-use borrow.Author.Tests.{eq-eqb, ne-eqb, lt-ltb, le-ltb}
+use lib.Dec.{eqb}
+use borrow.Author.Tests.{eq-eqb, ne-eqb}
 use Rattle.task.specs.Table.{EffectKind, empty-kind, set-kind, clear-kind, both-kind, under-kind, unknown-effect, effect-kind}
-use Rattle.conditions.specs.Conditions.{atom-by, acts, outside}
+use Rattle.conditions.specs.Conditions.{atom-by, acts}
 
 pub touch-other : (clear : Bool) (v a : ℕ) (k : EffectKind) → (a ≡ v → ⊥) → false ≡ acts (atom-by clear v) k a
 unfolding acts
@@ -46,11 +44,9 @@ touch-set v a (suc zero) e = sym (eq-eqb v a (sym e))
 touch-set v a (suc (suc zero)) e = refl
 touch-set v a (suc (suc (suc k))) e = rw (touch-none false v a k) (ne-eqb (suc (suc (suc k))) 1 (λ q. omega arith))
 
-pub outside-below : (spans : List ℕ) (v e : ℕ) → v < getD spans (2 * e) 0 → true ≡ outside spans v e
-unfolding outside
-outside-below spans v e h = rw (lt-ltb v (getD spans (2 * e) 0) h)
-
-pub outside-above :
-    (spans : List ℕ) (v e : ℕ) → getD spans (2 * e) 0 ≤ v → ltb (getD spans (2 * e + 1) 0) v ≡ outside spans v e
-unfolding outside
-outside-above spans v e h = rw (le-ltb v (getD spans (2 * e) 0) h)
+-- an atom of the same variable, but not of the same kind
+pub other-atom :
+    (clear : Bool) (v a k : ℕ) → a ≡ v → (clear ≡ eqb k 2 → ⊥) → false ≡ acts (atom-by clear v) (effect-kind k) a
+other-atom true v a k e h = sym (ne-eqb k 2 (λ z. h (sym (eq-eqb k 2 z)))) ∙ touch-clear v a k e
+other-atom false v a k e h =
+    sym (ne-eqb k 1 (λ z. h (sym (ne-eqb k 2 (λ y. omega (arith, y, z)))))) ∙ touch-set v a k e

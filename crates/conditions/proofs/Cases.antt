@@ -23,10 +23,11 @@ use Rattle.formula_builder.specs.Held.{Store, row-of, held, size-of, side, Join
 use Rattle.formula_builder.proofs.Steps.{builds-done, falsity-small}
 use Rattle.images.specs.Images.{tree, image-at, Known, noted, Images}
 use Rattle.images.proofs.Memos.{known-grows, done-grows, done-known, images-as, images-leaf, images-bind, images-stop}
+use Rattle.atom_sets.specs.Sets.{lacks, InSet}
 use Rattle.conditions.specs.declared.Target.{Target}
-use Rattle.conditions.specs.Conditions.{atom-of, acts, condition-at, outside, Recalls, Keeps, Asks, Conditions}
+use Rattle.conditions.specs.Conditions.{atom-of, acts, condition-at, Recalls, Keeps, Asks, Conditions}
 use Rattle.conditions.specs.Paths.{spine, right-of, onward, Sees, AsksRight, AsksUnder, AsksOnward, Climbs}
-use Rattle.conditions.proofs.Rows.{both-lower, under-lower, under-else, of-atom, of-spine}
+use Rattle.conditions.proofs.Rows.{both-lower, under-lower, under-else, of-atom, of-spine, side-not, skipped-right}
 use Rattle.conditions.proofs.Notes.{steady-condition-at, stays-refl, stays-trans, stays-fewer}
 use Rattle.conditions.proofs.Memos.{conditions-as, conditions-wider, conditions-of-images, conditions-leaf, conditions-bind, conditions-stop, conditions-known, memo-known, conditions-noted}
 
@@ -63,11 +64,6 @@ module _ (frame : Frame) (effects notes scratch : List ℕ) (t : Target) (e : �
         again = ap (λ (m : Build ℕ). m (held at before)) (k formulas at before a);
         below = rw (length-upto (at .rows) (row-at (before .table))) (omega (arith, h, a .ready .two));
       }))
-
-  pub sees-outside : true ≡ outside notes (t .variable) e → Sees frame effects notes scratch t e (falsity (side (t .negated)) + 1)
-  sees-outside h =
-      sees-constant (falsity (side (t .negated))) (falsity-small (side (t .negated)))
-      (λ formulas at before a. a .noted .spanned .alone formulas (t .variable) e (a .effect) (sym h) .idle t refl)
 
   pub sees-memo :
       0 < getD scratch (2 * frame .formulas + e) 0 → Sees frame effects notes scratch t e (getD scratch (2 * frame .formulas + e) 0)
@@ -151,6 +147,34 @@ module _ {frame : Frame} {formulas : List ℕ} {s : Step} {before : Store} {scra
 
 -- The right effect d, with the condition s of the left one.
 module _ {frame : Frame} {formulas effects notes : List ℕ} {t : Target} {s : Step} {before : Store} {scratch : List ℕ} {d n : ℕ} (x : AsksRight frame formulas effects notes t s before scratch d n) where
+  pub right-in-set : InSet frame (t .variable) d
+  right-in-set =
+      let a = x .asks in
+      record {
+        variables = omega (arith, a .ready .variables);
+        limit = a .effect-source .limit;
+        variable = a .variable;
+        effect = a .effect;
+      }
+
+  -- it lacks the atom
+  pub right-lacks :
+      true ≡ lacks frame notes (t .clear) (t .variable) d
+      → Climbs (right-of frame formulas effects t d (s .row)) frame formulas effects notes notes t d n (size-of s) before before scratch scratch s
+  unfolding right-of give
+  right-lacks h =
+      let a = x .asks in
+      let idle = a .noted .sets .alone formulas (t .clear) (t .variable) d (a .variable) (a .effect) (sym h) .idle t refl refl in
+      record {
+        conditions =
+            conditions-as
+            (ap (λ (m : Build ℕ). bind m (λ r. join (side (not (t .negated))) (s .row) r)) idle
+            ∙ rw (← (side-not (t .negated))) (skipped-right (side (t .negated)) (s .row)))
+            (conditions-leaf {at = size-of s} {before = before} {after = before} {r = s} (steady-give (s .row)) (a .noted) (a .memo) (a .effect-memo)
+            (builds-done (x .going) (record { value = refl; state = refl; ready = a .ready; below = x .left; grew = omega arith })));
+        stays = stays-refl frame notes n;
+      }
+
   -- it is known
   module _ {w : ℕ} (k : Known (condition-at frame formulas effects t d) (held (size-of s) before) w) where
     pub known-join-asks : JoinReady frame (size-of s) (before .table) (s .row) w
@@ -213,23 +237,39 @@ module _ {frame : Frame} {formulas effects notes : List ℕ} {t : Target} {s : S
           }
 
 pub steady-onward :
-    (frame : Frame) (formulas effects : List ℕ) (t : Target) (e l : ℕ) → Steady (onward frame formulas effects t e l)
+    (frame : Frame) (formulas effects : List ℕ) (t : Target) (right : Bool) (e l : ℕ) → Steady (onward frame formulas effects t right e l)
 unfolding onward right-of
-steady-onward frame formulas effects t e l =
-    steady-cond (eqb (row-at effects e .kind) 3)
+steady-onward frame formulas effects t right e l =
+    steady-cond right (steady-give l)
+    (steady-cond (eqb (row-at effects e .kind) 3)
     (steady-bind (steady-condition-at frame formulas effects t (row-at effects e .b)) (λ r. steady-join (side (not (t .negated))) l r))
-    (steady-guarded (frame .variables) (side (t .negated)) (tree frame formulas (row-at effects e .a)) l)
+    (steady-guarded (frame .variables) (side (t .negated)) (tree frame formulas (row-at effects e .a)) l))
 
 -- Row e, with the condition s of its spine.
-module _ {frame : Frame} {formulas effects notes : List ℕ} {t : Target} {s : Step} {before : Store} {scratch : List ℕ} {e n : ℕ} (x : AsksOnward frame formulas effects notes t s before scratch e n) where
+module _ {frame : Frame} {formulas effects notes : List ℕ} {t : Target} {s : Step} {before : Store} {scratch : List ℕ} {right : Bool} {e n : ℕ} (x : AsksOnward frame formulas effects notes t s before scratch right e n) where
   spine-within : s .row < s .rows
   unfolding held
   spine-within =
       let b : s .row < length (upto (s .rows) (row-at (before .table))) = x .known .below in
       rw (length-upto (s .rows) (row-at (before .table))) at b
 
+  -- the way went to the right
+  pub climbs-right :
+      right ≡ true
+      → Climbs (onward frame formulas effects t right e (s .row)) frame formulas effects notes notes t e n (size-of s) before before scratch scratch s
+  unfolding onward give
+  climbs-right went =
+      let a = x .below .asks in
+      record {
+        conditions =
+            conditions-as (rw went)
+            (conditions-leaf (steady-give (s .row)) (a .noted) (a .memo) (a .effect-memo)
+            (builds-done (x .going) (record { value = refl; state = refl; ready = a .ready; below = spine-within; grew = omega arith })));
+        stays = stays-refl frame notes n;
+      }
+
   -- with the words w
-  module _ (w : Words) (q : row-of w ≡ row-at effects e) where
+  module _ (left : right ≡ false) (w : Words) (q : row-of w ≡ row-at effects e) where
     kind-read : w .kind ≡ row-at effects e .kind
     kind-read = ap (λ (r : Row). r .kind) q
 
@@ -251,22 +291,24 @@ module _ {frame : Frame} {formulas effects notes : List ℕ} {t : Target} {s : S
                   noted = a .noted;
                   memo = a .memo;
                   effect-memo = a .effect-memo;
+                  variable = a .variable;
                   effect = omega (arith, a .effect, right-lower);
                 };
             left = spine-within;
+            going = x .going;
             room = omega (arith, x .below .room, right-lower);
           }
 
       pub climbs-both :
           {notes' : List ℕ} {after : Store} {s2 : List ℕ} {r : Step}
           → Climbs (right-of frame formulas effects t (w .b) (s .row)) frame formulas effects notes notes' t (w .b) n (size-of s) before after scratch s2 r
-          → Climbs (onward frame formulas effects t e (s .row)) frame formulas effects notes notes' t e n (size-of s) before after scratch s2 r
+          → Climbs (onward frame formulas effects t right e (s .row)) frame formulas effects notes notes' t e n (size-of s) before after scratch s2 r
       unfolding onward
       climbs-both y =
           record {
             conditions =
                 conditions-as
-                (rw (eq-eqb (row-at effects e .kind) 3 (sym kind-read ∙ three))
+                (rw (left, eq-eqb (row-at effects e .kind) 3 (sym kind-read ∙ three))
                 (ap (λ (r : Row). right-of frame formulas effects t (r .b) (s .row)) (sym q)))
                 (conditions-wider (omega (arith, right-lower)) (y .conditions));
             stays = y .stays;
@@ -294,13 +336,13 @@ module _ {frame : Frame} {formulas effects notes : List ℕ} {t : Target} {s : S
       pub climbs-under :
           {after : Store} {s2 : List ℕ} {r : Step}
           → Images (guarded (frame .variables) (side (t .negated)) (tree frame formulas (w .a)) (s .row)) frame formulas (size-of s) before after scratch s2 r
-          → Climbs (onward frame formulas effects t e (s .row)) frame formulas effects notes notes t e n (size-of s) before after scratch s2 r
+          → Climbs (onward frame formulas effects t right e (s .row)) frame formulas effects notes notes t e n (size-of s) before after scratch s2 r
       unfolding onward
       climbs-under y =
           record {
             conditions =
                 conditions-as
-                (rw (ne-eqb (row-at effects e .kind) 3 (λ k. other (kind-read ∙ k)))
+                (rw (left, ne-eqb (row-at effects e .kind) 3 (λ k. other (kind-read ∙ k)))
                 (ap (λ (r : Row). guarded (frame .variables) (side (t .negated)) (tree frame formulas (r .a)) (s .row)) (sym q)))
                 (conditions-of-images (steady-guarded (frame .variables) (side (t .negated)) (tree frame formulas (w .a)) (s .row))
                 (x .below .asks .noted) (x .below .asks .effect-memo) y);
@@ -310,30 +352,30 @@ module _ {frame : Frame} {formulas effects notes : List ℕ} {t : Target} {s : S
   -- what is left is built: row e's condition is known
   onward-known :
       {notes' : List ℕ} {after : Store} {s2 : List ℕ} {r : Step}
-      → Conditions (onward frame formulas effects t e (s .row)) frame formulas effects notes' t e (size-of s) before after scratch s2 r
+      → Conditions (onward frame formulas effects t right e (s .row)) frame formulas effects notes' t e (size-of s) before after scratch s2 r
       → r .full ≡ false
       → Known (condition-at frame formulas effects t e) (held (size-of r) after) (r .row)
   unfolding bind
   onward-known {after = after} {r = r} y g =
       let a = x .below .asks in
       let d = y .builds .done g in
-      let steady = steady-onward frame formulas effects t e (s .row) in
-      let first = known-grows (steady-condition-at frame formulas effects t (spine effects e)) (done-grows steady d) (x .known) in
+      let steady = steady-onward frame formulas effects t right e (s .row) in
+      let first = known-grows (steady-condition-at frame formulas effects t (spine effects right e)) (done-grows steady d) (x .known) in
       let then = done-known steady d in
       record {
         again =
             ap (λ (m : Build ℕ). m (held (size-of r) after))
-            (of-spine frame formulas effects scratch (a .effect-source) e (a .effect) t (x .below .composed))
+            (of-spine frame formulas effects scratch (a .effect-source) e (a .effect) t right (x .skips) (x .below .composed))
             ∙ rw (first .again) (then .again);
         below = then .below;
       }
 
   pub raised :
       {notes' notes'' : List ℕ} {after : Store} {s2 : List ℕ} {r : Step}
-      → Climbs (onward frame formulas effects t e (s .row)) frame formulas effects notes notes' t e n (size-of s) before after scratch s2 r
+      → Climbs (onward frame formulas effects t right e (s .row)) frame formulas effects notes notes' t e n (size-of s) before after scratch s2 r
       → length s2 ≡ length scratch
       → Keeps frame notes' notes'' t e r
-      → Climbs (onward frame formulas effects t e (s .row)) frame formulas effects notes notes'' t e n (size-of s) before after scratch
+      → Climbs (onward frame formulas effects t right e (s .row)) frame formulas effects notes notes'' t e n (size-of s) before after scratch
       (noted s2 (2 * frame .formulas + e) r) r
   raised {after = after} {s2 = s2} {r = r} y long keeps =
       let a = x .below .asks in

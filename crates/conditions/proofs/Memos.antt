@@ -127,6 +127,7 @@ module _ {m : Build ℕ} {frame : Frame} {formulas effects notes : List ℕ} {t 
         noted = x .noted q;
         memo = x .memo q;
         effect-memo = x .effect-memo q;
+        variable = a .variable;
         effect = h;
       }
 

@@ -18,8 +18,10 @@ use Rattle.formula_builder.specs.declared.Step.{Step}
 use Rattle.formula_builder.specs.Held.{Store, side, Builds}
 use Rattle.images.specs.Images.{Known, noted}
 use Rattle.images.proofs.Memos.{known-grows}
+use Rattle.atom_sets.specs.Sets.{sets-end, lacks}
+use Rattle.atom_sets.proofs.Places.{sets-behind, lacks-same}
 use Rattle.conditions.specs.declared.Target.{Target}
-use Rattle.conditions.specs.Conditions.{atom-of, effect-tree, condition-at, outside, Spans, column, kept-place, Columns, Noted, Looks, KeptAt, Recalls, path-at, PathStays, Keeps, Asks}
+use Rattle.conditions.specs.Conditions.{atom-of, effect-tree, condition-at, AtomSets, column, kept-place, Columns, Noted, Looks, KeptAt, Recalls, path-at, PathStays, Keeps, Asks}
 
 pub steady-condition-at :
     (frame : Frame) (formulas effects : List ℕ) (t : Target) (e : ℕ) → Steady (condition-at frame formulas effects t e)
@@ -34,12 +36,26 @@ pub noted-grows :
     → Noted frame formulas effects notes s'
 noted-grows {frame} {formulas} {effects} g n =
     record {
-      spanned = n .spanned;
+      sets = n .sets;
       columns = n .columns;
       kept =
           record {
             known = λ t e r h v p c i w. known-grows (steady-condition-at frame formulas effects t e) g (n .kept .known t e r h v p c i w);
           };
+    }
+
+-- the sets stay right while their words stay
+pub sets-stay :
+    {frame : Frame} {effects notes notes' : List ℕ}
+    → length notes' ≡ length notes
+    → ((j : ℕ) → 4 * frame .effects ≤ j → j < sets-end frame → getD notes' j 0 ≡ getD notes j 0)
+    → AtomSets frame effects notes
+    → AtomSets frame effects notes'
+sets-stay {frame} {effects} {notes} {notes'} long same x =
+    record {
+      words = omega (arith, long, x .words);
+      alone = λ formulas clear v e h g q.
+          x .alone formulas clear v e h g (sym (lacks-same frame notes notes' clear v e h g same) ∙ q);
     }
 
 behind : (a b : ℕ) → a ≤ a + b
@@ -48,14 +64,14 @@ behind a b = omega arith
 -- nothing is kept
 pub noted-blank :
     {frame : Frame} {effects notes : List ℕ} (formulas : List ℕ) (s : St)
-    → Spans frame effects notes
+    → AtomSets frame effects notes
     → Columns frame notes
-    → ((j : ℕ) → 3 * frame .effects ≤ j → getD notes j 0 ≡ 0)
+    → ((j : ℕ) → sets-end frame ≤ j → getD notes j 0 ≡ 0)
     → Noted frame formulas effects notes s
 unfolding kept-place
-noted-blank {frame} {effects} {notes} formulas s spanned columns blank =
+noted-blank {frame} {effects} {notes} formulas s sets columns blank =
     record {
-      spanned = spanned;
+      sets = sets;
       columns = columns;
       kept =
           record {
@@ -64,8 +80,8 @@ noted-blank {frame} {effects} {notes} formulas s spanned columns blank =
                 (impossible r
                 (sym
                 (blank
-                (3 * frame .effects + (column frame notes e * (2 * frame .variables) + (2 * t .variable + cond (t .clear) 1 0)))
-                (behind (3 * frame .effects) _))
+                (sets-end frame + (column notes e * (2 * frame .variables) + (2 * t .variable + cond (t .clear) 1 0)))
+                (behind (sets-end frame) _))
                 ∙ w));
           };
     }
@@ -111,12 +127,11 @@ byte-is false = refl
 
 pub place-found :
     (frame : Frame) (notes : List ℕ) (t : Target) (e k : ℕ)
-    → (getD notes (2 * frame .effects + e) 0 ≡ 0 → ⊥)
+    → (getD notes e 0 ≡ 0 → ⊥)
     → t .negated ≡ false
     → t .variable < frame .variables
     → k
-    ≡ 3 * frame .effects
-    + (getD notes (2 * frame .effects + e) 0 * (2 * frame .variables) + (2 * t .variable + boolByte (t .clear)))
+    ≡ sets-end frame + (getD notes e 0 * (2 * frame .variables) + (2 * t .variable + boolByte (t .clear)))
     → k + frame .effects < length notes
     → KeptAt frame notes t e k
 unfolding column kept-place
@@ -128,7 +143,7 @@ place-found frame notes t e k c p v q w =
       place =
           q
           ∙ ap
-          (λ x. 3 * frame .effects + (getD notes (2 * frame .effects + e) 0 * (2 * frame .variables) + (2 * t .variable + x)))
+          (λ x. sets-end frame + (getD notes e 0 * (2 * frame .variables) + (2 * t .variable + x)))
           (byte-is (t .clear));
       within = w;
     }
@@ -170,7 +185,7 @@ places-apart frame c d t u g h q =
     let x =
     quotients (2 * frame .variables) c d (2 * t .variable + cond (t .clear) 1 0) (2 * u .variable + cond (u .clear) 1 0)
     (atom-within (frame .variables) (t .variable) (t .clear) g) (atom-within (frame .variables) (u .variable) (u .clear) h)
-    (cancel (3 * frame .effects) _ _ q) in
+    (cancel (sets-end frame) _ _ q) in
     let y = atoms (t .variable) (u .variable) (t .clear) (u .clear) (x .1) in
     (x .0, y .0, y .1)
 
@@ -207,21 +222,17 @@ module _ (frame : Frame) where
 
 -- The word of target t and row e.
 module _ {frame : Frame} {notes : List ℕ} {t : Target} {e k : ℕ} (h : e < frame .effects) (p : KeptAt frame notes t e k) where
-  beyond : 3 * frame .effects ≤ k
+  beyond : sets-end frame ≤ k
   unfolding kept-place
-  beyond = rw (p .place) (behind (3 * frame .effects) (column frame notes e * (2 * frame .variables) + (2 * t .variable + cond (t .clear) 1 0)))
+  beyond = rw (p .place) (behind (sets-end frame) (column notes e * (2 * frame .variables) + (2 * t .variable + cond (t .clear) 1 0)))
 
-  -- no span and no column is that word
-  earlier : (x j : ℕ) → j < 3 * frame .effects → getD (set notes k x) j 0 ≡ getD notes j 0
+  -- no set and no column is that word
+  earlier : (x j : ℕ) → j < sets-end frame → getD (set notes k x) j 0 ≡ getD notes j 0
   earlier x j g = getD-set-other notes k j x 0 (λ q. omega (arith, beyond, q, g))
 
-  same-column : (x d : ℕ) → d < frame .effects → column frame (set notes k x) d ≡ column frame notes d
+  same-column : (x d : ℕ) → d < frame .effects → column (set notes k x) d ≡ column notes d
   unfolding column
-  same-column x d g = earlier x (2 * frame .effects + d) (omega arith)
-
-  same-outside : (x v d : ℕ) → d < frame .effects → outside (set notes k x) v d ≡ outside notes v d
-  unfolding outside
-  same-outside x v d g = rw (earlier x (2 * d) (omega arith), earlier x (2 * d + 1) (omega arith))
+  same-column x d g = earlier x d (omega (arith, sets-behind frame))
 
   module _ (formulas effects : List ℕ) (s : St) (r : ℕ) (now : Known (condition-at frame formulas effects t e) s r) (n : Noted frame formulas effects notes s) where
     -- what is read from a word of the notes with r
@@ -230,18 +241,18 @@ module _ {frame : Frame} {notes : List ℕ} {t : Target} {e k : ℕ} (h : e < fr
         → d < frame .effects
         → u .variable < frame .variables
         → u .negated ≡ false
-        → 0 < column frame notes d
-        → kept-place frame (column frame notes d) u + frame .effects < length notes
-        → Dec (kept-place frame (column frame notes d) u ≡ k)
-        → getD (set notes k (r + 1)) (kept-place frame (column frame notes d) u) 0 ≡ x + 1
+        → 0 < column notes d
+        → kept-place frame (column notes d) u + frame .effects < length notes
+        → Dec (kept-place frame (column notes d) u ≡ k)
+        → getD (set notes k (r + 1)) (kept-place frame (column notes d) u) 0 ≡ x + 1
         → Known (condition-at frame formulas effects u d) s x
     read-back u d x g v m c i (no other) w =
         n .kept .known u d x g v m c i
-        (sym (getD-set-other notes k (kept-place frame (column frame notes d) u) (r + 1) 0 other) ∙ w)
+        (sym (getD-set-other notes k (kept-place frame (column notes d) u) (r + 1) 0 other) ∙ w)
     read-back u d x g v m c i (yes same) w =
-        let z = places-apart frame (column frame notes d) (column frame notes e) u t v (p .variable) (same ∙ p .place) in
+        let z = places-apart frame (column notes d) (column notes e) u t v (p .variable) (same ∙ p .place) in
         let row : d ≡ e = n .columns .apart d e g h (p .has-column) (z .0) in
-        let there : getD (set notes k (r + 1)) (kept-place frame (column frame notes d) u) 0 ≡ r + 1 =
+        let there : getD (set notes k (r + 1)) (kept-place frame (column notes d) u) 0 ≡ r + 1 =
         rw same (getD-set-same notes k (r + 1) 0 (omega (arith, p .within))) in
         let value : x ≡ r = omega (arith, there, w) in
         rw (same-condition frame formulas effects u t d e (m ∙ sym (p .plain)) (z .1) (z .2) row, value) now
@@ -249,11 +260,7 @@ module _ {frame : Frame} {notes : List ℕ} {t : Target} {e k : ℕ} (h : e < fr
     kept-noted : Noted frame formulas effects (set notes k (r + 1)) s
     kept-noted =
         record {
-          spanned =
-              record {
-                words = rw (length-set notes k (r + 1)) (n .spanned .words);
-                alone = λ f v d g q. n .spanned .alone f v d g (sym (same-outside (r + 1) v d g) ∙ q);
-              };
+          sets = sets-stay (length-set notes k (r + 1)) (λ j g h. earlier (r + 1) j h) (n .sets);
           columns =
               record {
                 words = rw (length-set notes k (r + 1)) (n .columns .words);
@@ -265,7 +272,7 @@ module _ {frame : Frame} {notes : List ℕ} {t : Target} {e k : ℕ} (h : e < fr
               record {
                 known = λ u d x g v m c i w.
                     let same = same-column (r + 1) d g in
-                    read-back u d x g v m (rw same at c) (rw (same, length-set notes k (r + 1)) at i) (ℕ-discrete (kept-place frame (column frame notes d) u) k)
+                    read-back u d x g v m (rw same at c) (rw (same, length-set notes k (r + 1)) at i) (ℕ-discrete (kept-place frame (column notes d) u) k)
                     (rw same at w);
               };
         }

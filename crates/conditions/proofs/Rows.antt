@@ -2,7 +2,7 @@
 use Prim.Native.Nat.{ℕ, zero, suc, _≤_, _<_}
 use native.Mathlib.Omega.{arith}
 use native.Mathlib.Decide.{ℕ-discrete}
-use mathlib.Core.Path.{_≡_, refl, ap, _∙_}
+use mathlib.Core.Path.{_≡_, refl, sym, ap, _∙_}
 use mathlib.Core.Bool.{Bool, true, false, cond, not}
 use mathlib.Core.List.{List}
 use lib.Dec.{eqb}
@@ -14,14 +14,15 @@ use Rattle.task.specs.Semantics.{Formula, Atom, Effect}
 use Rattle.task.specs.Tree.{effect-node}
 use Rattle.task.proofs.Bounded.{length-upto, getD-upto}
 use Rattle.task.proofs.Trees.{EffectKept, effect-unfolds}
-use Rattle.normal_form.specs.Builder.{Build, give, bind, join, pair, Polarity, opposite, falsity, truth}
+use Rattle.normal_form.specs.Builder.{Build, give, bind, join, pair, Polarity, plain, negated, opposite, falsity, truth}
 use Rattle.normal_form.specs.Conditions.{guarded, condition}
 use Rattle.formula_builder.specs.declared.Frame.{Frame}
 use Rattle.formula_builder.specs.Held.{side}
+use Rattle.formula_builder.proofs.Steps.{join-left-false, join-right-false, join-left-true, join-right-true}
 use Rattle.images.specs.Images.{source-rows, tree}
 use Rattle.conditions.specs.declared.Target.{Target}
 use Rattle.conditions.specs.Conditions.{atom-of, acts, effect-rows, effect-tree, condition-at, EffectSource}
-use Rattle.conditions.specs.Paths.{spine, right-of, onward}
+use Rattle.conditions.specs.Paths.{spine, right-of, onward, Skips}
 
 -- The condition of a row by its kind, over the formula f and the effects d and g that its words name.
 module _ (n : ℕ) (p : Polarity) (l : Atom) (a : ℕ) (f : Formula) (d g : Effect) where
@@ -51,6 +52,41 @@ module _ (n : ℕ) (p : Polarity) (l : Atom) (a : ℕ) (f : Formula) (d g : Effe
       → condition n p l (effect-node (effect-kind k) a f d g) ≡ bind (condition n p l g) (λ c. guarded n p f c)
   unfolding condition effect-node effect-kind
   under-condition k e = rw e
+
+-- A join with what folds away is the other side.
+join-skipped-left : (p : Polarity) (r : ℕ) → join (opposite p) (falsity p) r ≡ give r
+join-skipped-left plain r = go (ℕ-discrete r 1)
+  where
+    go : Dec (r ≡ 1) → join negated 0 r ≡ give r
+    go (yes e) = join-right-false negated 0 r (λ z. omega (arith, z)) e ∙ ap give (sym e)
+    go (no n) = join-left-true negated 0 r (λ e. omega (arith, e)) n refl
+join-skipped-left negated r = go (ℕ-discrete r 0)
+  where
+    go : Dec (r ≡ 0) → join plain 1 r ≡ give r
+    go (yes e) = join-right-false plain 1 r (λ z. omega (arith, z)) e ∙ ap give (sym e)
+    go (no n) = join-left-true plain 1 r (λ e. omega (arith, e)) n refl
+
+join-skipped-right : (p : Polarity) (l : ℕ) → join (opposite p) l (falsity p) ≡ give l
+join-skipped-right plain l = go (ℕ-discrete l 1) (ℕ-discrete l 0)
+  where
+    go : Dec (l ≡ 1) → Dec (l ≡ 0) → join negated l 0 ≡ give l
+    go (yes e) z = join-left-false negated l 0 e ∙ ap give (sym e)
+    go (no n) (yes z) = join-left-true negated l 0 n (λ e. omega (arith, e)) z ∙ ap give (sym z)
+    go (no n) (no z) = join-right-true negated l 0 n (λ e. omega (arith, e)) z refl
+join-skipped-right negated l = go (ℕ-discrete l 0) (ℕ-discrete l 1)
+  where
+    go : Dec (l ≡ 0) → Dec (l ≡ 1) → join plain l 1 ≡ give l
+    go (yes e) z = join-left-false plain l 1 e ∙ ap give (sym e)
+    go (no n) (yes z) = join-left-true plain l 1 n (λ e. omega (arith, e)) z ∙ ap give (sym z)
+    go (no n) (no z) = join-right-true plain l 1 n (λ e. omega (arith, e)) z refl
+
+skipped-left : (p : Polarity) (m : Build ℕ) → bind (give (falsity p)) (λ l. bind m (λ r. join (opposite p) l r)) ≡ bind m (λ r. give r)
+unfolding bind give
+skipped-left p m = ap (λ f. bind m f) (λ i r. join-skipped-left p r i)
+
+pub skipped-right : (p : Polarity) (l : ℕ) → bind (give (falsity p)) (λ r. join (opposite p) l r) ≡ give l
+unfolding bind give
+skipped-right p l = join-skipped-right p l
 
 pub side-not : (b : Bool) → opposite (side b) ≡ side (not b)
 side-not true = refl
@@ -100,13 +136,26 @@ module _ (frame : Frame) (formulas effects scratch : List ℕ) (source : EffectS
       rule-held in
       omega (arith, c, m, other)
 
-  pub spine-lower : 3 ≤ row-at effects e .kind → spine effects e < e
+  -- one that is neither is an atom, or empty
+  pub known-kind : (row-at effects e .kind ≡ 4 → ⊥) → row-at effects e .kind ≤ 3
+  known-kind four =
+      let m =
+      kind-most (frame .variables) (frame .formulas) e (row-at effects e .kind) (row-at effects e .a) (row-at effects e .b)
+      rule-held in
+      omega (arith, m, four)
+
+  pub spine-lower : (right : Bool) → 3 ≤ row-at effects e .kind → spine effects right e < e
   unfolding spine
-  spine-lower c = go (ℕ-discrete (row-at effects e .kind) 3)
+  spine-lower right c = go right (ℕ-discrete (row-at effects e .kind) 3)
     where
-      go : Dec (row-at effects e .kind ≡ 3) → cond (eqb (row-at effects e .kind) 3) (row-at effects e .a) (row-at effects e .b) < e
-      go (yes k) = rw (eq-eqb (row-at effects e .kind) 3 k) (both-lower k .0)
-      go (no k) = rw (ne-eqb (row-at effects e .kind) 3 k) (under-lower (under-else c k) .1)
+      go :
+          (right : Bool)
+          → Dec (row-at effects e .kind ≡ 3)
+          → cond right (row-at effects e .b) (cond (eqb (row-at effects e .kind) 3) (row-at effects e .a) (row-at effects e .b)) < e
+      go true (yes k) = both-lower k .1
+      go true (no k) = under-lower (under-else c k) .1
+      go false (yes k) = rw (eq-eqb (row-at effects e .kind) 3 k) (both-lower k .0)
+      go false (no k) = rw (ne-eqb (row-at effects e .kind) 3 k) (under-lower (under-else c k) .1)
 
   module _ (t : Target) where
     node : Build ℕ
@@ -151,11 +200,20 @@ module _ (frame : Frame) (formulas effects scratch : List ℕ) (source : EffectS
 
     -- first the spine, then what is left
     pub of-spine :
-        3 ≤ row-at effects e .kind
+        (right : Bool)
+        → Skips frame effects t right e
+        → 3 ≤ row-at effects e .kind
         → condition-at frame formulas effects t e
-        ≡ bind (condition-at frame formulas effects t (spine effects e)) (λ l. onward frame formulas effects t e l)
+        ≡ bind (condition-at frame formulas effects t (spine effects right e)) (λ l. onward frame formulas effects t right e l)
     unfolding spine onward right-of pair
-    of-spine c = go (ℕ-discrete (row-at effects e .kind) 3)
+    of-spine true s c =
+        of-both (s .both refl)
+        ∙ ap
+        (λ (m : Build ℕ).
+        bind m (λ l. bind (condition-at frame formulas effects t (row-at effects e .b)) (λ r. join (opposite (side (t .negated))) l r)))
+        (s .idle formulas refl)
+        ∙ skipped-left (side (t .negated)) (condition-at frame formulas effects t (row-at effects e .b))
+    of-spine false s c = go (ℕ-discrete (row-at effects e .kind) 3)
       where
         go :
             Dec (row-at effects e .kind ≡ 3)

@@ -1,9 +1,8 @@
 -- What the memo of effect conditions and the notes hold, and what the code that builds conditions asks and answers.
 use Prim.Native.Nat.{ℕ, _+_, _-_, _*_, _≤_, _<_}
 use mathlib.Core.Path.{_≡_}
-use mathlib.Core.Bool.{Bool, true, false, cond, _||_}
+use mathlib.Core.Bool.{Bool, true, false, cond}
 use mathlib.Core.List.{List}
-use lib.Dec.{ltb}
 use lib.ListN.{length, getD}
 use Rattle.task.specs.Bounded.{upto}
 use Rattle.task.specs.Table.{Row, row-at, EffectKind, empty-kind, set-kind, clear-kind, both-kind, under-kind, unknown-effect}
@@ -17,6 +16,7 @@ use Rattle.formula_builder.specs.declared.Size.{Size}
 use Rattle.formula_builder.specs.declared.Step.{Step}
 use Rattle.formula_builder.specs.Held.{Store, held, size-of, side, Ready, Builds}
 use Rattle.images.specs.Images.{source-rows, Known, Memo, Source}
+use Rattle.atom_sets.specs.Sets.{sets-end, lacks}
 use Rattle.conditions.specs.declared.Target.{Target}
 
 abbrev pub atom-by : Bool → ℕ → Atom
@@ -64,13 +64,6 @@ pub record EffectSource (frame : Frame) (effects scratch : List ℕ) : Type 0 wh
   pub limit : frame .effects ≤ 4096
   pub down : EffectsDown (frame .variables) (frame .formulas) (effect-rows frame effects)
 
--- Effect e neither sets nor clears v: each condition is false (dually true), and nothing is built.
-pub record Untouched (frame : Frame) (formulas effects : List ℕ) (v e : ℕ) : Type 0 where
-  pub idle :
-      (t : Target)
-      → t .variable ≡ v
-      → condition-at frame formulas effects t e ≡ give (falsity (side (t .negated)))
-
 -- Effect e does not name one atom, clear v or set v: its condition is false (dually true), and nothing is built.
 pub record Unnamed (frame : Frame) (formulas effects : List ℕ) (clear : Bool) (v e : ℕ) : Type 0 where
   pub idle :
@@ -79,37 +72,33 @@ pub record Unnamed (frame : Frame) (formulas effects : List ℕ) (clear : Bool) 
       → t .variable ≡ v
       → condition-at frame formulas effects t e ≡ give (falsity (side (t .negated)))
 
--- whether v lies outside the span of row e: words 2e and 2e + 1, a least and a greatest variable
-unfoldable pub outside : List ℕ → ℕ → ℕ → Bool
-outside spans v e = ltb v (getD spans (2 * e) 0) || ltb (getD spans (2 * e + 1) 0) v
-
--- Each row has a span, and leaves the variables outside it alone.
-pub record Spans (frame : Frame) (effects spans : List ℕ) : Type 0 where
-  pub words : 2 * frame .effects ≤ length spans
+-- Each row has a set of atoms, and does not name those that its set lacks.
+pub record AtomSets (frame : Frame) (effects notes : List ℕ) : Type 0 where
+  pub words : sets-end frame ≤ length notes
   pub alone :
-      (formulas : List ℕ) (v e : ℕ)
+      (formulas : List ℕ) (clear : Bool) (v e : ℕ)
+      → v < frame .variables
       → e < frame .effects
-      → outside spans v e ≡ true
-      → Untouched frame formulas effects v e
+      → lacks frame notes clear v e ≡ true
+      → Unnamed frame formulas effects clear v e
 
--- the column of effect row e, 0 for none: behind the spans
-unfoldable pub column : Frame → List ℕ → ℕ → ℕ
-column frame notes e = getD notes (2 * frame .effects + e) 0
+-- the column of effect row e, 0 for none: its first word
+unfoldable pub column : List ℕ → ℕ → ℕ
+column notes e = getD notes e 0
 
--- where the condition of target t is kept in column c: behind the columns, two words for each variable
+-- where the condition of target t is kept in column c: behind the sets, two words for each variable
 unfoldable pub kept-place : Frame → ℕ → Target → ℕ
-kept-place frame c t =
-    3 * frame .effects + (c * (2 * frame .variables) + (2 * t .variable + cond (t .clear) 1 0))
+kept-place frame c t = sets-end frame + (c * (2 * frame .variables) + (2 * t .variable + cond (t .clear) 1 0))
 
 -- Each row has a word for its column, and one of the last words for a path down the rows; no two rows have the same column.
 pub record Columns (frame : Frame) (notes : List ℕ) : Type 0 where
-  pub words : 4 * frame .effects ≤ length notes
+  pub words : sets-end frame + frame .effects ≤ length notes
   pub apart :
       (d e : ℕ)
       → d < frame .effects
       → e < frame .effects
-      → 0 < column frame notes e
-      → column frame notes d ≡ column frame notes e
+      → 0 < column notes e
+      → column notes d ≡ column notes e
       → d ≡ e
 
 -- Each condition that is kept, for whatever operator, is the row that building gives now, plus 1. None is kept in the words of the path.
@@ -119,20 +108,20 @@ pub record Kept (frame : Frame) (formulas effects notes : List ℕ) (s : St) : T
       → e < frame .effects
       → t .variable < frame .variables
       → t .negated ≡ false
-      → 0 < column frame notes e
-      → kept-place frame (column frame notes e) t + frame .effects < length notes
-      → getD notes (kept-place frame (column frame notes e) t) 0 ≡ r + 1
+      → 0 < column notes e
+      → kept-place frame (column notes e) t + frame .effects < length notes
+      → getD notes (kept-place frame (column notes e) t) 0 ≡ r + 1
       → Known (condition-at frame formulas effects t e) s r
 
--- The notes: spans, columns, and the conditions that are kept.
+-- The notes: sets of atoms, columns, and the conditions that are kept.
 pub record Noted (frame : Frame) (formulas effects notes : List ℕ) (s : St) : Type 0 where
-  pub spanned : Spans frame effects notes
+  pub sets : AtomSets frame effects notes
   pub columns : Columns frame notes
   pub kept : Kept frame formulas effects notes s
 
 -- What looking into row e's column asks.
 pub record Looks (frame : Frame) (notes : List ℕ) (e : ℕ) : Type 0 where
-  pub words : 4 * frame .effects ≤ length notes
+  pub words : sets-end frame + frame .effects ≤ length notes
   pub limit : frame .effects ≤ 4096
   pub variables : frame .variables ≤ 512
   pub effect : e < frame .effects
@@ -141,8 +130,8 @@ pub record Looks (frame : Frame) (notes : List ℕ) (e : ℕ) : Type 0 where
 pub record KeptAt (frame : Frame) (notes : List ℕ) (t : Target) (e k : ℕ) : Type 0 where
   pub plain : t .negated ≡ false
   pub variable : t .variable < frame .variables
-  pub has-column : 0 < column frame notes e
-  pub place : k ≡ kept-place frame (column frame notes e) t
+  pub has-column : 0 < column notes e
+  pub place : k ≡ kept-place frame (column notes e) t
   pub within : k + frame .effects < length notes
 
 -- Word w is 0, or what the notes keep of target t and row e.
@@ -178,6 +167,7 @@ pub record Asks (frame : Frame) (formulas effects notes : List ℕ) (t : Target)
   pub noted : Noted frame formulas effects notes (held at before)
   pub memo : Memo frame formulas scratch (held at before)
   pub effect-memo : EffectMemo frame formulas effects t scratch (held at before)
+  pub variable : t .variable < frame .variables
   pub effect : e < frame .effects
 
 -- A step with both memos and the notes: what lies behind effect e's word stays as it is.

@@ -5,6 +5,7 @@ use crate::kept::keep;
 use crate::path::descend;
 use crate::seen::seen;
 use crate::under::under;
+use atom_sets::lacks;
 use formula_builder::Frame;
 use formula_builder::Size;
 use formula_builder::Step;
@@ -16,7 +17,7 @@ ghost use Rattle.formula_builder.specs.Held.{store, size-of};
 ghost use Rattle.conditions.specs.Conditions.{Asks, Conditions, condition-at};
 ghost use Rattle.conditions.specs.Paths.{right-of, onward, AsksBelow, AsksRight, AsksOnward, Climbs};
 
-// The condition of effect e: rows are visited only where the variable lies in their span, and not below one whose condition is kept.
+// The condition of effect e: rows are visited only where the atom stands below them, and not below one whose condition is kept.
 pub fn condition(
     formulas: &[u16],
     effects: &[u16],
@@ -74,12 +75,15 @@ fn below(
     let mut s = standing(at, bottom.known - 1);
     while from < depth {
         depth -= 1;
-        let i = notes[base + depth] as usize;
+        let w = notes[base + depth];
+        let i = (w % 8192) as usize;
+        let right = 8191 < w;
         s = raise(
             formulas,
             effects,
             notes,
             i,
+            right,
             depth,
             t,
             frame,
@@ -101,6 +105,7 @@ fn raise(
     effects: &[u16],
     notes: &mut [u16],
     e: usize,
+    right: bool,
     from: usize,
     t: Target,
     frame: Frame,
@@ -109,14 +114,15 @@ fn raise(
     originals: &mut [u16],
     scratch: &mut [u16],
 ) -> Step
-    requires { ⌜ AsksOnward frame (now formulas) (now effects) (now notes) t s (store (now table) (now originals)) (now scratch) e from ⌝ }
-    ensures { λ r. ⌜ Climbs (onward frame (now (formulas .entry)) (now (effects .entry)) t e (s .row)) frame (now (formulas .entry)) (now (effects .entry)) (now (notes .entry)) (now (notes .exit)) t e from (size-of s) (store (now (table .entry)) (now (originals .entry))) (store (now (table .exit)) (now (originals .exit))) (now (scratch .entry)) (now (scratch .exit)) r ⌝ }
+    requires { ⌜ AsksOnward frame (now formulas) (now effects) (now notes) t s (store (now table) (now originals)) (now scratch) right e from ⌝ }
+    ensures { λ r. ⌜ Climbs (onward frame (now (formulas .entry)) (now (effects .entry)) t right e (s .row)) frame (now (formulas .entry)) (now (effects .entry)) (now (notes .entry)) (now (notes .exit)) t e from (size-of s) (store (now (table .entry)) (now (originals .entry))) (store (now (table .exit)) (now (originals .exit))) (now (scratch .entry)) (now (scratch .exit)) r ⌝ }
 {
     let r = above(
         formulas,
         effects,
         notes,
         e,
+        right,
         from,
         t,
         frame,
@@ -130,12 +136,13 @@ fn raise(
     r
 }
 
-// The same by the row's kind: the right effect and the join, or the formula.
+// The same by the row's kind: the right effect and the join, or the formula; nothing, if the way went to the right.
 fn above(
     formulas: &[u16],
     effects: &[u16],
     notes: &mut [u16],
     e: usize,
+    right: bool,
     from: usize,
     t: Target,
     frame: Frame,
@@ -144,9 +151,12 @@ fn above(
     originals: &mut [u16],
     scratch: &mut [u16],
 ) -> Step
-    requires { ⌜ AsksOnward frame (now formulas) (now effects) (now notes) t s (store (now table) (now originals)) (now scratch) e from ⌝ }
-    ensures { λ r. ⌜ Climbs (onward frame (now (formulas .entry)) (now (effects .entry)) t e (s .row)) frame (now (formulas .entry)) (now (effects .entry)) (now (notes .entry)) (now (notes .exit)) t e from (size-of s) (store (now (table .entry)) (now (originals .entry))) (store (now (table .exit)) (now (originals .exit))) (now (scratch .entry)) (now (scratch .exit)) r ⌝ }
+    requires { ⌜ AsksOnward frame (now formulas) (now effects) (now notes) t s (store (now table) (now originals)) (now scratch) right e from ⌝ }
+    ensures { λ r. ⌜ Climbs (onward frame (now (formulas .entry)) (now (effects .entry)) t right e (s .row)) frame (now (formulas .entry)) (now (effects .entry)) (now (notes .entry)) (now (notes .exit)) t e from (size-of s) (store (now (table .entry)) (now (originals .entry))) (store (now (table .exit)) (now (originals .exit))) (now (scratch .entry)) (now (scratch .exit)) r ⌝ }
 {
+    if right {
+        return s;
+    }
     let w = read_row(effects, e);
     if w.kind == 3 {
         let d = w.b as usize;
@@ -176,7 +186,8 @@ fn above(
     )
 }
 
-// The condition of the right effect d, then the join with that of the left one, s. Nothing is called for d if its condition is known.
+// The condition of the right effect d, then the join with that of the left one, s. Nothing is built if d lacks the atom, and nothing is called
+// for d if its condition is known.
 fn both(
     formulas: &[u16],
     effects: &[u16],
@@ -193,6 +204,9 @@ fn both(
     requires { ⌜ AsksRight frame (now formulas) (now effects) (now notes) t s (store (now table) (now originals)) (now scratch) d from ⌝ }
     ensures { λ r. ⌜ Climbs (right-of frame (now (formulas .entry)) (now (effects .entry)) t d (s .row)) frame (now (formulas .entry)) (now (effects .entry)) (now (notes .entry)) (now (notes .exit)) t d from (size-of s) (store (now (table .entry)) (now (originals .entry))) (store (now (table .exit)) (now (originals .exit))) (now (scratch .entry)) (now (scratch .exit)) r ⌝ }
 {
+    if lacks(notes, frame, t.clear, t.variable as usize, d) {
+        return s;
+    }
     let at = Size {
         rows: s.rows,
         twins: s.twins,

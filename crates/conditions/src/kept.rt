@@ -1,5 +1,6 @@
 // The conditions that the notes keep for all operators. Constant cost.
 use crate::Target;
+use atom_sets::sets_end;
 use formula_builder::Frame;
 use formula_builder::Step;
 use images::note;
@@ -14,7 +15,7 @@ fn place(notes: &[u16], frame: Frame, t: Target, e: usize) -> usize
     requires { ⌜ Looks frame (now notes) e ⌝ }
     ensures { λ k. ⌜ (0 < k → KeptAt frame (now (notes .entry)) t e k) ⌝ }
 {
-    let c = notes[2 * frame.effects + e];
+    let c = notes[e];
     if c == 0 {
         return 0;
     }
@@ -25,7 +26,7 @@ fn place(notes: &[u16], frame: Frame, t: Target, e: usize) -> usize
     if frame.variables <= v {
         return 0;
     }
-    let k = 3 * frame.effects + ((c as usize) * (2 * frame.variables) + (2 * v + t.clear as usize));
+    let k = sets_end(frame) + ((c as usize) * (2 * frame.variables) + (2 * v + t.clear as usize));
     if notes.len() - frame.effects <= k {
         return 0;
     }

@@ -1,7 +1,6 @@
 // What is known of a row's condition without building. Constant cost.
 use crate::Target;
 use crate::kept::recall;
-use crate::touch::is_outside;
 use crate::touch::touches;
 use formula_builder::Frame;
 use formula_builder::falsity;
@@ -9,7 +8,7 @@ use formula_builder::read_row;
 use formula_builder::truth;
 ghost use Rattle.conditions.specs.Paths.{AsksSeen, Sees};
 
-// The row of effect e's condition plus 1, if the variable lies outside its span, memo or notes have it, or e is no more than an atom; else 0.
+// The row of effect e's condition plus 1, if memo or notes have it, or e is no more than an atom; else 0.
 pub fn seen(
     effects: &[u16],
     notes: &[u16],
@@ -21,9 +20,6 @@ pub fn seen(
     requires { ⌜ AsksSeen frame (now effects) (now notes) (now scratch) e ⌝ }
     ensures { λ w. ⌜ Sees frame (now (effects .entry)) (now (notes .entry)) (now (scratch .entry)) t e w ⌝ }
 {
-    if is_outside(notes, t.variable, e) {
-        return falsity(t.negated) + 1;
-    }
     let known = scratch[2 * frame.formulas + e];
     if 0 < known {
         return known;

@@ -1,27 +1,31 @@
 -- What the parts of filling ask. Assumes nothing.
 use Prim.Native.Nat.{ℕ, _+_, _*_, _≤_, _<_}
 use native.Mathlib.Omega.{arith}
+use native.Mathlib.Decide.{ℕ-discrete}
 use mathlib.Core.Path.{_≡_, refl, _∙_}
 use mathlib.Core.List.{List}
 use lib.ListN.{length}
-use Rattle.task.specs.Table.{Lent, Task, task-of}
+use Rattle.task.specs.Table.{Lent, Task, task-of, row-at}
 use Rattle.task.specs.Check.{refusal}
 use Rattle.task.proofs.Held.{length-formulas, length-operators}
 use Rattle.task.proofs.Trees.{EffectsDown, rules-formulas, rules-effects}
 use Rattle.formula_builder.specs.declared.Frame.{Frame}
 use Rattle.formula_builder.specs.Held.{store}
-use Rattle.conditions.specs.Conditions.{effect-rows}
+use Rattle.atom_sets.specs.Finds.{FindsSets, FoundSets}
+use Rattle.atom_sets.proofs.Places.{sets-behind}
+use Rattle.conditions.specs.Conditions.{effect-rows, EffectSource}
+use Rattle.conditions.proofs.Rows.{both-lower, under-lower, known-kind}
+use Rattle.conditions.proofs.Alone.{atom-within, sets-right}
 use Rattle.conditions.proofs.Notes.{noted-blank}
-use Rattle.spans.specs.Found.{FindsSpans, FoundSpans}
-use Rattle.spans.specs.Columns.{FindsColumns, FoundColumns}
-use Rattle.spans.proofs.Settling.{spans-stay}
+use Rattle.effect_columns.specs.Columns.{FindsColumns, FoundColumns}
+use Rattle.effect_columns.proofs.Settling.{sets-kept}
 use Rattle.changes.specs.Stands.{Leaves}
 use Rattle.building.specs.declared.Progress.{Progress}
 use Rattle.building.specs.Taken.{size-at, Begun, Blank, Taken, Takes}
 use Rattle.building.proofs.Begun.{taken-none}
 use Rattle.lent_tables.specs.declared.Passes.{Passes}
 use Rattle.lent_tables.specs.Fills.{Tables, Fills}
-use Rattle.lent_tables.proofs.Source.{long, source, its-variables, few-effects}
+use Rattle.lent_tables.proofs.Source.{long, source, its-variables, few-variables, few-effects}
 use Rattle.lent_tables.proofs.AsLong.{filled-as}
 use Rattle.finishing.specs.Ends.{frame-of, Ends}
 use Rattle.finishing.proofs.Blank.{zeros}
@@ -135,25 +139,45 @@ module _ {l : Lent} {rows twins effects : ℕ} {x : Tables} {notes built records
   passed : refusal l ≡ 0
   passed = o .begins .lends .passes
 
-  pub finds : FindsSpans (frame-of (l .head) rows twins) (l .effects) notes
+  abbrev its-frame : Frame
+  its-frame = frame-of (l .head) rows twins
+
+  rules : EffectSource (frame-of (l .head) rows twins) (l .effects) (x .scratch)
+  rules = blank-is (o .begins) .effect-source
+
+  kind-most : (i : ℕ) → i < l .head .effects → row-at (l .effects) i .kind ≤ 4
+  kind-most i h = go (ℕ-discrete (row-at (l .effects) i .kind) 4)
+    where
+      go : Dec (row-at (l .effects) i .kind ≡ 4) → row-at (l .effects) i .kind ≤ 4
+      go (yes k) = omega (arith, k)
+      go (no k) = omega (arith, known-kind its-frame (l .formulas) (l .effects) (x .scratch) rules i h k)
+
+  pub finds : FindsSets (frame-of (l .head) rows twins) (l .effects) notes
   finds =
       record {
         words = long l passed .effects;
         limit = few-effects l passed;
-        down = effects-down (o .begins);
+        variables = few-variables l passed;
         room = omega (arith, o .notes-space);
+        both = λ i h k. both-lower its-frame (l .formulas) (l .effects) (x .scratch) rules i h k;
+        under = λ i h k. under-lower its-frame (l .formulas) (l .effects) (x .scratch) rules i h k .1;
+        atom = λ i h some low.
+            atom-within its-frame (l .effects) (x .scratch) rules i h
+            (record { kind = row-at (l .effects) i .kind; a = row-at (l .effects) i .a; b = row-at (l .effects) i .b }) refl some
+            (λ z. omega (arith, z, low)) (λ z. omega (arith, z, low));
+        known = kind-most;
       }
 
-  module _ {spanned : List ℕ} (s : FoundSpans (frame-of (l .head) rows twins) (l .effects) notes spanned) (same : length spanned ≡ length notes) where
-    pub finds-columns : FindsColumns (frame-of (l .head) rows twins) (l .effects) (l .operators) (l .head .operators) spanned
+  module _ {named : List ℕ} (s : FoundSets (frame-of (l .head) rows twins) (l .effects) notes named) (same : length named ≡ length notes) where
+    pub finds-columns : FindsColumns (frame-of (l .head) rows twins) (l .effects) (l .operators) (l .head .operators) named
     finds-columns =
         record {
-          finds =
+          rows =
               record {
                 words = long l passed .effects;
                 limit = few-effects l passed;
+                variables = few-variables l passed;
                 down = effects-down (o .begins);
-                room = s .spans .words;
               };
           roots =
               record {
@@ -168,16 +192,17 @@ module _ {l : Lent} {rows twins effects : ℕ} {x : Tables} {notes built records
     -- with the notes of the two passes
     pub starts :
         {found : List ℕ}
-        → FoundColumns (frame-of (l .head) rows twins) spanned found
-        → length found ≡ length spanned
+        → FoundColumns (frame-of (l .head) rows twins) named found
+        → length found ≡ length named
         → Starts l rows twins effects x found built records
     starts {found} c kept =
         record {
           begins = o .begins;
           noted = λ t.
-              noted-blank (l .formulas) t (spans-stay (frame-of (l .head) rows twins) (l .effects) spanned found kept (c .elsewhere) (s .spans)) (c .columns)
+              noted-blank (l .formulas) t
+              (sets-kept kept (c .elsewhere) (sets-right its-frame (l .effects) (x .scratch) named rules (s .sets))) (c .columns)
               (λ j h.
-              c .elsewhere .behind j (omega arith) ∙ s .behind j (omega arith) ∙ o .blank-notes j);
+              c .elsewhere .behind j (omega (arith, h, sets-behind its-frame)) ∙ s .behind j h ∙ o .blank-notes j);
           fresh = o .fresh;
           space = o .space;
         }

@@ -1,15 +1,16 @@
 // Filling, with notes on the effect rows.
 use crate::whole::fill_built;
+use atom_sets::find_sets;
+use effect_columns::find_columns;
 use formula_builder::Frame;
 use lent_tables::Passes;
-use spans::find_columns;
-use spans::find_spans;
 use task::Head;
 ghost use Rattle.task.specs.Table.{lent};
 ghost use Rattle.lent_tables.specs.Fills.{tables, Fills};
 ghost use Rattle.filling.specs.Begins.{Owns};
 
-// Finds spans and columns, then fills. Costs two passes over the effects and one over the operators, and what filling does.
+// Finds sets of atoms and columns, then fills. Costs two passes over the effects, one of them with two bits a variable, one over the operators, and
+// what filling does.
 pub fn fill_noted(
     head: Head,
     initial: &[u8],
@@ -40,7 +41,7 @@ pub fn fill_noted(
         rows: rows,
         twins: most,
     };
-    find_spans(effects, frame, notes);
+    find_sets(effects, frame, notes);
     find_columns(effects, operators, head.operators as usize, frame, notes);
     fill_built(
         head,

@@ -7,6 +7,7 @@ use Rattle.task.specs.declared.Head.{Head}
 -- a source that small tables may suffice for
 pub record Small (h : Head) (r : Bool) : Type 0 where
   pub few-effects : r ≡ true → h .effects ≤ 512
+  pub few-variables : r ≡ true → h .variables ≤ 128
 
 -- the lesser of two
 pub record Least (a b r : ℕ) : Type 0 where

@@ -1,5 +1,5 @@
 -- Passing over the variables of which an effect names no atom. Assumes nothing.
-use Prim.Native.Nat.{ℕ, zero, suc, _+_, _*_, _≤_, _<_}
+use Prim.Native.Nat.{ℕ, zero, suc, _+_, _-_, _%_, _≤_, _<_}
 use native.Mathlib.Omega.{arith}
 use native.Mathlib.Decide.{decLe, decLt, ℕ-discrete}
 use mathlib.Core.Path.{_≡_, refl, sym, ap, ap₂, _∙_}
@@ -14,47 +14,112 @@ use Rattle.normal_form.specs.Operators.{Changes, deletes-of, changes-of}
 use Rattle.formula_builder.specs.declared.Frame.{Frame}
 use Rattle.formula_builder.specs.declared.Size.{Size}
 use Rattle.formula_builder.specs.Held.{Store, held}
-use Rattle.conditions.specs.Conditions.{effect-tree, condition-at}
+use Rattle.conditions.specs.Conditions.{effect-tree, condition-at, Unnamed}
 use Rattle.changes.specs.Stands.{Reaches}
-use Rattle.touched.specs.Touched.{Unnamed, atom-place}
+use Rattle.atom_sets.specs.Sets.{set-place, lacks}
+use Rattle.atom_sets.proofs.Places.{blank-lacks}
 use Rattle.records.specs.Recorded.{idle, acting, Recorded}
 use Rattle.records.proofs.Keeping.{acting-append}
-use Rattle.operators.specs.Operator.{all-changes}
+use Rattle.operators.specs.Operator.{all-changes, Passes, NextTouched}
 
--- The search for the next variable, at v: no atom of those from one on is named.
-pub one-more-passed :
-    (named : List ℕ) {from : ℕ} (v : ℕ)
-    → ((clear : Bool) (j : ℕ) → from ≤ j → j < v → getD named (atom-place clear j) 0 ≡ 0)
-    → ((clear : Bool) → getD named (atom-place clear v) 0 ≡ 0)
-    → (clear : Bool) (j : ℕ)
-    → from ≤ j
-    → j < v + 1
-    → getD named (atom-place clear j) 0 ≡ 0
-one-more-passed named v p z clear j a b = go (decLt j v)
+pub not-false : (b : Bool) → not b ≡ false → b ≡ true
+not-false true q = refl
+not-false false q = absurd (true≢false q)
+
+-- What is passed over at v.
+pub passes-blank :
+    (frame : Frame) (notes : List ℕ) (e v : ℕ)
+    → eqb (getD notes (set-place frame v e) 0) 0 ≡ true
+    → Passes frame notes e v (8 - v % 8)
+passes-blank frame notes e v z =
+    record {
+      passed = λ clear u a b. blank-lacks frame notes v e (is-zero (getD notes (set-place frame v e) 0) z) clear u (omega (arith, a, b));
+      most = omega arith;
+      stopped = λ q. absurd (omega (arith, q));
+    }
   where
-    go : Dec (j < v) → getD named (atom-place clear j) 0 ≡ 0
-    go (yes h) = p clear j a h
-    go (no h) =
-        let same : j ≡ v = omega arith in
-        rw same (z clear)
+    is-zero : (k : ℕ) → eqb k 0 ≡ true → k ≡ 0
+    is-zero k q = go (ℕ-discrete k 0)
+      where
+        go : Dec (k ≡ 0) → k ≡ 0
+        go (yes e) = e
+        go (no n) = absurd (true≢false (sym q ∙ ne-eqb k 0 n))
 
--- both atoms of a variable, by their bytes
-pub both-passed :
-    (named : List ℕ) (v : ℕ)
-    → getD named (2 * v) 0 ≡ 0
-    → getD named (2 * v + 1) 0 ≡ 0
-    → (clear : Bool)
-    → getD named (atom-place clear v) 0 ≡ 0
-both-passed named v x y false = x
-both-passed named v x y true = y
+pub passes-none :
+    (frame : Frame) (notes : List ℕ) (e v : ℕ) (clear : Bool) (b : Bool)
+    → b ≡ lacks frame notes clear v e
+    → not b ≡ true
+    → Passes frame notes e v 0
+passes-none frame notes e v clear b q n =
+    record {
+      passed = λ clear u x y. absurd (omega (arith, x, y));
+      most = omega arith;
+      stopped = λ _ all. true≢false (sym n ∙ ap not (q ∙ all clear));
+    }
 
--- a byte that is not marked
-pub not-marked : (k : ℕ) → not (eqb k 0) ≡ false → k ≡ 0
-not-marked k q = go (ℕ-discrete k 0)
+pub passes-one :
+    (frame : Frame) (notes : List ℕ) (e v : ℕ) (b d : Bool)
+    → b ≡ lacks frame notes false v e
+    → not b ≡ false
+    → d ≡ lacks frame notes true v e
+    → not d ≡ false
+    → Passes frame notes e v 1
+passes-one frame notes e v b d p x q y =
+    record {
+      passed = λ clear u g h.
+          let same : u ≡ v = omega (arith, g, h) in
+          rw same (go clear);
+      most = omega arith;
+      stopped = λ z. absurd (omega (arith, z));
+    }
   where
-    go : Dec (k ≡ 0) → k ≡ 0
-    go (yes e) = e
-    go (no n) = absurd (true≢false (sym (ap not (ne-eqb k 0 n)) ∙ q))
+    go : (clear : Bool) → lacks frame notes clear v e ≡ true
+    go false = sym p ∙ not-false b x
+    go true = sym q ∙ not-false d y
+
+-- The search for the next variable, at v: of those from one on none is named.
+pub record Searching (frame : Frame) (notes : List ℕ) (e from v : ℕ) : Type 0 where
+  pub above : from ≤ v
+  pub passed : (clear : Bool) (u : ℕ) → from ≤ u → u < v → lacks frame notes clear u e ≡ true
+
+pub searching-none : (frame : Frame) (notes : List ℕ) (e from : ℕ) → Searching frame notes e from from
+searching-none frame notes e from = record { above = omega arith; passed = λ clear u a b. absurd (omega (arith, a, b)) }
+
+pub searching-more :
+    {frame : Frame} {notes : List ℕ} {e from v k : ℕ}
+    → Searching frame notes e from v
+    → Passes frame notes e v k
+    → Searching frame notes e from (v + k)
+searching-more {frame} {notes} {e} {from} {v} {k} s p =
+    record { above = omega (arith, s .above); passed = λ clear u a b. go clear u a b (decLt u v) }
+  where
+    go : (clear : Bool) (u : ℕ) → from ≤ u → u < v + k → Dec (u < v) → lacks frame notes clear u e ≡ true
+    go clear u a b (yes h) = s .passed clear u a h
+    go clear u a b (no h) = p .passed clear u (omega (arith, h)) b
+
+pub searched :
+    {frame : Frame} {notes : List ℕ} {e from v k : ℕ}
+    → Searching frame notes e from v
+    → v < frame .variables
+    → Passes frame notes e v k
+    → k ≡ 0
+    → NextTouched frame notes e from v
+searched s h p z =
+    record { above = s .above; below = omega (arith, h); passed = s .passed; stopped = λ _ all. p .stopped z all }
+
+pub searched-all :
+    {frame : Frame} {notes : List ℕ} {e from v : ℕ}
+    → from ≤ frame .variables
+    → Searching frame notes e from v
+    → frame .variables ≤ v
+    → NextTouched frame notes e from (frame .variables)
+searched-all f s h =
+    record {
+      above = f;
+      below = omega arith;
+      passed = λ clear u a b. s .passed clear u a (omega (arith, b, h));
+      stopped = λ g _. omega (arith, g);
+    }
 
 folded :
     (n v : ℕ) (tree : Effect)

@@ -19,16 +19,16 @@ use Rattle.formula_builder.specs.Held.{Store, held, size-of}
 use Rattle.formula_builder.proofs.Steps.{within-before}
 use Rattle.images.specs.Images.{image-at, Images, Asks}
 use Rattle.images.proofs.Memos.{steady-image-at}
-use Rattle.conditions.specs.Conditions.{effect-tree, Noted}
+use Rattle.conditions.specs.Conditions.{effect-tree, Unnamed, Noted}
 use Rattle.changes.specs.Stands.{Stands, StandsAt, Reaches, Makes, size-after, made}
 use Rattle.changes.proofs.Standing.{stands-next, stands-at-next, leaves-step}
-use Rattle.touched.specs.Touched.{Unnamed, atom-place, Marks}
+use Rattle.atom_sets.specs.Sets.{lacks, InSet}
 use Rattle.changes.specs.declared.Change.{Change}
 use Rattle.records.specs.Recorded.{Keeps, Opens, Recorded}
 use Rattle.records.proofs.Keeping.{recorded-none, recorded-few, recorded-more}
 use Rattle.operators.specs.declared.Tally.{Tally}
-use Rattle.operators.specs.Operator.{all-changes, operator-built, NextTouched, WalksAll, BuildsOperator, size-behind, Walked, OperatorWalked}
-use Rattle.operators.proofs.Passing.{not-marked, stretch-passed, reaches-alike, recorded-alike}
+use Rattle.operators.specs.Operator.{all-changes, operator-built, LooksOn, NextTouched, BuildsOperator, size-behind, Walked, OperatorWalked}
+use Rattle.operators.proofs.Passing.{not-false, stretch-passed, reaches-alike, recorded-alike}
 
 -- nothing is built
 makes-give :
@@ -134,16 +134,39 @@ pub record Walking (frame : Frame) (formulas effects : List ℕ) (e : ℕ) (at :
   pub recorded : Recorded (all-changes frame formulas effects e v (held at before) .value) from l m k
   pub few : k ≤ from + v
 
-module _ {frame : Frame} {formulas effects notes named : List ℕ} {e : ℕ} {at : Size} {before : Store} {s1 : List ℕ} (a : WalksAll frame formulas effects notes named at before s1 e) where
+-- what looking for the next variable asks
+pub looks-on :
+    {frame : Frame} {formulas effects notes₀ notes : List ℕ} {at : Size} {s : Store} {scratch : List ℕ} {t : St} {e from : ℕ}
+    → StandsAt frame formulas effects notes₀ at s scratch e
+    → Noted frame formulas effects notes t
+    → from ≤ frame .variables
+    → LooksOn frame notes e from
+looks-on a n h =
+    record {
+      variables = omega (arith, a .stands .ready .variables);
+      limit = a .stands .effect-source .limit;
+      effect = a .effect;
+      words = n .sets .words;
+      from-most = h;
+    }
+
+-- and at one that is there
+pub looks-at : {frame : Frame} {notes : List ℕ} {e from v : ℕ} → LooksOn frame notes e from → v < frame .variables → InSet frame v e
+looks-at l h = record { variables = l .variables; limit = l .limit; variable = h; effect = l .effect }
+
+module _ {frame : Frame} {formulas effects notes : List ℕ} {e : ℕ} {at : Size} {before : Store} {s1 : List ℕ} (a : StandsAt frame formulas effects notes at before s1 e) where
   -- on to the next variable of which an atom is named
   walking-on :
-      {mid : Store} {s2 : List ℕ} {from : ℕ} {l m : List ℕ} {here : Size} {k v next : ℕ}
+      {mid : Store} {s2 : List ℕ} {from : ℕ} {l m : List ℕ} {here : Size} {k v next : ℕ} {notes' : List ℕ} {t : St}
       → Walking frame formulas effects e at before mid s1 s2 from l m here k v
-      → NextTouched named v (frame .variables) next
+      → Noted frame formulas effects notes' t
+      → NextTouched frame notes' e v next
       → Walking frame formulas effects e at before mid s1 s2 from l m here k next
-  walking-on {v = v} {next = next} w n =
+  walking-on {v = v} {next = next} w noted n =
       let same =
-      stretch-passed frame formulas effects e v next (n .above) (λ j p q clear. a .passed clear j (n .passed clear j p q)) in
+      stretch-passed frame formulas effects e v next (n .above)
+      (λ j p q clear.
+      noted .sets .alone formulas clear j e (omega (arith, q, n .below)) (a .effect) (n .passed clear j p q)) in
       record {
         below = n .below;
         reaches = reaches-alike same (w .reaches);
@@ -153,42 +176,43 @@ module _ {frame : Frame} {formulas effects notes named : List ℕ} {e : ℕ} {at
 
   pub walking-begins :
       {from : ℕ} {l : List ℕ} {next : ℕ}
-      → NextTouched named 0 (frame .variables) next
+      → NextTouched frame notes e 0 next
       → Walking frame formulas effects e at before before s1 s1 from l l at from next
   walking-begins {from} {l} n =
       walking-on
       (record {
         below = omega arith;
-        reaches = changes-none frame formulas effects e (a .stands .stands);
+        reaches = changes-none frame formulas effects e (a .stands);
         recorded = none-recorded frame formulas effects e at before from l;
         few = omega arith;
       })
-      n
+      (a .noted) n
 
   module _ {mid : Store} {s2 : List ℕ} {from : ℕ} {l m : List ℕ} {here : Size} {k v : ℕ} (w : Walking frame formulas effects e at before mid s1 s2 from l m here k v) where
-    -- what the change of variable v asks, whose bytes say what is named, and what recording it asks
+    -- what the change of variable v asks, whose bits say what is named, and what recording it asks
     pub walking-asks :
-        {notes' : List ℕ}
+        {notes' : List ℕ} {sets clears : Bool}
         → Noted frame formulas effects notes' (held here mid)
         → length s2 ≡ length s1
+        → v < frame .variables
+        → sets ≡ lacks frame notes' false v e
+        → clears ≡ lacks frame notes' true v e
         → StandsAt frame formulas effects notes' here mid s2 e
-        × (not (eqb (getD named (2 * v) 0) 0) ≡ false → Unnamed frame formulas effects false v e)
-        × (not (eqb (getD named (2 * v + 1) 0) 0) ≡ false → Unnamed frame formulas effects true v e)
-    walking-asks noted long = (
-      record {
-        stands = stands-next (a .stands .stands) (w .reaches) refl long;
-        noted = noted;
-        effect = a .stands .effect;
-      },
-      λ q. a .passed false v (not-marked (getD named (2 * v) 0) q),
-      λ q. a .passed true v (not-marked (getD named (2 * v + 1) 0) q),
+        × (not sets ≡ false → Unnamed frame formulas effects false v e)
+        × (not clears ≡ false → Unnamed frame formulas effects true v e)
+        × (v < frame .variables)
+    walking-asks {sets = sets} {clears = clears} noted long h p q = (
+      record { stands = stands-next (a .stands) (w .reaches) refl long; noted = noted; effect = a .effect },
+      λ z. noted .sets .alone formulas false v e h (a .effect) (sym p ∙ not-false sets z),
+      λ z. noted .sets .alone formulas true v e h (a .effect) (sym q ∙ not-false clears z),
+      h,
     )
 
     pub walking-keeps : Opens from l → length m ≡ length l → Keeps k m
     walking-keeps o long =
         record {
           room = omega (arith, o .room, long);
-          limit = omega (arith, o .limit, w .few, w .below, a .stands .stands .ready .variables);
+          limit = omega (arith, o .limit, w .few, w .below, a .stands .ready .variables);
         }
 
     module _ {after : Store} {s3 : List ℕ} (c : Change) (y : Makes (changes-of (frame .variables) (effect-tree frame formulas effects e) v) frame formulas here mid after s2 s3 (c .full) (size-after c) (made v c)) where
@@ -208,12 +232,13 @@ module _ {frame : Frame} {formulas effects notes named : List ℕ} {e : ℕ} {at
           }
 
       pub walking-more :
-          {n : List ℕ} {to next : ℕ}
+          {n notes' : List ℕ} {to next : ℕ}
           → c .full ≡ false
           → Recorded (made v c ∷ []) k m n to
-          → NextTouched named (v + 1) (frame .variables) next
+          → Noted frame formulas effects notes' (held (size-after c) after)
+          → NextTouched frame notes' e (v + 1) next
           → Walking frame formulas effects e at before after s1 s3 from l n (size-after c) to next
-      walking-more q z n =
+      walking-more q z noted n =
           walking-on
           (record {
             below = omega (arith, n .above, n .below);
@@ -221,7 +246,7 @@ module _ {frame : Frame} {formulas effects notes named : List ℕ} {e : ℕ} {at
             recorded = more-recorded frame formulas effects e v (w .reaches) c (w .recorded) y q z;
             few = omega (arith, recorded-few z, w .few);
           })
-          n
+          noted n
 
     pub walking-ends :
         {r : Tally}
@@ -304,37 +329,8 @@ pub stands-behind :
 stands-behind {frame} {formulas} {p = p} a x q long =
     stands-at-next (a .stands) (x, leaves-step (steady-image-at frame formulas plain p) (a .stands .noted) (x .builds)) q long
 
--- and what marking asks there
-pub asks-marks :
-    {frame : Frame} {formulas effects notes : List ℕ} {at : Size} {s : Store} {scratch : List ℕ} {e : ℕ} (named : List ℕ)
-    → StandsAt frame formulas effects notes at s scratch e
-    → 1024 ≤ length named
-    → Marks frame effects scratch named e
-asks-marks named a room =
-    record {
-      looks =
-          record {
-            source = a .stands .effect-source;
-            formulas = a .stands .source .limit;
-            room = omega (arith, a .stands .ready .variables);
-            effect = a .effect;
-          };
-      clean = a .stands .clean;
-    }
-
--- what the walk asks after marking, which leaves the scratch as it was
-pub asks-walk :
-    {frame : Frame} {formulas effects notes : List ℕ} {at : Size} {s : Store} {scratch scratch' : List ℕ} {e : ℕ} (named : List ℕ)
-    → StandsAt frame formulas effects notes at s scratch e
-    → scratch' ≡ scratch
-    → 1024 ≤ length named
-    → ((clear : Bool) (v : ℕ) → getD named (atom-place clear v) 0 ≡ 0 → Unnamed frame formulas effects clear v e)
-    → WalksAll frame formulas effects notes named at s scratch' e
-asks-walk {frame} named a same room passed =
-    rw same (record { stands = a; room = omega (arith, a .stands .ready .variables); passed = passed })
-
--- Walked: the precondition, then all changes, of a scratch that marking left as it was.
-module _ (frame : Frame) (formulas effects : List ℕ) (p e : ℕ) {at : Size} {before mid after : Store} {s1 s2 s2' s3 : List ℕ} {f : Step} {from : ℕ} {l m : List ℕ} {w : Tally} (x : Images (image-at frame formulas plain p) frame formulas at before mid s1 s2 f) (q : f .full ≡ false) (same : s2' ≡ s2) (y : Walked (all-changes frame formulas effects e (frame .variables)) frame formulas (size-of f) mid after s2' s3 from l m w) where
+-- Walked: the precondition, then all changes.
+module _ (frame : Frame) (formulas effects : List ℕ) (p e : ℕ) {at : Size} {before mid after : Store} {s1 s2 s3 : List ℕ} {f : Step} {from : ℕ} {l m : List ℕ} {w : Tally} (x : Images (image-at frame formulas plain p) frame formulas at before mid s1 s2 f) (q : f .full ≡ false) (y : Walked (all-changes frame formulas effects e (frame .variables)) frame formulas (size-of f) mid after s2 s3 from l m w) where
   value-is :
       operator-built frame formulas effects p e (held at before) .value
       ≡ all-changes frame formulas effects e (frame .variables) (held (size-of f) mid) .value
@@ -350,7 +346,7 @@ module _ (frame : Frame) (formulas effects : List ℕ) (p e : ℕ) {at : Size} {
       (record {
         walked =
             record {
-              reaches = operator-done frame formulas effects p e x q (rw same at (y .reaches));
+              reaches = operator-done frame formulas effects p e x q (y .reaches);
               recorded = λ z. as-recorded value-is (y .recorded z);
             };
         precondition = λ _. x .builds .done q .value;

@@ -1,9 +1,9 @@
 -- What building one operator asks and gives.
-use Prim.Native.Nat.{ℕ, _*_, _≤_, _<_}
+use Prim.Native.Nat.{ℕ, _+_, _≤_, _<_}
 use mathlib.Core.Path.{_≡_}
-use mathlib.Core.Bool.{Bool, false}
+use mathlib.Core.Bool.{Bool, true, false}
 use mathlib.Core.List.{List}
-use lib.ListN.{length, getD}
+use lib.ListN.{length}
 use Rattle.normal_form.specs.Builder.{Build, bind, each, plain}
 use Rattle.normal_form.specs.Operators.{Changes, changes-of}
 use Rattle.formula_builder.specs.declared.Frame.{Frame}
@@ -13,7 +13,7 @@ use Rattle.images.specs.Images.{image-at}
 use Rattle.conditions.specs.Conditions.{effect-tree}
 use Rattle.task.specs.Table.{row-at}
 use Rattle.changes.specs.Stands.{StandsAt, Reaches}
-use Rattle.touched.specs.Touched.{Unnamed, atom-place}
+use Rattle.atom_sets.specs.Sets.{lacks, sets-end}
 use Rattle.records.specs.Recorded.{Recorded}
 use Rattle.operators.specs.declared.Tally.{Tally}
 
@@ -26,17 +26,26 @@ unfoldable pub operator-built : Frame → List ℕ → List ℕ → ℕ → ℕ 
 operator-built frame formulas effects p e =
     bind (image-at frame formulas plain p) (λ f. all-changes frame formulas effects e (frame .variables))
 
--- The first variable from one on, below n, of which an atom is named; n if there is none.
-pub record NextTouched (named : List ℕ) (from n next : ℕ) : Type 0 where
-  pub above : from ≤ next
-  pub below : next ≤ n
-  pub passed : (clear : Bool) (v : ℕ) → from ≤ v → v < next → getD named (atom-place clear v) 0 ≡ 0
-  pub stopped : next < n → ((clear : Bool) → getD named (atom-place clear next) 0 ≡ 0) → ⊥
+-- Of k variables from v on effect e names no atom; if k is 0, it names one of v.
+pub record Passes (frame : Frame) (notes : List ℕ) (e v k : ℕ) : Type 0 where
+  pub passed : (clear : Bool) (u : ℕ) → v ≤ u → u < v + k → lacks frame notes clear u e ≡ true
+  pub most : k ≤ 8
+  pub stopped : k ≡ 0 → ((clear : Bool) → lacks frame notes clear v e ≡ true) → ⊥
 
-pub record WalksAll (frame : Frame) (formulas effects notes named : List ℕ) (at : Size) (s : Store) (scratch : List ℕ) (e : ℕ) : Type 0 where
-  pub stands : StandsAt frame formulas effects notes at s scratch e
-  pub room : 2 * frame .variables ≤ length named
-  pub passed : (clear : Bool) (v : ℕ) → getD named (atom-place clear v) 0 ≡ 0 → Unnamed frame formulas effects clear v e
+-- What looking for the next variable asks.
+pub record LooksOn (frame : Frame) (notes : List ℕ) (e from : ℕ) : Type 0 where
+  pub variables : frame .variables ≤ 512
+  pub limit : frame .effects ≤ 4096
+  pub effect : e < frame .effects
+  pub words : sets-end frame ≤ length notes
+  pub from-most : from ≤ frame .variables
+
+-- The first variable from one on of which effect e names an atom; V if there is none.
+pub record NextTouched (frame : Frame) (notes : List ℕ) (e from next : ℕ) : Type 0 where
+  pub above : from ≤ next
+  pub below : next ≤ frame .variables
+  pub passed : (clear : Bool) (v : ℕ) → from ≤ v → v < next → lacks frame notes clear v e ≡ true
+  pub stopped : next < frame .variables → ((clear : Bool) → lacks frame notes clear next e ≡ true) → ⊥
 
 pub record BuildsOperator (frame : Frame) (formulas effects notes : List ℕ) (at : Size) (s : Store) (scratch : List ℕ) (p e : ℕ) : Type 0 where
   pub stands : StandsAt frame formulas effects notes at s scratch e

@@ -4,7 +4,6 @@ use crate::walk::build_changes;
 use formula_builder::Frame;
 use formula_builder::Size;
 use images::image;
-use touched::touched_by;
 ghost use Rattle.formula_builder.specs.Held.{store};
 ghost use Rattle.changes.specs.Stands.{Leaves};
 ghost use Rattle.records.specs.Recorded.{Opens};
@@ -38,14 +37,11 @@ pub fn build_operator(
             full: true,
         };
     }
-    let mut named = [0u8; 1024];
-    touched_by(effects, e, frame, scratch, &mut named);
     let r = build_changes(
         formulas,
         effects,
         notes,
         e,
-        &named,
         frame,
         Size {
             rows: f.rows,

@@ -1,31 +1,51 @@
 // The changes of all variables, upwards.
 use crate::Tally;
+use atom_sets::is_blank;
+use atom_sets::lacks;
 use changes::change_of;
 use formula_builder::Frame;
 use formula_builder::Size;
 use records::keep_change;
 use rule_writer::Changes;
-ghost use Prim.Native.Nat.{_*_, _≤_};
+ghost use Prim.Native.Nat.{_≤_};
 ghost use lib.ListN.{length};
 ghost use Rattle.formula_builder.specs.Held.{store};
-ghost use Rattle.changes.specs.Stands.{Leaves};
+ghost use Rattle.atom_sets.specs.Sets.{InSet, sets-end};
+ghost use Rattle.changes.specs.Stands.{StandsAt, Leaves};
 ghost use Rattle.records.specs.Recorded.{Opens};
-ghost use Rattle.operators.specs.Operator.{NextTouched, WalksAll, Walked, all-changes, size-behind};
+ghost use Rattle.operators.specs.Operator.{Passes, LooksOn, NextTouched, Walked, all-changes, size-behind};
 
-// The first variable from one on, below n, of which an atom is named; n if there is none. A step for each that is passed over.
-fn next_touched(named: &[u8], from: usize, n: usize) -> usize
-    requires { ⌜ (from ≤ n) × (2 * n ≤ length (now named)) ⌝ }
-    ensures { λ r. ⌜ NextTouched (now (named .entry)) from n r ⌝ }
+// How many variables from v on are passed over at once: none, if effect e names an atom of v; those left of v's word, if that has no atom; else v alone.
+fn passed_at(notes: &[u16], frame: Frame, e: usize, v: usize) -> usize
+    requires { ⌜ InSet frame v e × (sets-end frame ≤ length (now notes)) ⌝ }
+    ensures { λ k. ⌜ Passes frame (now (notes .entry)) e v k ⌝ }
 {
+    if is_blank(notes, frame, v, e) {
+        return 8 - v % 8;
+    }
+    if !lacks(notes, frame, false, v, e) {
+        return 0;
+    }
+    if !lacks(notes, frame, true, v, e) {
+        return 0;
+    }
+    1
+}
+
+// The first variable from one on of which effect e names an atom; V if there is none. At most a step for each that is passed over, one for eight
+// in a stretch that e leaves alone.
+fn next_touched(notes: &[u16], frame: Frame, e: usize, from: usize) -> usize
+    requires { ⌜ LooksOn frame (now notes) e from ⌝ }
+    ensures { λ r. ⌜ NextTouched frame (now (notes .entry)) e from r ⌝ }
+{
+    let n = frame.variables;
     let mut v = from;
     while v < n {
-        if named[2 * v] != 0 {
+        let k = passed_at(notes, frame, e, v);
+        if k == 0 {
             return v;
         }
-        if named[2 * v + 1] != 0 {
-            return v;
-        }
-        v += 1;
+        v += k;
     }
     n
 }
@@ -36,7 +56,6 @@ pub fn build_changes(
     effects: &[u16],
     notes: &mut [u16],
     e: usize,
-    named: &[u8],
     frame: Frame,
     at: Size,
     table: &mut [u16],
@@ -45,22 +64,22 @@ pub fn build_changes(
     from: usize,
     records: &mut [u16],
 ) -> Tally
-    requires { ⌜ WalksAll frame (now formulas) (now effects) (now notes) (now named) at (store (now table) (now originals)) (now scratch) e × Opens from (now records) ⌝ }
+    requires { ⌜ StandsAt frame (now formulas) (now effects) (now notes) at (store (now table) (now originals)) (now scratch) e × Opens from (now records) ⌝ }
     ensures { λ r. ⌜ Walked (all-changes frame (now (formulas .entry)) (now (effects .entry)) e (frame .variables)) frame (now (formulas .entry)) at (store (now (table .entry)) (now (originals .entry))) (store (now (table .exit)) (now (originals .exit))) (now (scratch .entry)) (now (scratch .exit)) from (now (records .entry)) (now (records .exit)) r × Leaves (r .full) frame (now (formulas .entry)) (now (effects .entry)) (now (notes .exit)) (size-behind r) (store (now (table .exit)) (now (originals .exit))) ⌝ }
 {
     let n = frame.variables;
     let mut rows = at.rows;
     let mut twins = at.twins;
     let mut k = from;
-    let mut v = next_touched(named, 0, n);
+    let mut v = next_touched(notes, frame, e, 0);
     while v < n {
         let here = Size {
             rows: rows,
             twins: twins,
         };
         let variable = v as u16;
-        let sets = named[2 * v] != 0;
-        let clears = named[2 * v + 1] != 0;
+        let sets = !lacks(notes, frame, false, v, e);
+        let clears = !lacks(notes, frame, true, v, e);
         let c = change_of(
             formulas,
             effects,
@@ -95,7 +114,7 @@ pub fn build_changes(
                 deletes: c.deletes,
             },
         );
-        v = next_touched(named, v + 1, n);
+        v = next_touched(notes, frame, e, v + 1);
     }
     Tally {
         rows: rows,

@@ -1,25 +1,42 @@
 -- Tables of 0 of the call's own: for notes, for rows and their index, for records. Assumes nothing.
-use Prim.Native.Nat.{ℕ, _*_, _≤_}
+use Prim.Native.Nat.{ℕ, _+_, _*_, _/_, _≤_, _<_}
 use native.Mathlib.Omega.{arith}
+use native.Mathlib.Decide.{decLt}
+use native.Mathlib.Nat.{mul-le-mul}
+use mathlib.Core.Path.{_≡_}
+use mathlib.Core.Bool.{Bool, true}
 use lib.ListN.{replicate, length-replicate}
 use Rattle.task.specs.Table.{Lent}
 use Rattle.lent_tables.specs.Fills.{Tables}
-use Rattle.lent_tables.proofs.Source.{few-effects}
+use Rattle.lent_tables.proofs.Source.{few-variables, few-effects}
+use Rattle.atom_sets.specs.Sets.{sets-end, set-words}
+use Rattle.finishing.specs.Ends.{frame-of}
 use Rattle.finishing.proofs.Blank.{zero-at}
 use Rattle.filling.specs.Begins.{Begins, Owns}
-use Rattle.own_tables.specs.Few.{BeginsSmall}
+use Rattle.own_tables.specs.Few.{Few, BeginsSmall, BeginsFew}
+
+-- so much room the sets take, with the words before them and the path
+sets-room :
+    (l : Lent) (rows twins s e : ℕ)
+    → (l .head .variables + 7) / 8 ≤ s
+    → l .head .effects ≤ e
+    → sets-end (frame-of (l .head) rows twins) + l .head .effects ≤ s * e + 5 * e
+unfolding sets-end set-words
+sets-room l rows twins s e h g =
+    let x : (l .head .variables + 7) / 8 * l .head .effects ≤ s * e = mul-le-mul {n₂ = s} {m₂ = e} h g in
+    omega (arith, x, g)
 
 module _ {l : Lent} {rows twins effects : ℕ} {x : Tables} where
   owns :
       (notes built : ℕ)
       → Begins l rows twins effects x
-      → 4 * l .head .effects ≤ notes
+      → sets-end (frame-of (l .head) rows twins) + l .head .effects ≤ notes
       → 6 * rows ≤ built
       → Owns l rows twins effects x (replicate notes 0) (replicate built 0) (replicate 6912 0)
   owns notes built b n h =
       record {
         begins = b;
-        notes-space = omega (arith, length-replicate {A = ℕ} notes 0);
+        notes-space = omega (arith, n, length-replicate {A = ℕ} notes 0);
         blank-notes = zero-at notes;
         fresh =
             record {
@@ -32,15 +49,37 @@ module _ {l : Lent} {rows twins effects : ℕ} {x : Tables} where
 
   pub owns-many :
       Begins l rows twins effects x
-      → Owns l rows twins effects x (replicate 344064 0) (replicate 24576 0) (replicate 6912 0)
-  owns-many b = owns 344064 24576 b (omega (arith, few-effects l (b .lends .passes))) (omega (arith, b .lends .rows-limit))
+      → Owns l rows twins effects x (replicate 610304 0) (replicate 24576 0) (replicate 6912 0)
+  owns-many b =
+      let room =
+      sets-room l rows twins 64 4096 (omega (arith, few-variables l (b .lends .passes))) (few-effects l (b .lends .passes)) in
+      owns 610304 24576 b (omega (arith, room)) (omega (arith, b .lends .rows-limit))
 
   pub owns-few :
-      Begins l rows twins effects x
-      → Owns l rows twins effects x (replicate 78848 0) (replicate 24576 0) (replicate 6912 0)
-  owns-few b = owns 78848 24576 b (omega (arith, few-effects l (b .lends .passes))) (omega (arith, b .lends .rows-limit))
+      BeginsFew l rows twins effects x
+      → Owns l rows twins effects x (replicate 132096 0) (replicate 24576 0) (replicate 6912 0)
+  owns-few b = owns 132096 24576 (b .begins) (go (decLt 96 (l .head .variables))) (omega (arith, b .begins .lends .rows-limit))
+    where
+      go : Dec (96 < l .head .variables) → sets-end (frame-of (l .head) rows twins) + l .head .effects ≤ 132096
+      go (yes h) =
+          let room = sets-room l rows twins 64 1024 (omega (arith, few-variables l (b .begins .lends .passes))) (b .few h) in
+          omega (arith, room)
+      go (no h) =
+          let room = sets-room l rows twins 12 4096 (omega (arith, h)) (few-effects l (b .begins .lends .passes)) in
+          omega (arith, room)
 
   pub owns-small :
       BeginsSmall l rows twins effects x
-      → Owns l rows twins effects x (replicate 5632 0) (replicate 3072 0) (replicate 6912 0)
-  owns-small b = owns 5632 3072 (b .begins) (omega (arith, b .few-effects)) (omega (arith, b .few-rows))
+      → Owns l rows twins effects x (replicate 14336 0) (replicate 3072 0) (replicate 6912 0)
+  owns-small b =
+      let room = sets-room l rows twins 16 512 (omega (arith, b .few-variables)) (b .few-effects) in
+      owns 14336 3072 (b .begins) (omega (arith, room)) (omega (arith, b .few-rows))
+
+  -- a choice that leaves few
+  pub few-chosen :
+      {r : Bool}
+      → Begins l rows twins effects x
+      → Few (l .head) r
+      → r ≡ true
+      → BeginsFew l rows twins effects x
+  few-chosen b f q = record { begins = b; few = f .few q }

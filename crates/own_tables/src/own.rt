@@ -7,11 +7,12 @@ ghost use Prim.Native.Nat.{_≤_};
 ghost use Rattle.task.specs.Table.{lent};
 ghost use Rattle.lent_tables.specs.Fills.{tables, Fills};
 ghost use Rattle.filling.specs.Begins.{Begins};
-ghost use Rattle.own_tables.specs.Few.{BeginsSmall};
+ghost use Rattle.own_tables.specs.Few.{Few, BeginsSmall, BeginsFew};
 
 // The first has the words of 4,096 rows, two links for each, and 4,096 heads: 48 KiB, cleared. The second has three words for
-// each of 256 operators and 2,048 changes: 13.5 KiB, cleared. The third has four words for each of 4,096 effects, and for each of 320 columns,
-// of which the first is not used, two for each of 512 variables: 672 KiB, cleared; fewer variables have more columns.
+// each of 256 operators and 2,048 changes: 13.5 KiB, cleared. The third has for each of 4,096 effects four words, a set of two bits for each of
+// 512 variables and a word of the path, and for each of 320 columns, of which the first is not used, two words for each variable: 1.2 MiB, cleared; fewer
+// variables have more columns.
 fn fill_many(
     head: Head,
     initial: &[u8],
@@ -34,7 +35,7 @@ fn fill_many(
 {
     let mut built = [0u16; 24576];
     let mut records = [0u16; 6912];
-    let mut notes = [0u16; 344064];
+    let mut notes = [0u16; 610304];
     fill_noted(
         head,
         initial,
@@ -57,7 +58,7 @@ fn fill_many(
     )
 }
 
-// The same with 61 columns in place of 320, so that the notes take 154 KiB, cleared.
+// The same for at most 96 variables or at most 1,024 effects: the notes take 258 KiB, cleared.
 fn fill_few(
     head: Head,
     initial: &[u8],
@@ -75,12 +76,12 @@ fn fill_few(
     written: &mut [u16],
     scratch: &mut [u16],
 ) -> Passes
-    requires { ⌜ Begins (lent head (now initial) (now twins) (now formulas) (now effects) (now operators)) rows most room (tables (now values) (now originals) (now table) (now out) (now written) (now scratch)) ⌝ }
+    requires { ⌜ BeginsFew (lent head (now initial) (now twins) (now formulas) (now effects) (now operators)) rows most room (tables (now values) (now originals) (now table) (now out) (now written) (now scratch)) ⌝ }
     ensures { λ r. ⌜ Fills (lent head (now (initial .entry)) (now (twins .entry)) (now (formulas .entry)) (now (effects .entry)) (now (operators .entry))) (tables (now (values .entry)) (now (originals .entry)) (now (table .entry)) (now (out .entry)) (now (written .entry)) (now (scratch .entry))) (tables (now (values .exit)) (now (originals .exit)) (now (table .exit)) (now (out .exit)) (now (written .exit)) (now (scratch .exit))) r ⌝ }
 {
     let mut built = [0u16; 24576];
     let mut records = [0u16; 6912];
-    let mut notes = [0u16; 78848];
+    let mut notes = [0u16; 132096];
     fill_noted(
         head,
         initial,
@@ -103,8 +104,10 @@ fn fill_few(
     )
 }
 
-// Whether few columns do: with few variables they are narrow, and for few effects few are wanted. Nothing is promised: either would do.
-fn few_do(head: Head) -> bool {
+// Whether the smaller notes do: with few variables sets and columns are narrow, for few effects there are few.
+fn few_do(head: Head) -> bool
+    ensures { λ r. ⌜ Few head r ⌝ }
+{
     if head.variables <= 96 {
         return true;
     }
@@ -170,7 +173,7 @@ pub fn fill(
     )
 }
 
-// The same for at most 512 rows and 512 effects: 6 KiB, 13.5 KiB and 11 KiB, cleared.
+// The same for at most 512 rows, 512 effects and 128 variables: 6 KiB, 13.5 KiB and 28 KiB, cleared.
 pub fn fill_small(
     head: Head,
     initial: &[u8],
@@ -193,7 +196,7 @@ pub fn fill_small(
 {
     let mut built = [0u16; 3072];
     let mut records = [0u16; 6912];
-    let mut notes = [0u16; 5632];
+    let mut notes = [0u16; 14336];
     fill_noted(
         head,
         initial,

@@ -156,14 +156,16 @@ module _ (l : Lent) (x : Tables) (n : ℕ) (within : n ≤ length (x .formulas))
         (twins effects : ℕ)
         → n ≤ 1536
         → l .head .effects ≤ 512
+        → l .head .variables ≤ 128
         → MostTwins (l .head .variables) (length (x .initial)) (length (x .twins)) twins
         → Least 4096 (length (x .effects) / 3) effects
         → BeginsSmall l (n / 3) twins effects front
-    front-begins twins effects h few w f =
+    front-begins twins effects h few narrow w f =
         record {
           begins = begins l front front-roomy (n / 3) twins effects rows w f;
           few-rows = omega arith;
           few-effects = few;
+          few-variables = narrow;
         }
       where
         rows : Least 4096 (length (take n (x .formulas)) / 3) (n / 3)

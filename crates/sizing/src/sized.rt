@@ -68,7 +68,7 @@ fn fill_front(
     written: &mut [u16],
     scratch: &mut [u16],
 ) -> Passes
-    requires { ⌜ (Roomy (lent head (now initial) (now twins) (now formulas) (now effects) (now operators)) (tables (now values) (now originals) (now table) (now out) (now written) (now scratch))) × (head .effects ≤ 512) ⌝ }
+    requires { ⌜ (Roomy (lent head (now initial) (now twins) (now formulas) (now effects) (now operators)) (tables (now values) (now originals) (now table) (now out) (now written) (now scratch))) × (head .effects ≤ 512) × (head .variables ≤ 128) ⌝ }
     ensures { λ r. ⌜ Tries (lent head (now (initial .entry)) (now (twins .entry)) (now (formulas .entry)) (now (effects .entry)) (now (operators .entry))) (tables (now (values .entry)) (now (originals .entry)) (now (table .entry)) (now (out .entry)) (now (written .entry)) (now (scratch .entry))) (tables (now (values .exit)) (now (originals .exit)) (now (table .exit)) (now (out .exit)) (now (written .exit)) (now (scratch .exit))) r ⌝ }
 {
     let n = least(1536, table.len());
@@ -108,7 +108,7 @@ fn fill_front_first(
     written: &mut [u16],
     scratch: &mut [u16],
 ) -> Passes
-    requires { ⌜ (Roomy (lent head (now initial) (now twins) (now formulas) (now effects) (now operators)) (tables (now values) (now originals) (now table) (now out) (now written) (now scratch))) × (head .effects ≤ 512) ⌝ }
+    requires { ⌜ (Roomy (lent head (now initial) (now twins) (now formulas) (now effects) (now operators)) (tables (now values) (now originals) (now table) (now out) (now written) (now scratch))) × (head .effects ≤ 512) × (head .variables ≤ 128) ⌝ }
     ensures { λ r. ⌜ Fills (lent head (now (initial .entry)) (now (twins .entry)) (now (formulas .entry)) (now (effects .entry)) (now (operators .entry))) (tables (now (values .entry)) (now (originals .entry)) (now (table .entry)) (now (out .entry)) (now (written .entry)) (now (scratch .entry))) (tables (now (values .exit)) (now (originals .exit)) (now (table .exit)) (now (out .exit)) (now (written .exit)) (now (scratch .exit))) r ⌝ }
 {
     let p = fill_front(

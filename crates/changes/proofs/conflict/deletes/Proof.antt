@@ -26,7 +26,7 @@ returns-2 : tie.Need-returns-2
 returns-2 c = rw (c .standing2 .ensures) ((never-cleared (c .before .before .before .before .before .before .before .before .before .args .frame) (c .before .before .before .before .before .before .before .before .before .args .formulas .now) (c .before .before .before .before .before .before .before .before .before .args .effects .now) (c .before .before .before .before .before .before .before .before .before .args .at) (store (c .before .before .before .before .before .before .before .before .before .args .table .now) (c .before .before .before .before .before .before .before .before .before .args .originals .now)) (c .before .before .before .before .before .before .before .before .before .args .scratch .now) (c .before .before .before .before .before .before .before .before .before .args .e) (c .before .before .before .before .before .before .before .before .before .args .v) (c .before .before .before .before .before .before .before .before .before .args .a) (c .before .before .before .before .before .before .before .before .before .args .d) (c .before .before .before .before .before .before .before .before .before .pre) (c .before .before .if1 .left) (c .before .if2 .taken)), leaves-same (c .before .before .before .before .before .before .before .before .before .pre .stands .noted))
 
 condition-of-requires : tie.Need-condition-of-requires
-condition-of-requires c κs = search needs
+condition-of-requires c κs = (c .before .before .before .before .before .before .before .before .before .before .before .before .pre .stands, c .before .before .before .before .before .before .before .before .before .before .before .before .pre .variable)
 
 same-length : tie.Need-same-length
 same-length c = c .before .before .before .before .before .before .before .before .before .condition-of .kept .1 .1 .0

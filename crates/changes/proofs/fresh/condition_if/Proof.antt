@@ -9,7 +9,7 @@ use Rattle.formula_builder.proofs.standing.Reads as standing-reads
 use Rattle.changes.proofs.Standing.{images-unnamed, leaves-same}
 
 condition-of-requires : tie.Need-condition-of-requires
-condition-of-requires c κs = search needs
+condition-of-requires c κs = (c .before .before .before .before .before .before .before .before .before .before .before .pre .0, c .before .before .before .before .before .before .before .before .before .before .before .pre .1)
 
 same-length : tie.Need-same-length
 same-length c = search needs
@@ -33,7 +33,7 @@ standing-requires : tie.Need-standing-requires
 standing-requires c κs = search needs
 
 returns-2 : tie.Need-returns-2
-returns-2 c = rw (c .standing .ensures, c .before .falsity .ensures) (images-unnamed (c .before .before .before .before .before .before .before .before .before .args .t) (c .before .before .before .before .before .before .before .before .before .pre .0) (c .before .before .before .before .before .before .before .before .before .pre .1 (c .before .before .if1 .left)), leaves-same (c .before .before .before .before .before .before .before .before .before .pre .0 .noted))
+returns-2 c = rw (c .standing .ensures, c .before .falsity .ensures) (images-unnamed (c .before .before .before .before .before .before .before .before .before .args .t) (c .before .before .before .before .before .before .before .before .before .pre .0) (c .before .before .before .before .before .before .before .before .before .pre .2 (c .before .before .if1 .left)), leaves-same (c .before .before .before .before .before .before .before .before .before .pre .0 .noted))
 
 pub condition-if-spec : {M : Type 1} → statement M
 condition-if-spec =

@@ -17,6 +17,7 @@ use Rattle.conditions.proofs.kept.keep.Reads as keep-reads
 use Rattle.conditions.proofs.path.descend.Reads as descend-reads
 use Rattle.conditions.proofs.seen.seen.Reads as seen-reads
 use Rattle.conditions.proofs.under.under.Reads as under-reads
+use Rattle.atom_sets.proofs.lacks.Reads as lacks-reads
 use Rattle.formula_builder.proofs.join.Reads as join-reads
 use Rattle.formula_builder.proofs.standing.Reads as standing-reads
 use Rattle.formula_builder.proofs.read_row.Reads as read-row-reads
@@ -26,13 +27,13 @@ use Rattle.conditions.proofs.cycle.+above+below+both+raise.Tie.{close}
 use borrow.Author.Needs.{needs}
 use Prim.Native.Nat.{_+_, _-_, _*_}
 use native.Mathlib.Omega.{arith}
-use mathlib.Core.Path.{_≡_, refl, _∙_}
+use mathlib.Core.Path.{_≡_, refl, sym, _∙_}
 use lib.ListN.{length}
 use Rattle.formula_builder.specs.Held.{store, size-of}
 use Rattle.images.proofs.Cases.{notes-ready}
 use Rattle.conditions.specs.Paths.{Rising}
 use Rattle.conditions.proofs.Notes.{looks, small-row}
-use Rattle.conditions.proofs.Cases.{known-join-asks, right-known, right-full, right-join-asks, right-done, right-lower, right-asks, climbs-both, under-asks, climbs-under, raised}
+use Rattle.conditions.proofs.Cases.{right-in-set, right-lacks, climbs-right, known-join-asks, right-known, right-full, right-join-asks, right-done, right-lower, right-asks, climbs-both, under-asks, climbs-under, raised}
 use Rattle.conditions.proofs.Descents.{path-read}
 use Rattle.conditions.proofs.Ascents.{asks-seen, asks-descent, asks-below, rising-none, rising-long, rising-all, rising-room, rising-falls, rising-asks, rising-more, rising-full}
 
@@ -72,14 +73,17 @@ raise-at t = and 6 raise-kinds.ps (is 6 raise-kinds.ps μ-raise t) raise.Pre
 abbrev raise-below : ℕ → In 6 raise-kinds.ps
 raise-below t = and 6 raise-kinds.ps (falls 6 raise-kinds.ps _<_ μ-raise t) raise.Pre
 
+above-returns : (t : ℕ) → above-lts.Need-returns (read-row-reads.Asked, read-row-reads.Learnt, both-below t, both.Post, under-reads.Asked, under-reads.Learnt) (above-at t) above.Post
+above-returns t c = climbs-right (c .before .before .before .before .before .before .before .pre .1) (c .if1 .taken)
+
 above-read-row-requires : (t : ℕ) → above-lts.Need-read-row-requires (read-row-reads.Asked, read-row-reads.Learnt, both-below t, both.Post, under-reads.Asked, under-reads.Learnt) (above-at t) above.Post
-above-read-row-requires t c κs = omega (arith, c .before .before .before .before .before .before .pre .1 .below .asks .effect-source .words, c .before .before .before .before .before .before .pre .1 .below .asks .effect)
+above-read-row-requires t c κs = omega (arith, c .before .before .before .before .before .before .before .pre .1 .below .asks .effect-source .words, c .before .before .before .before .before .before .before .pre .1 .below .asks .effect)
 
 above-cast-d : (t : ℕ) → above-lts.Need-cast-d (read-row-reads.Asked, read-row-reads.Learnt, both-below t, both.Post, under-reads.Asked, under-reads.Learnt) (above-at t) above.Post
 above-cast-d t c = search needs
 
 above-both-requires : (t : ℕ) → above-lts.Need-both-requires (read-row-reads.Asked, read-row-reads.Learnt, both-below t, both.Post, under-reads.Asked, under-reads.Learnt) (above-at t) above.Post
-above-both-requires t c κs = (omega (arith, c .before .before .before .before .before .before .before .before .before .before .before .before .before .before .pre .0, right-lower (c .before .before .before .before .before .before .before .before .before .before .before .before .before .before .pre .1) (c .before .before .before .before .before .before .before .read-row .result) (c .before .before .before .before .before .before .before .read-row .ensures) (c .before .before .before .before .before .if1 .taken)), right-asks (c .before .before .before .before .before .before .before .before .before .before .before .before .before .before .pre .1) (c .before .before .before .before .before .before .before .read-row .result) (c .before .before .before .before .before .before .before .read-row .ensures) (c .before .before .before .before .before .if1 .taken))
+above-both-requires t c κs = (omega (arith, c .before .before .before .before .before .before .before .before .before .before .before .before .before .before .before .pre .0, right-lower (c .before .before .before .before .before .before .before .before .before .before .before .before .before .before .before .pre .1) (c .before .before .before .before .before .before .before .before .if1 .left) (c .before .before .before .before .before .before .before .read-row .result) (c .before .before .before .before .before .before .before .read-row .ensures) (c .before .before .before .before .before .if2 .taken)), right-asks (c .before .before .before .before .before .before .before .before .before .before .before .before .before .before .before .pre .1) (c .before .before .before .before .before .before .before .before .if1 .left) (c .before .before .before .before .before .before .before .read-row .result) (c .before .before .before .before .before .before .before .read-row .ensures) (c .before .before .before .before .before .if2 .taken))
 
 above-same-length : (t : ℕ) → above-lts.Need-same-length (read-row-reads.Asked, read-row-reads.Learnt, both-below t, both.Post, under-reads.Asked, under-reads.Learnt) (above-at t) above.Post
 above-same-length t c = search needs
@@ -93,14 +97,14 @@ above-same-length-3 t c = search needs
 above-same-length-4 : (t : ℕ) → above-lts.Need-same-length-4 (read-row-reads.Asked, read-row-reads.Learnt, both-below t, both.Post, under-reads.Asked, under-reads.Learnt) (above-at t) above.Post
 above-same-length-4 t c = search needs
 
-above-returns : (t : ℕ) → above-lts.Need-returns (read-row-reads.Asked, read-row-reads.Learnt, both-below t, both.Post, under-reads.Asked, under-reads.Learnt) (above-at t) above.Post
-above-returns t c = climbs-both (c .before .before .before .before .before .before .before .before .before .before .before .before .before .before .before .before .before .before .before .before .before .before .before .pre .1) (c .before .before .before .before .before .before .before .before .before .before .before .before .before .before .before .before .read-row .result) (c .before .before .before .before .before .before .before .before .before .before .before .before .before .before .before .before .read-row .ensures) (c .before .before .before .before .before .before .before .before .before .before .before .before .before .before .if1 .taken) (c .before .before .before .before .before .before .before .before .both .ensures)
+above-returns-2 : (t : ℕ) → above-lts.Need-returns-2 (read-row-reads.Asked, read-row-reads.Learnt, both-below t, both.Post, under-reads.Asked, under-reads.Learnt) (above-at t) above.Post
+above-returns-2 t c = climbs-both (c .before .before .before .before .before .before .before .before .before .before .before .before .before .before .before .before .before .before .before .before .before .before .before .before .pre .1) (c .before .before .before .before .before .before .before .before .before .before .before .before .before .before .before .before .before .if1 .left) (c .before .before .before .before .before .before .before .before .before .before .before .before .before .before .before .before .read-row .result) (c .before .before .before .before .before .before .before .before .before .before .before .before .before .before .before .before .read-row .ensures) (c .before .before .before .before .before .before .before .before .before .before .before .before .before .before .if2 .taken) (c .before .before .before .before .before .before .before .before .both .ensures)
 
 above-cast-under : (t : ℕ) → above-lts.Need-cast-under (read-row-reads.Asked, read-row-reads.Learnt, both-below t, both.Post, under-reads.Asked, under-reads.Learnt) (above-at t) above.Post
 above-cast-under t c = search needs
 
 above-under-requires : (t : ℕ) → above-lts.Need-under-requires (read-row-reads.Asked, read-row-reads.Learnt, both-below t, both.Post, under-reads.Asked, under-reads.Learnt) (above-at t) above.Post
-above-under-requires t c κs = under-asks (c .before .before .before .before .before .before .before .before .before .before .before .before .before .pre .1) (c .before .before .before .before .before .before .read-row .result) (c .before .before .before .before .before .before .read-row .ensures) (c .before .before .before .before .if1 .left)
+above-under-requires t c κs = under-asks (c .before .before .before .before .before .before .before .before .before .before .before .before .before .before .pre .1) (c .before .before .before .before .before .before .before .if1 .left) (c .before .before .before .before .before .before .read-row .result) (c .before .before .before .before .before .before .read-row .ensures) (c .before .before .before .before .if2 .left)
 
 above-same-length-5 : (t : ℕ) → above-lts.Need-same-length-5 (read-row-reads.Asked, read-row-reads.Learnt, both-below t, both.Post, under-reads.Asked, under-reads.Learnt) (above-at t) above.Post
 above-same-length-5 t c = search needs
@@ -111,8 +115,8 @@ above-same-length-6 t c = search needs
 above-same-length-7 : (t : ℕ) → above-lts.Need-same-length-7 (read-row-reads.Asked, read-row-reads.Learnt, both-below t, both.Post, under-reads.Asked, under-reads.Learnt) (above-at t) above.Post
 above-same-length-7 t c = search needs
 
-above-returns-2 : (t : ℕ) → above-lts.Need-returns-2 (read-row-reads.Asked, read-row-reads.Learnt, both-below t, both.Post, under-reads.Asked, under-reads.Learnt) (above-at t) above.Post
-above-returns-2 t c = climbs-under (c .before .before .before .before .before .before .before .before .before .before .before .before .before .before .before .before .before .before .before .before .pre .1) (c .before .before .before .before .before .before .before .before .before .before .before .before .before .read-row .result) (c .before .before .before .before .before .before .before .before .before .before .before .before .before .read-row .ensures) (c .before .before .before .before .before .before .before .before .before .before .before .if1 .left) (c .before .before .before .before .before .before .under .ensures)
+above-returns-3 : (t : ℕ) → above-lts.Need-returns-3 (read-row-reads.Asked, read-row-reads.Learnt, both-below t, both.Post, under-reads.Asked, under-reads.Learnt) (above-at t) above.Post
+above-returns-3 t c = climbs-under (c .before .before .before .before .before .before .before .before .before .before .before .before .before .before .before .before .before .before .before .before .before .pre .1) (c .before .before .before .before .before .before .before .before .before .before .before .before .before .before .if1 .left) (c .before .before .before .before .before .before .before .before .before .before .before .before .before .read-row .result) (c .before .before .before .before .before .before .before .before .before .before .before .before .before .read-row .ensures) (c .before .before .before .before .before .before .before .before .before .before .before .if2 .left) (c .before .before .before .before .before .before .under .ensures)
 
 abbrev below-Inv-loop : below-lts.InvT-loop
 below-Inv-loop formulas effects notes₀ e from t frame table₀ originals₀ scratch₀ base depth₀ s₀ notes table originals scratch depth s =
@@ -139,14 +143,14 @@ below-loop-holds t c = (refl, refl, refl, refl, rw (c .standing .ensures) (risin
 below-sub-depth : (t : ℕ) → below-lts.Need-sub-depth (descend-reads.Asked, descend-reads.Learnt, standing-reads.Asked, standing-reads.Learnt, raise-below t, raise.Post) (below-at t) below.Post below-Inv-loop below-μ-loop
 below-sub-depth t c = omega (arith, c .loop-test .taken)
 
-below-add-i : (t : ℕ) → below-lts.Need-add-i (descend-reads.Asked, descend-reads.Learnt, standing-reads.Asked, standing-reads.Learnt, raise-below t, raise.Post) (below-at t) below.Post below-Inv-loop below-μ-loop
-below-add-i t c = omega (arith, rising-room (c .before .before .before .before .before .before .before .before .before .before .before .before .before .before .before .before .pre .1) (c .before .before .before .before .before .before .before .descend .ensures .descending .stays) (rw (c .before .before .standing .ensures) at (c .before .loop .inv .4)) (c .loop-test .taken) (path-read (c .before .before .before .before .before .before .before .before .before .before .before .before .before .before .before .before .args .frame) (c .before .loop .notes) _ (c .before .loop .depth - 1) (c .before .loop .inv .0)), rising-long (c .before .before .before .before .before .before .before .before .before .before .before .before .before .before .before .before .pre .1) (c .before .before .before .before .before .before .before .descend .ensures .descending .stays) (rw (c .before .before .standing .ensures) at (c .before .loop .inv .4)), c .before .loop .inv .0, c .before .before .before .before .before .before .before .before .before .before .before .before .before .before .before .before .pre .1 .asks .noted .columns .words, c .before .before .before .before .before .before .before .before .before .before .before .before .before .before .before .before .good, c .loop-test .taken, c .before .before .before .before .before .before .before .before .before .before .before .before .before .before .before .before .pre .1 .asks .effect-source .limit)
+below-add-w : (t : ℕ) → below-lts.Need-add-w (descend-reads.Asked, descend-reads.Learnt, standing-reads.Asked, standing-reads.Learnt, raise-below t, raise.Post) (below-at t) below.Post below-Inv-loop below-μ-loop
+below-add-w t c = omega (arith, rising-room (c .before .before .before .before .before .before .before .before .before .before .before .before .before .before .before .before .pre .1) (c .before .before .before .before .before .before .before .descend .ensures .descending .stays) (rw (c .before .before .standing .ensures) at (c .before .loop .inv .4)) (c .loop-test .taken) (path-read (c .before .before .before .before .before .before .before .before .before .before .before .before .before .before .before .before .args .frame) (c .before .loop .notes) _ (c .before .loop .depth - 1) (c .before .loop .inv .0)), rising-long (c .before .before .before .before .before .before .before .before .before .before .before .before .before .before .before .before .pre .1) (c .before .before .before .before .before .before .before .descend .ensures .descending .stays) (rw (c .before .before .standing .ensures) at (c .before .loop .inv .4)), c .before .loop .inv .0, c .before .before .before .before .before .before .before .before .before .before .before .before .before .before .before .before .pre .1 .asks .noted .columns .words, c .before .before .before .before .before .before .before .before .before .before .before .before .before .before .before .before .good, c .loop-test .taken, c .before .before .before .before .before .before .before .before .before .before .before .before .before .before .before .before .pre .1 .asks .effect-source .limit)
 
-below-mul-i : (t : ℕ) → below-lts.Need-mul-i (descend-reads.Asked, descend-reads.Learnt, standing-reads.Asked, standing-reads.Learnt, raise-below t, raise.Post) (below-at t) below.Post below-Inv-loop below-μ-loop
-below-mul-i t c = omega (arith, rising-room (c .before .before .before .before .before .before .before .before .before .before .before .before .before .before .before .before .pre .1) (c .before .before .before .before .before .before .before .descend .ensures .descending .stays) (rw (c .before .before .standing .ensures) at (c .before .loop .inv .4)) (c .loop-test .taken) (path-read (c .before .before .before .before .before .before .before .before .before .before .before .before .before .before .before .before .args .frame) (c .before .loop .notes) _ (c .before .loop .depth - 1) (c .before .loop .inv .0)), rising-long (c .before .before .before .before .before .before .before .before .before .before .before .before .before .before .before .before .pre .1) (c .before .before .before .before .before .before .before .descend .ensures .descending .stays) (rw (c .before .before .standing .ensures) at (c .before .loop .inv .4)), c .before .loop .inv .0, c .before .before .before .before .before .before .before .before .before .before .before .before .before .before .before .before .pre .1 .asks .noted .columns .words, c .before .before .before .before .before .before .before .before .before .before .before .before .before .before .before .before .good, c .loop-test .taken, c .before .before .before .before .before .before .before .before .before .before .before .before .before .before .before .before .pre .1 .asks .effect-source .limit)
+below-mul-w : (t : ℕ) → below-lts.Need-mul-w (descend-reads.Asked, descend-reads.Learnt, standing-reads.Asked, standing-reads.Learnt, raise-below t, raise.Post) (below-at t) below.Post below-Inv-loop below-μ-loop
+below-mul-w t c = omega (arith, rising-room (c .before .before .before .before .before .before .before .before .before .before .before .before .before .before .before .before .pre .1) (c .before .before .before .before .before .before .before .descend .ensures .descending .stays) (rw (c .before .before .standing .ensures) at (c .before .loop .inv .4)) (c .loop-test .taken) (path-read (c .before .before .before .before .before .before .before .before .before .before .before .before .before .before .before .before .args .frame) (c .before .loop .notes) _ (c .before .loop .depth - 1) (c .before .loop .inv .0)), rising-long (c .before .before .before .before .before .before .before .before .before .before .before .before .before .before .before .before .pre .1) (c .before .before .before .before .before .before .before .descend .ensures .descending .stays) (rw (c .before .before .standing .ensures) at (c .before .loop .inv .4)), c .before .loop .inv .0, c .before .before .before .before .before .before .before .before .before .before .before .before .before .before .before .before .pre .1 .asks .noted .columns .words, c .before .before .before .before .before .before .before .before .before .before .before .before .before .before .before .before .good, c .loop-test .taken, c .before .before .before .before .before .before .before .before .before .before .before .before .before .before .before .before .pre .1 .asks .effect-source .limit)
 
-below-slice-read-i : (t : ℕ) → below-lts.Need-slice-read-i (descend-reads.Asked, descend-reads.Learnt, standing-reads.Asked, standing-reads.Learnt, raise-below t, raise.Post) (below-at t) below.Post below-Inv-loop below-μ-loop
-below-slice-read-i t c = omega (arith, rising-room (c .before .before .before .before .before .before .before .before .before .before .before .before .before .before .before .before .before .pre .1) (c .before .before .before .before .before .before .before .before .descend .ensures .descending .stays) (rw (c .before .before .before .standing .ensures) at (c .before .before .loop .inv .4)) (c .before .loop-test .taken) (path-read (c .before .before .before .before .before .before .before .before .before .before .before .before .before .before .before .before .before .args .frame) (c .before .before .loop .notes) _ (c .before .before .loop .depth - 1) (c .before .before .loop .inv .0)), rising-long (c .before .before .before .before .before .before .before .before .before .before .before .before .before .before .before .before .before .pre .1) (c .before .before .before .before .before .before .before .before .descend .ensures .descending .stays) (rw (c .before .before .before .standing .ensures) at (c .before .before .loop .inv .4)), c .before .before .loop .inv .0, c .before .before .before .before .before .before .before .before .before .before .before .before .before .before .before .before .before .pre .1 .asks .noted .columns .words, c .before .before .before .before .before .before .before .before .before .before .before .before .before .before .before .before .before .good, c .before .loop-test .taken, c .before .before .before .before .before .before .before .before .before .before .before .before .before .before .before .before .before .pre .1 .asks .effect-source .limit)
+below-slice-read-w : (t : ℕ) → below-lts.Need-slice-read-w (descend-reads.Asked, descend-reads.Learnt, standing-reads.Asked, standing-reads.Learnt, raise-below t, raise.Post) (below-at t) below.Post below-Inv-loop below-μ-loop
+below-slice-read-w t c = omega (arith, rising-room (c .before .before .before .before .before .before .before .before .before .before .before .before .before .before .before .before .before .pre .1) (c .before .before .before .before .before .before .before .before .descend .ensures .descending .stays) (rw (c .before .before .before .standing .ensures) at (c .before .before .loop .inv .4)) (c .before .loop-test .taken) (path-read (c .before .before .before .before .before .before .before .before .before .before .before .before .before .before .before .before .before .args .frame) (c .before .before .loop .notes) _ (c .before .before .loop .depth - 1) (c .before .before .loop .inv .0)), rising-long (c .before .before .before .before .before .before .before .before .before .before .before .before .before .before .before .before .before .pre .1) (c .before .before .before .before .before .before .before .before .descend .ensures .descending .stays) (rw (c .before .before .before .standing .ensures) at (c .before .before .loop .inv .4)), c .before .before .loop .inv .0, c .before .before .before .before .before .before .before .before .before .before .before .before .before .before .before .before .before .pre .1 .asks .noted .columns .words, c .before .before .before .before .before .before .before .before .before .before .before .before .before .before .before .before .before .good, c .before .loop-test .taken, c .before .before .before .before .before .before .before .before .before .before .before .before .before .before .before .before .before .pre .1 .asks .effect-source .limit)
 
 below-cast-i : (t : ℕ) → below-lts.Need-cast-i (descend-reads.Asked, descend-reads.Learnt, standing-reads.Asked, standing-reads.Learnt, raise-below t, raise.Post) (below-at t) below.Post below-Inv-loop below-μ-loop
 below-cast-i t c = omega (arith, rising-room (c .before .before .before .before .before .before .before .before .before .before .before .before .before .before .before .before .before .pre .1) (c .before .before .before .before .before .before .before .before .descend .ensures .descending .stays) (rw (c .before .before .before .standing .ensures) at (c .before .before .loop .inv .4)) (c .before .loop-test .taken) (path-read (c .before .before .before .before .before .before .before .before .before .before .before .before .before .before .before .before .before .args .frame) (c .before .before .loop .notes) _ (c .before .before .loop .depth - 1) (c .before .before .loop .inv .0)), rising-long (c .before .before .before .before .before .before .before .before .before .before .before .before .before .before .before .before .before .pre .1) (c .before .before .before .before .before .before .before .before .descend .ensures .descending .stays) (rw (c .before .before .before .standing .ensures) at (c .before .before .loop .inv .4)), c .before .before .loop .inv .0, c .before .before .before .before .before .before .before .before .before .before .before .before .before .before .before .before .before .pre .1 .asks .noted .columns .words, c .before .before .before .before .before .before .before .before .before .before .before .before .before .before .before .before .before .good, c .before .loop-test .taken, c .before .before .before .before .before .before .before .before .before .before .before .before .before .before .before .before .before .pre .1 .asks .effect-source .limit)
@@ -158,13 +162,13 @@ below-same-length : (t : ℕ) → below-lts.Need-same-length (descend-reads.Aske
 below-same-length t c = c .before .before .before .before .before .before .before .before .before .raise .kept .1 .1 .0 ∙ rising-long (c .before .before .before .before .before .before .before .before .before .before .before .before .before .before .before .before .before .before .before .before .before .before .before .before .before .before .before .before .before .before .before .pre .1) (c .before .before .before .before .before .before .before .before .before .before .before .before .before .before .before .before .before .before .before .before .before .before .descend .ensures .descending .stays) (rw (c .before .before .before .before .before .before .before .before .before .before .before .before .before .before .before .before .before .standing .ensures) at (c .before .before .before .before .before .before .before .before .before .before .before .before .before .before .before .before .loop .inv .4))
 
 below-same-length-2 : (t : ℕ) → below-lts.Need-same-length-2 (descend-reads.Asked, descend-reads.Learnt, standing-reads.Asked, standing-reads.Learnt, raise-below t, raise.Post) (below-at t) below.Post below-Inv-loop below-μ-loop
-below-same-length-2 t c = c .before .before .before .before .before .before .before .before .before .raise .kept .1 .1 .1 .1 .1 .1 .1 .1 .0 ∙ c .before .before .before .before .before .before .before .before .before .before .before .before .before .before .before .before .loop .inv .1
+below-same-length-2 t c = c .before .before .before .before .before .before .before .before .before .raise .kept .1 .1 .1 .1 .1 .1 .1 .1 .1 .0 ∙ c .before .before .before .before .before .before .before .before .before .before .before .before .before .before .before .before .loop .inv .1
 
 below-same-length-3 : (t : ℕ) → below-lts.Need-same-length-3 (descend-reads.Asked, descend-reads.Learnt, standing-reads.Asked, standing-reads.Learnt, raise-below t, raise.Post) (below-at t) below.Post below-Inv-loop below-μ-loop
-below-same-length-3 t c = c .before .before .before .before .before .before .before .before .before .raise .kept .1 .1 .1 .1 .1 .1 .1 .1 .1 .0 ∙ c .before .before .before .before .before .before .before .before .before .before .before .before .before .before .before .before .loop .inv .2
+below-same-length-3 t c = c .before .before .before .before .before .before .before .before .before .raise .kept .1 .1 .1 .1 .1 .1 .1 .1 .1 .1 .0 ∙ c .before .before .before .before .before .before .before .before .before .before .before .before .before .before .before .before .loop .inv .2
 
 below-same-length-4 : (t : ℕ) → below-lts.Need-same-length-4 (descend-reads.Asked, descend-reads.Learnt, standing-reads.Asked, standing-reads.Learnt, raise-below t, raise.Post) (below-at t) below.Post below-Inv-loop below-μ-loop
-below-same-length-4 t c = c .before .before .before .before .before .before .before .before .before .raise .kept .1 .1 .1 .1 .1 .1 .1 .1 .1 .1 .0 ∙ c .before .before .before .before .before .before .before .before .before .before .before .before .before .before .before .before .loop .inv .3
+below-same-length-4 t c = c .before .before .before .before .before .before .before .before .before .raise .kept .1 .1 .1 .1 .1 .1 .1 .1 .1 .1 .1 .0 ∙ c .before .before .before .before .before .before .before .before .before .before .before .before .before .before .before .before .loop .inv .3
 
 below-returns : (t : ℕ) → below-lts.Need-returns (descend-reads.Asked, descend-reads.Learnt, standing-reads.Asked, standing-reads.Learnt, raise-below t, raise.Post) (below-at t) below.Post below-Inv-loop below-μ-loop
 below-returns t c = rising-full (c .before .before .before .before .before .before .before .before .before .before .before .before .before .before .before .before .before .before .before .before .before .before .before .before .before .before .before .before .before .before .before .pre .1) (c .before .before .before .before .before .before .before .before .before .before .before .before .before .before .before .before .before .before .before .before .before .before .descend .ensures .descending .stays) (rw (c .before .before .before .before .before .before .before .before .before .before .before .before .before .before .before .before .before .standing .ensures) at (c .before .before .before .before .before .before .before .before .before .before .before .before .before .before .before .before .loop .inv .4)) (c .before .before .before .before .before .before .before .before .before .before .before .before .before .before .before .loop-test .taken) (path-read (c .before .before .before .before .before .before .before .before .before .before .before .before .before .before .before .before .before .before .before .before .before .before .before .before .before .before .before .before .before .before .before .args .frame) (c .before .before .before .before .before .before .before .before .before .before .before .before .before .before .before .before .loop .notes) _ (c .before .before .before .before .before .before .before .before .before .before .before .before .before .before .before .before .loop .depth - 1) (c .before .before .before .before .before .before .before .before .before .before .before .before .before .before .before .before .loop .inv .0)) (c .before .before .before .before .before .before .before .before .before .raise .ensures) (c .if1 .taken)
@@ -173,7 +177,7 @@ below-loop-less : (t : ℕ) → below-lts.Need-loop-less (descend-reads.Asked, d
 below-loop-less t c = omega (arith, c .before .before .before .before .before .before .before .before .before .before .before .before .before .before .before .loop-test .taken)
 
 below-loop-again : (t : ℕ) → below-lts.Need-loop-again (descend-reads.Asked, descend-reads.Learnt, standing-reads.Asked, standing-reads.Learnt, raise-below t, raise.Post) (below-at t) below.Post below-Inv-loop below-μ-loop
-below-loop-again t c = (omega (arith, c .before .before .before .before .before .before .before .before .before .before .before .before .before .before .before .before .loop .inv .0, c .before .before .before .before .before .before .before .before .before .raise .kept .1 .1 .0), c .before .before .before .before .before .before .before .before .before .raise .kept .1 .1 .1 .1 .1 .1 .1 .1 .0 ∙ c .before .before .before .before .before .before .before .before .before .before .before .before .before .before .before .before .loop .inv .1, c .before .before .before .before .before .before .before .before .before .raise .kept .1 .1 .1 .1 .1 .1 .1 .1 .1 .0 ∙ c .before .before .before .before .before .before .before .before .before .before .before .before .before .before .before .before .loop .inv .2, c .before .before .before .before .before .before .before .before .before .raise .kept .1 .1 .1 .1 .1 .1 .1 .1 .1 .1 .0 ∙ c .before .before .before .before .before .before .before .before .before .before .before .before .before .before .before .before .loop .inv .3, rw (c .before .before .before .before .before .before .before .before .before .before .before .before .before .before .before .before .before .standing .ensures) (rising-more (c .before .before .before .before .before .before .before .before .before .before .before .before .before .before .before .before .before .before .before .before .before .before .before .before .before .before .before .before .before .before .before .pre .1) (c .before .before .before .before .before .before .before .before .before .before .before .before .before .before .before .before .before .before .before .before .before .before .descend .ensures .descending .stays) (rw (c .before .before .before .before .before .before .before .before .before .before .before .before .before .before .before .before .before .standing .ensures) at (c .before .before .before .before .before .before .before .before .before .before .before .before .before .before .before .before .loop .inv .4)) (c .before .before .before .before .before .before .before .before .before .before .before .before .before .before .before .loop-test .taken) (path-read (c .before .before .before .before .before .before .before .before .before .before .before .before .before .before .before .before .before .before .before .before .before .before .before .before .before .before .before .before .before .before .before .args .frame) (c .before .before .before .before .before .before .before .before .before .before .before .before .before .before .before .before .loop .notes) _ (c .before .before .before .before .before .before .before .before .before .before .before .before .before .before .before .before .loop .depth - 1) (c .before .before .before .before .before .before .before .before .before .before .before .before .before .before .before .before .loop .inv .0)) (c .before .before .before .before .before .before .before .before .before .raise .ensures) (c .if1 .left)))
+below-loop-again t c = (omega (arith, c .before .before .before .before .before .before .before .before .before .before .before .before .before .before .before .before .loop .inv .0, c .before .before .before .before .before .before .before .before .before .raise .kept .1 .1 .0), c .before .before .before .before .before .before .before .before .before .raise .kept .1 .1 .1 .1 .1 .1 .1 .1 .1 .0 ∙ c .before .before .before .before .before .before .before .before .before .before .before .before .before .before .before .before .loop .inv .1, c .before .before .before .before .before .before .before .before .before .raise .kept .1 .1 .1 .1 .1 .1 .1 .1 .1 .1 .0 ∙ c .before .before .before .before .before .before .before .before .before .before .before .before .before .before .before .before .loop .inv .2, c .before .before .before .before .before .before .before .before .before .raise .kept .1 .1 .1 .1 .1 .1 .1 .1 .1 .1 .1 .0 ∙ c .before .before .before .before .before .before .before .before .before .before .before .before .before .before .before .before .loop .inv .3, rw (c .before .before .before .before .before .before .before .before .before .before .before .before .before .before .before .before .before .standing .ensures) (rising-more (c .before .before .before .before .before .before .before .before .before .before .before .before .before .before .before .before .before .before .before .before .before .before .before .before .before .before .before .before .before .before .before .pre .1) (c .before .before .before .before .before .before .before .before .before .before .before .before .before .before .before .before .before .before .before .before .before .before .descend .ensures .descending .stays) (rw (c .before .before .before .before .before .before .before .before .before .before .before .before .before .before .before .before .before .standing .ensures) at (c .before .before .before .before .before .before .before .before .before .before .before .before .before .before .before .before .loop .inv .4)) (c .before .before .before .before .before .before .before .before .before .before .before .before .before .before .before .loop-test .taken) (path-read (c .before .before .before .before .before .before .before .before .before .before .before .before .before .before .before .before .before .before .before .before .before .before .before .before .before .before .before .before .before .before .before .args .frame) (c .before .before .before .before .before .before .before .before .before .before .before .before .before .before .before .before .loop .notes) _ (c .before .before .before .before .before .before .before .before .before .before .before .before .before .before .before .before .loop .depth - 1) (c .before .before .before .before .before .before .before .before .before .before .before .before .before .before .before .before .loop .inv .0)) (c .before .before .before .before .before .before .before .before .before .raise .ensures) (c .if1 .left)))
 
 below-same-length-5 : (t : ℕ) → below-lts.Need-same-length-5 (descend-reads.Asked, descend-reads.Learnt, standing-reads.Asked, standing-reads.Learnt, raise-below t, raise.Post) (below-at t) below.Post below-Inv-loop below-μ-loop
 below-same-length-5 t c = rising-long (c .before .before .before .before .before .before .before .before .before .before .before .before .before .before .before .before .pre .1) (c .before .before .before .before .before .before .before .descend .ensures .descending .stays) (rw (c .before .before .standing .ensures) at (c .before .loop .inv .4))
@@ -190,62 +194,74 @@ below-same-length-8 t c = c .before .loop .inv .3
 below-returns-2 : (t : ℕ) → below-lts.Need-returns-2 (descend-reads.Asked, descend-reads.Learnt, standing-reads.Asked, standing-reads.Learnt, raise-below t, raise.Post) (below-at t) below.Post below-Inv-loop below-μ-loop
 below-returns-2 t c = rising-all (c .before .before .before .before .before .before .before .before .before .before .before .before .before .before .before .before .pre .1) (c .before .before .before .before .before .before .before .descend .ensures .descending .stays) (rw (c .before .before .standing .ensures) at (c .before .loop .inv .4)) (omega (arith, c .loop-test .left))
 
-both-seen-requires : (t : ℕ) → both-lts.Need-seen-requires (seen-reads.Asked, seen-reads.Learnt, join-reads.Asked, join-reads.Learnt, below-below t, below.Post) (both-at t) both.Post
-both-seen-requires t c κs = asks-seen (c .before .before .before .before .before .before .before .before .pre .1 .asks)
+both-cast-lacks : (t : ℕ) → both-lts.Need-cast-lacks (lacks-reads.Asked, lacks-reads.Learnt, seen-reads.Asked, seen-reads.Learnt, join-reads.Asked, join-reads.Learnt, below-below t, below.Post) (both-at t) both.Post
+both-cast-lacks t c = search needs
 
-both-sub-join : (t : ℕ) → both-lts.Need-sub-join (seen-reads.Asked, seen-reads.Learnt, join-reads.Asked, join-reads.Learnt, below-below t, below.Post) (both-at t) both.Post
-both-sub-join t c = search needs
+both-lacks-requires : (t : ℕ) → both-lts.Need-lacks-requires (lacks-reads.Asked, lacks-reads.Learnt, seen-reads.Asked, seen-reads.Learnt, join-reads.Asked, join-reads.Learnt, below-below t, below.Post) (both-at t) both.Post
+both-lacks-requires t c κs = (right-in-set (c .before .before .before .before .before .before .before .before .pre .1), c .before .before .before .before .before .before .before .before .pre .1 .asks .noted .sets .words)
 
-both-join-requires : (t : ℕ) → both-lts.Need-join-requires (seen-reads.Asked, seen-reads.Learnt, join-reads.Asked, join-reads.Learnt, below-below t, below.Post) (both-at t) both.Post
-both-join-requires t c κs = known-join-asks (c .before .before .before .before .before .before .before .before .before .before .before .before .pre .1) (c .before .before .before .seen .ensures .known _ _ _ (c .before .before .before .before .before .before .before .before .before .before .before .before .pre .1 .asks) (c .before .before .if1 .taken))
-
-both-same-length : (t : ℕ) → both-lts.Need-same-length (seen-reads.Asked, seen-reads.Learnt, join-reads.Asked, join-reads.Learnt, below-below t, below.Post) (both-at t) both.Post
+both-same-length : (t : ℕ) → both-lts.Need-same-length (lacks-reads.Asked, lacks-reads.Learnt, seen-reads.Asked, seen-reads.Learnt, join-reads.Asked, join-reads.Learnt, below-below t, below.Post) (both-at t) both.Post
 both-same-length t c = search needs
 
-both-same-length-2 : (t : ℕ) → both-lts.Need-same-length-2 (seen-reads.Asked, seen-reads.Learnt, join-reads.Asked, join-reads.Learnt, below-below t, below.Post) (both-at t) both.Post
+both-returns : (t : ℕ) → both-lts.Need-returns (lacks-reads.Asked, lacks-reads.Learnt, seen-reads.Asked, seen-reads.Learnt, join-reads.Asked, join-reads.Learnt, below-below t, below.Post) (both-at t) both.Post
+both-returns t c = right-lacks (c .before .before .before .before .before .before .before .before .before .before .pre .1) (sym (c .if1 .taken) ∙ c .before .lacks .ensures)
+
+both-seen-requires : (t : ℕ) → both-lts.Need-seen-requires (lacks-reads.Asked, lacks-reads.Learnt, seen-reads.Asked, seen-reads.Learnt, join-reads.Asked, join-reads.Learnt, below-below t, below.Post) (both-at t) both.Post
+both-seen-requires t c κs = asks-seen (c .before .before .before .before .before .before .before .before .before .before .before .before .pre .1 .asks)
+
+both-sub-join : (t : ℕ) → both-lts.Need-sub-join (lacks-reads.Asked, lacks-reads.Learnt, seen-reads.Asked, seen-reads.Learnt, join-reads.Asked, join-reads.Learnt, below-below t, below.Post) (both-at t) both.Post
+both-sub-join t c = search needs
+
+both-join-requires : (t : ℕ) → both-lts.Need-join-requires (lacks-reads.Asked, lacks-reads.Learnt, seen-reads.Asked, seen-reads.Learnt, join-reads.Asked, join-reads.Learnt, below-below t, below.Post) (both-at t) both.Post
+both-join-requires t c κs = known-join-asks (c .before .before .before .before .before .before .before .before .before .before .before .before .before .before .before .before .pre .1) (c .before .before .before .seen .ensures .known _ _ _ (c .before .before .before .before .before .before .before .before .before .before .before .before .before .before .before .before .pre .1 .asks) (c .before .before .if2 .taken))
+
+both-same-length-2 : (t : ℕ) → both-lts.Need-same-length-2 (lacks-reads.Asked, lacks-reads.Learnt, seen-reads.Asked, seen-reads.Learnt, join-reads.Asked, join-reads.Learnt, below-below t, below.Post) (both-at t) both.Post
 both-same-length-2 t c = search needs
 
-both-same-length-3 : (t : ℕ) → both-lts.Need-same-length-3 (seen-reads.Asked, seen-reads.Learnt, join-reads.Asked, join-reads.Learnt, below-below t, below.Post) (both-at t) both.Post
+both-same-length-3 : (t : ℕ) → both-lts.Need-same-length-3 (lacks-reads.Asked, lacks-reads.Learnt, seen-reads.Asked, seen-reads.Learnt, join-reads.Asked, join-reads.Learnt, below-below t, below.Post) (both-at t) both.Post
 both-same-length-3 t c = search needs
 
-both-returns : (t : ℕ) → both-lts.Need-returns (seen-reads.Asked, seen-reads.Learnt, join-reads.Asked, join-reads.Learnt, below-below t, below.Post) (both-at t) both.Post
-both-returns t c = right-known (c .before .before .before .before .before .before .before .before .before .before .before .before .before .before .before .pre .1) (c .before .before .before .before .before .before .seen .ensures .known _ _ _ (c .before .before .before .before .before .before .before .before .before .before .before .before .before .before .before .pre .1 .asks) (c .before .before .before .before .before .if1 .taken)) (c .before .before .join .ensures _ (c .before .before .before .before .before .before .before .before .before .before .before .before .before .before .before .pre .1 .asks .ready))
-
-both-below-requires : (t : ℕ) → both-lts.Need-below-requires (seen-reads.Asked, seen-reads.Learnt, join-reads.Asked, join-reads.Learnt, below-below t, below.Post) (both-at t) both.Post
-both-below-requires t c κs = (omega (arith, c .before .before .before .before .before .before .before .before .before .before .before .before .before .before .pre .0), asks-below _ (c .before .before .before .before .before .before .before .before .before .before .before .before .before .before .pre .1 .asks) (c .before .before .before .before .before .seen .ensures) (omega (arith, c .before .before .before .before .if1 .left)) (c .before .before .before .before .before .before .before .before .before .before .before .before .before .before .pre .1 .room))
-
-both-same-length-4 : (t : ℕ) → both-lts.Need-same-length-4 (seen-reads.Asked, seen-reads.Learnt, join-reads.Asked, join-reads.Learnt, below-below t, below.Post) (both-at t) both.Post
+both-same-length-4 : (t : ℕ) → both-lts.Need-same-length-4 (lacks-reads.Asked, lacks-reads.Learnt, seen-reads.Asked, seen-reads.Learnt, join-reads.Asked, join-reads.Learnt, below-below t, below.Post) (both-at t) both.Post
 both-same-length-4 t c = search needs
 
-both-same-length-5 : (t : ℕ) → both-lts.Need-same-length-5 (seen-reads.Asked, seen-reads.Learnt, join-reads.Asked, join-reads.Learnt, below-below t, below.Post) (both-at t) both.Post
+both-returns-2 : (t : ℕ) → both-lts.Need-returns-2 (lacks-reads.Asked, lacks-reads.Learnt, seen-reads.Asked, seen-reads.Learnt, join-reads.Asked, join-reads.Learnt, below-below t, below.Post) (both-at t) both.Post
+both-returns-2 t c = right-known (c .before .before .before .before .before .before .before .before .before .before .before .before .before .before .before .before .before .before .before .pre .1) (c .before .before .before .before .before .before .seen .ensures .known _ _ _ (c .before .before .before .before .before .before .before .before .before .before .before .before .before .before .before .before .before .before .before .pre .1 .asks) (c .before .before .before .before .before .if2 .taken)) (c .before .before .join .ensures _ (c .before .before .before .before .before .before .before .before .before .before .before .before .before .before .before .before .before .before .before .pre .1 .asks .ready))
+
+both-below-requires : (t : ℕ) → both-lts.Need-below-requires (lacks-reads.Asked, lacks-reads.Learnt, seen-reads.Asked, seen-reads.Learnt, join-reads.Asked, join-reads.Learnt, below-below t, below.Post) (both-at t) both.Post
+both-below-requires t c κs = (omega (arith, c .before .before .before .before .before .before .before .before .before .before .before .before .before .before .before .before .before .before .pre .0), asks-below _ (c .before .before .before .before .before .before .before .before .before .before .before .before .before .before .before .before .before .before .pre .1 .asks) (c .before .before .before .before .before .seen .ensures) (omega (arith, c .before .before .before .before .if2 .left)) (c .before .before .before .before .before .before .before .before .before .before .before .before .before .before .before .before .before .before .pre .1 .room))
+
+both-same-length-5 : (t : ℕ) → both-lts.Need-same-length-5 (lacks-reads.Asked, lacks-reads.Learnt, seen-reads.Asked, seen-reads.Learnt, join-reads.Asked, join-reads.Learnt, below-below t, below.Post) (both-at t) both.Post
 both-same-length-5 t c = search needs
 
-both-same-length-6 : (t : ℕ) → both-lts.Need-same-length-6 (seen-reads.Asked, seen-reads.Learnt, join-reads.Asked, join-reads.Learnt, below-below t, below.Post) (both-at t) both.Post
+both-same-length-6 : (t : ℕ) → both-lts.Need-same-length-6 (lacks-reads.Asked, lacks-reads.Learnt, seen-reads.Asked, seen-reads.Learnt, join-reads.Asked, join-reads.Learnt, below-below t, below.Post) (both-at t) both.Post
 both-same-length-6 t c = search needs
 
-both-same-length-7 : (t : ℕ) → both-lts.Need-same-length-7 (seen-reads.Asked, seen-reads.Learnt, join-reads.Asked, join-reads.Learnt, below-below t, below.Post) (both-at t) both.Post
+both-same-length-7 : (t : ℕ) → both-lts.Need-same-length-7 (lacks-reads.Asked, lacks-reads.Learnt, seen-reads.Asked, seen-reads.Learnt, join-reads.Asked, join-reads.Learnt, below-below t, below.Post) (both-at t) both.Post
 both-same-length-7 t c = search needs
 
-both-returns-2 : (t : ℕ) → both-lts.Need-returns-2 (seen-reads.Asked, seen-reads.Learnt, join-reads.Asked, join-reads.Learnt, below-below t, below.Post) (both-at t) both.Post
-both-returns-2 t c = right-full (c .before .before .before .before .before .before .before .before .before .before .before .before .before .before .before .before .before .before .before .before .before .before .before .before .pre .1) (c .before .before .before .before .before .before .before .before .before .below .ensures) (c .if2 .taken)
+both-same-length-8 : (t : ℕ) → both-lts.Need-same-length-8 (lacks-reads.Asked, lacks-reads.Learnt, seen-reads.Asked, seen-reads.Learnt, join-reads.Asked, join-reads.Learnt, below-below t, below.Post) (both-at t) both.Post
+both-same-length-8 t c = search needs
 
-both-join-requires-2 : (t : ℕ) → both-lts.Need-join-requires-2 (seen-reads.Asked, seen-reads.Learnt, join-reads.Asked, join-reads.Learnt, below-below t, below.Post) (both-at t) both.Post
-both-join-requires-2 t c κs = right-join-asks (c .before .before .before .before .before .before .before .before .before .before .before .before .before .before .before .before .before .before .before .before .before .before .before .before .before .before .pre .1) (c .before .before .before .before .before .before .before .before .before .before .before .below .ensures) (c .before .before .if2 .left)
+both-returns-3 : (t : ℕ) → both-lts.Need-returns-3 (lacks-reads.Asked, lacks-reads.Learnt, seen-reads.Asked, seen-reads.Learnt, join-reads.Asked, join-reads.Learnt, below-below t, below.Post) (both-at t) both.Post
+both-returns-3 t c = right-full (c .before .before .before .before .before .before .before .before .before .before .before .before .before .before .before .before .before .before .before .before .before .before .before .before .before .before .before .before .pre .1) (c .before .before .before .before .before .before .before .before .before .below .ensures) (c .if3 .taken)
 
-both-same-length-8 : (t : ℕ) → both-lts.Need-same-length-8 (seen-reads.Asked, seen-reads.Learnt, join-reads.Asked, join-reads.Learnt, below-below t, below.Post) (both-at t) both.Post
-both-same-length-8 t c = c .before .before .before .before .before .before .before .before .before .before .before .before .before .before .below .kept .1 .1 .0
+both-join-requires-2 : (t : ℕ) → both-lts.Need-join-requires-2 (lacks-reads.Asked, lacks-reads.Learnt, seen-reads.Asked, seen-reads.Learnt, join-reads.Asked, join-reads.Learnt, below-below t, below.Post) (both-at t) both.Post
+both-join-requires-2 t c κs = right-join-asks (c .before .before .before .before .before .before .before .before .before .before .before .before .before .before .before .before .before .before .before .before .before .before .before .before .before .before .before .before .before .before .pre .1) (c .before .before .before .before .before .before .before .before .before .before .before .below .ensures) (c .before .before .if3 .left)
 
-both-same-length-9 : (t : ℕ) → both-lts.Need-same-length-9 (seen-reads.Asked, seen-reads.Learnt, join-reads.Asked, join-reads.Learnt, below-below t, below.Post) (both-at t) both.Post
-both-same-length-9 t c = c .before .before .join2 .kept .0 ∙ c .before .before .before .before .before .before .before .before .before .before .before .before .before .before .below .kept .1 .1 .1 .1 .1 .1 .1 .1 .0
+both-same-length-9 : (t : ℕ) → both-lts.Need-same-length-9 (lacks-reads.Asked, lacks-reads.Learnt, seen-reads.Asked, seen-reads.Learnt, join-reads.Asked, join-reads.Learnt, below-below t, below.Post) (both-at t) both.Post
+both-same-length-9 t c = c .before .before .before .before .before .before .before .before .before .before .before .before .before .before .below .kept .1 .1 .0
 
-both-same-length-10 : (t : ℕ) → both-lts.Need-same-length-10 (seen-reads.Asked, seen-reads.Learnt, join-reads.Asked, join-reads.Learnt, below-below t, below.Post) (both-at t) both.Post
-both-same-length-10 t c = c .before .before .before .before .before .before .before .before .before .before .before .before .before .before .below .kept .1 .1 .1 .1 .1 .1 .1 .1 .1 .0
+both-same-length-10 : (t : ℕ) → both-lts.Need-same-length-10 (lacks-reads.Asked, lacks-reads.Learnt, seen-reads.Asked, seen-reads.Learnt, join-reads.Asked, join-reads.Learnt, below-below t, below.Post) (both-at t) both.Post
+both-same-length-10 t c = c .before .before .join2 .kept .0 ∙ c .before .before .before .before .before .before .before .before .before .before .before .before .before .before .below .kept .1 .1 .1 .1 .1 .1 .1 .1 .0
 
-both-same-length-11 : (t : ℕ) → both-lts.Need-same-length-11 (seen-reads.Asked, seen-reads.Learnt, join-reads.Asked, join-reads.Learnt, below-below t, below.Post) (both-at t) both.Post
-both-same-length-11 t c = c .before .before .before .before .before .before .before .before .before .before .before .before .before .before .below .kept .1 .1 .1 .1 .1 .1 .1 .1 .1 .1 .0
+both-same-length-11 : (t : ℕ) → both-lts.Need-same-length-11 (lacks-reads.Asked, lacks-reads.Learnt, seen-reads.Asked, seen-reads.Learnt, join-reads.Asked, join-reads.Learnt, below-below t, below.Post) (both-at t) both.Post
+both-same-length-11 t c = c .before .before .before .before .before .before .before .before .before .before .before .before .before .before .below .kept .1 .1 .1 .1 .1 .1 .1 .1 .1 .0
 
-both-returns-3 : (t : ℕ) → both-lts.Need-returns-3 (seen-reads.Asked, seen-reads.Learnt, join-reads.Asked, join-reads.Learnt, below-below t, below.Post) (both-at t) both.Post
-both-returns-3 t c = right-done (c .before .before .before .before .before .before .before .before .before .before .before .before .before .before .before .before .before .before .before .before .before .before .before .before .before .before .before .before .before .pre .1) (c .before .before .before .before .before .before .before .before .before .before .before .before .before .before .below .ensures) (c .before .before .before .before .before .if2 .left) (c .before .before .join2 .ensures _ (c .before .before .before .before .before .before .before .before .before .before .before .before .before .before .below .ensures .conditions .builds .done (c .before .before .before .before .before .if2 .left) .ready))
+both-same-length-12 : (t : ℕ) → both-lts.Need-same-length-12 (lacks-reads.Asked, lacks-reads.Learnt, seen-reads.Asked, seen-reads.Learnt, join-reads.Asked, join-reads.Learnt, below-below t, below.Post) (both-at t) both.Post
+both-same-length-12 t c = c .before .before .before .before .before .before .before .before .before .before .before .before .before .before .below .kept .1 .1 .1 .1 .1 .1 .1 .1 .1 .1 .0
+
+both-returns-4 : (t : ℕ) → both-lts.Need-returns-4 (lacks-reads.Asked, lacks-reads.Learnt, seen-reads.Asked, seen-reads.Learnt, join-reads.Asked, join-reads.Learnt, below-below t, below.Post) (both-at t) both.Post
+both-returns-4 t c = right-done (c .before .before .before .before .before .before .before .before .before .before .before .before .before .before .before .before .before .before .before .before .before .before .before .before .before .before .before .before .before .before .before .before .before .pre .1) (c .before .before .before .before .before .before .before .before .before .before .before .before .before .before .below .ensures) (c .before .before .before .before .before .if3 .left) (c .before .before .join2 .ensures _ (c .before .before .before .before .before .before .before .before .before .before .before .before .before .before .below .ensures .conditions .builds .done (c .before .before .before .before .before .if3 .left) .ready))
 
 raise-above-requires : (t : ℕ) → raise-lts.Need-above-requires (above-below t, above.Post, note-reads.Asked, note-reads.Learnt, keep-reads.Asked, keep-reads.Learnt) (raise-at t) raise.Post
 raise-above-requires t c κs = (omega (arith, c .before .before .before .before .before .before .before .before .before .before .pre .0), c .before .before .before .before .before .before .before .before .before .before .pre .1)
@@ -257,7 +273,7 @@ raise-add-note : (t : ℕ) → raise-lts.Need-add-note (above-below t, above.Pos
 raise-add-note t c = omega (arith, c .before .before .before .before .before .before .before .before .before .before .before .before .before .before .before .before .before .before .before .before .before .pre .1 .below .asks .source .limit, c .before .before .before .before .before .before .before .before .before .before .before .before .before .before .before .before .before .before .before .before .before .pre .1 .below .asks .effect, c .before .before .before .before .before .before .before .before .before .before .before .before .before .before .before .before .before .before .before .before .before .pre .1 .below .asks .effect-source .limit)
 
 raise-note-requires : (t : ℕ) → raise-lts.Need-note-requires (above-below t, above.Post, note-reads.Asked, note-reads.Learnt, keep-reads.Asked, keep-reads.Learnt) (raise-at t) raise.Post
-raise-note-requires t c κs = notes-ready _ (2 * c .before .before .before .before .before .before .before .before .before .before .before .before .before .before .before .before .before .before .before .before .before .args .frame .formulas + c .before .before .before .before .before .before .before .before .before .before .before .before .before .before .before .before .before .before .before .before .before .args .e) (c .before .before .before .before .before .before .before .before .before .before .above .ensures .conditions .builds) (omega (arith, c .before .before .before .before .before .before .before .before .before .before .above .kept .1 .1 .1 .1 .1 .1 .1 .1 .1 .1 .0, c .before .before .before .before .before .before .before .before .before .before .before .before .before .before .before .before .before .before .before .before .before .pre .1 .below .asks .effect-source .memo, c .before .before .before .before .before .before .before .before .before .before .before .before .before .before .before .before .before .before .before .before .before .pre .1 .below .asks .effect))
+raise-note-requires t c κs = notes-ready _ (2 * c .before .before .before .before .before .before .before .before .before .before .before .before .before .before .before .before .before .before .before .before .before .args .frame .formulas + c .before .before .before .before .before .before .before .before .before .before .before .before .before .before .before .before .before .before .before .before .before .args .e) (c .before .before .before .before .before .before .before .before .before .before .above .ensures .conditions .builds) (omega (arith, c .before .before .before .before .before .before .before .before .before .before .above .kept .1 .1 .1 .1 .1 .1 .1 .1 .1 .1 .1 .0, c .before .before .before .before .before .before .before .before .before .before .before .before .before .before .before .before .before .before .before .before .before .pre .1 .below .asks .effect-source .memo, c .before .before .before .before .before .before .before .before .before .before .before .before .before .before .before .before .before .before .before .before .before .pre .1 .below .asks .effect))
 
 raise-keep-requires : (t : ℕ) → raise-lts.Need-keep-requires (above-below t, above.Post, note-reads.Asked, note-reads.Learnt, keep-reads.Asked, keep-reads.Learnt) (raise-at t) raise.Post
 raise-keep-requires t c κs = (looks (c .before .before .before .before .before .before .before .before .before .before .before .before .before .before .before .before .before .before .before .before .before .before .before .before .before .pre .1 .below .asks) (c .before .before .before .before .before .before .before .before .before .before .before .before .before .before .above .kept .1 .1 .0), small-row (c .before .before .before .before .before .before .before .before .before .before .before .before .before .before .above .ensures .conditions .builds))
@@ -266,21 +282,22 @@ raise-same-length : (t : ℕ) → raise-lts.Need-same-length (above-below t, abo
 raise-same-length t c = c .before .before .keep .kept .0 ∙ c .before .before .before .before .before .before .before .before .before .before .before .before .before .before .before .before .before .above .kept .1 .1 .0
 
 raise-same-length-2 : (t : ℕ) → raise-lts.Need-same-length-2 (above-below t, above.Post, note-reads.Asked, note-reads.Learnt, keep-reads.Asked, keep-reads.Learnt) (raise-at t) raise.Post
-raise-same-length-2 t c = c .before .before .before .before .before .before .before .before .before .before .before .before .before .before .before .before .before .above .kept .1 .1 .1 .1 .1 .1 .1 .1 .0
+raise-same-length-2 t c = c .before .before .before .before .before .before .before .before .before .before .before .before .before .before .before .before .before .above .kept .1 .1 .1 .1 .1 .1 .1 .1 .1 .0
 
 raise-same-length-3 : (t : ℕ) → raise-lts.Need-same-length-3 (above-below t, above.Post, note-reads.Asked, note-reads.Learnt, keep-reads.Asked, keep-reads.Learnt) (raise-at t) raise.Post
-raise-same-length-3 t c = c .before .before .before .before .before .before .before .before .before .before .before .before .before .before .before .before .before .above .kept .1 .1 .1 .1 .1 .1 .1 .1 .1 .0
+raise-same-length-3 t c = c .before .before .before .before .before .before .before .before .before .before .before .before .before .before .before .before .before .above .kept .1 .1 .1 .1 .1 .1 .1 .1 .1 .1 .0
 
 raise-same-length-4 : (t : ℕ) → raise-lts.Need-same-length-4 (above-below t, above.Post, note-reads.Asked, note-reads.Learnt, keep-reads.Asked, keep-reads.Learnt) (raise-at t) raise.Post
-raise-same-length-4 t c = c .before .before .before .before .before .before .note .kept .0 ∙ c .before .before .before .before .before .before .before .before .before .before .before .before .before .before .before .before .before .above .kept .1 .1 .1 .1 .1 .1 .1 .1 .1 .1 .0
+raise-same-length-4 t c = c .before .before .before .before .before .before .note .kept .0 ∙ c .before .before .before .before .before .before .before .before .before .before .before .before .before .before .before .before .before .above .kept .1 .1 .1 .1 .1 .1 .1 .1 .1 .1 .1 .0
 
 raise-returns : (t : ℕ) → raise-lts.Need-returns (above-below t, above.Post, note-reads.Asked, note-reads.Learnt, keep-reads.Asked, keep-reads.Learnt) (raise-at t) raise.Post
-raise-returns t c = rw (c .before .before .before .before .before .before .note .ensures) (raised (c .before .before .before .before .before .before .before .before .before .before .before .before .before .before .before .before .before .before .before .before .before .before .before .before .before .before .before .before .pre .1) (c .before .before .before .before .before .before .before .before .before .before .before .before .before .before .before .before .before .above .ensures) (c .before .before .before .before .before .before .before .before .before .before .before .before .before .before .before .before .before .above .kept .1 .1 .1 .1 .1 .1 .1 .1 .1 .1 .0) (c .before .before .keep .ensures))
+raise-returns t c = rw (c .before .before .before .before .before .before .note .ensures) (raised (c .before .before .before .before .before .before .before .before .before .before .before .before .before .before .before .before .before .before .before .before .before .before .before .before .before .before .before .before .pre .1) (c .before .before .before .before .before .before .before .before .before .before .before .before .before .before .before .before .before .above .ensures) (c .before .before .before .before .before .before .before .before .before .before .before .before .before .before .before .before .before .above .kept .1 .1 .1 .1 .1 .1 .1 .1 .1 .1 .1 .0) (c .before .before .keep .ensures))
 
 pub +above+below+both+raise-spec : {M : Type 1} → statement M
 +above+below+both+raise-spec = close μ-above μ-below μ-both μ-raise (λ t. above-lts.spec (read-row-reads.Asked, read-row-reads.Learnt, both-below t, both.Post, under-reads.Asked, under-reads.Learnt)
     (above-at t)
     above.Post
+    (above-returns t)
     (above-read-row-requires t)
     (above-cast-d t)
     (above-both-requires t)
@@ -288,13 +305,13 @@ pub +above+below+both+raise-spec : {M : Type 1} → statement M
     (above-same-length-2 t)
     (above-same-length-3 t)
     (above-same-length-4 t)
-    (above-returns t)
+    (above-returns-2 t)
     (above-cast-under t)
     (above-under-requires t)
     (above-same-length-5 t)
     (above-same-length-6 t)
     (above-same-length-7 t)
-    (above-returns-2 t))
+    (above-returns-3 t))
     (λ t. below-lts.spec (
       descend-reads.Asked,
       descend-reads.Learnt,
@@ -313,9 +330,9 @@ pub +above+below+both+raise-spec : {M : Type 1} → statement M
     (below-standing-requires t)
     (below-loop-holds t)
     (below-sub-depth t)
-    (below-add-i t)
-    (below-mul-i t)
-    (below-slice-read-i t)
+    (below-add-w t)
+    (below-mul-w t)
+    (below-slice-read-w t)
     (below-cast-i t)
     (below-raise-requires t)
     (below-same-length t)
@@ -331,6 +348,8 @@ pub +above+below+both+raise-spec : {M : Type 1} → statement M
     (below-same-length-8 t)
     (below-returns-2 t))
     (λ t. both-lts.spec (
+      lacks-reads.Asked,
+      lacks-reads.Learnt,
       seen-reads.Asked,
       seen-reads.Learnt,
       join-reads.Asked,
@@ -340,25 +359,29 @@ pub +above+below+both+raise-spec : {M : Type 1} → statement M
     )
     (both-at t)
     both.Post
+    (both-cast-lacks t)
+    (both-lacks-requires t)
+    (both-same-length t)
+    (both-returns t)
     (both-seen-requires t)
     (both-sub-join t)
     (both-join-requires t)
-    (both-same-length t)
     (both-same-length-2 t)
     (both-same-length-3 t)
-    (both-returns t)
-    (both-below-requires t)
     (both-same-length-4 t)
+    (both-returns-2 t)
+    (both-below-requires t)
     (both-same-length-5 t)
     (both-same-length-6 t)
     (both-same-length-7 t)
-    (both-returns-2 t)
-    (both-join-requires-2 t)
     (both-same-length-8 t)
+    (both-returns-3 t)
+    (both-join-requires-2 t)
     (both-same-length-9 t)
     (both-same-length-10 t)
     (both-same-length-11 t)
-    (both-returns-3 t))
+    (both-same-length-12 t)
+    (both-returns-4 t))
     λ t. raise-lts.spec (
       above-below t,
       above.Post,

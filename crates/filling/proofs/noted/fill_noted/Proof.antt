@@ -5,8 +5,8 @@ use Rattle.filling.proofs.noted.fill_noted.Reads as reads
 use Rattle.filling.proofs.noted.fill_noted.Lts as lts
 use Rattle.filling.proofs.whole.fill_built.Reads as fill-built-reads
 use Rattle.filling.proofs.Asked.{finds, finds-columns, starts}
-use Rattle.spans.proofs.find_spans.Reads as find-spans-reads
-use Rattle.spans.proofs.find_columns.Reads as find-columns-reads
+use Rattle.atom_sets.proofs.find_sets.Reads as find-sets-reads
+use Rattle.effect_columns.proofs.find_columns.Reads as find-columns-reads
 use mathlib.Core.Path.{_∙_}
 
 cast-find-columns : tie.Need-cast-find-columns
@@ -18,17 +18,17 @@ cast-t21 c = search needs
 cast-t22 : tie.Need-cast-t22
 cast-t22 c = search needs
 
-find-spans-requires : tie.Need-find-spans-requires
-find-spans-requires c κs = finds (c .before .before .before .before .before .before .before .before .before .before .before .before .before .before .before .before .before .before .pre)
+find-sets-requires : tie.Need-find-sets-requires
+find-sets-requires c κs = finds (c .before .before .before .before .before .before .before .before .before .before .before .before .before .before .before .before .before .before .pre)
 
 cast-find-columns-2 : tie.Need-cast-find-columns-2
 cast-find-columns-2 c = search needs
 
 find-columns-requires : tie.Need-find-columns-requires
-find-columns-requires c κs = finds-columns (c .before .before .before .before .before .before .before .before .before .before .before .before .before .before .before .before .before .before .before .before .before .before .before .pre) (c .before .before .before .before .find-spans .ensures) (c .before .before .before .before .find-spans .kept .1 .1 .0)
+find-columns-requires c κs = finds-columns (c .before .before .before .before .before .before .before .before .before .before .before .before .before .before .before .before .before .before .before .before .before .before .before .pre) (c .before .before .before .before .find-sets .ensures) (c .before .before .before .before .find-sets .kept .1 .1 .0)
 
 fill-built-requires : tie.Need-fill-built-requires
-fill-built-requires c κs = starts (c .before .before .before .before .before .before .before .before .before .before .before .before .before .before .before .before .before .before .before .before .before .before .before .before .before .before .before .before .before .before .before .before .before .before .before .pre) (c .before .before .before .before .before .before .before .before .before .before .before .before .before .before .before .before .find-spans .ensures) (c .before .before .before .before .before .before .before .before .before .before .before .before .before .before .before .before .find-spans .kept .1 .1 .0) (c .before .before .before .before .before .before .before .before .before .before .before .find-columns .ensures) (c .before .before .before .before .before .before .before .before .before .before .before .find-columns .kept .1 .1 .1 .1 .0)
+fill-built-requires c κs = starts (c .before .before .before .before .before .before .before .before .before .before .before .before .before .before .before .before .before .before .before .before .before .before .before .before .before .before .before .before .before .before .before .before .before .before .before .pre) (c .before .before .before .before .before .before .before .before .before .before .before .before .before .before .before .before .find-sets .ensures) (c .before .before .before .before .before .before .before .before .before .before .before .before .before .before .before .before .find-sets .kept .1 .1 .0) (c .before .before .before .before .before .before .before .before .before .before .before .find-columns .ensures) (c .before .before .before .before .before .before .before .before .before .before .before .find-columns .kept .1 .1 .1 .1 .0)
 
 same-length : tie.Need-same-length
 same-length c = c .before .before .before .before .before .before .before .before .before .before .before .before .before .before .before .before .before .before .fill-built .kept .1 .1 .1 .1 .1 .1 .1 .1 .1 .1 .0
@@ -49,7 +49,7 @@ same-length-6 : tie.Need-same-length-6
 same-length-6 c = c .before .before .before .before .before .before .before .before .before .before .before .before .before .before .before .before .before .before .fill-built .kept .1 .1 .1 .1 .1 .1 .1 .1 .1 .1 .1 .1 .1 .1 .1 .0
 
 same-length-7 : tie.Need-same-length-7
-same-length-7 c = c .before .before .before .before .before .before .before .before .before .before .before .before .before .before .before .before .before .before .fill-built .kept .1 .1 .1 .1 .1 .0 ∙ c .before .before .before .before .before .before .before .before .before .before .before .before .before .before .before .before .before .before .before .before .before .before .before .before .before .before .before .before .before .before .find-columns .kept .1 .1 .1 .1 .0 ∙ c .before .before .before .before .before .before .before .before .before .before .before .before .before .before .before .before .before .before .before .before .before .before .before .before .before .before .before .before .before .before .before .before .before .before .before .find-spans .kept .1 .1 .0
+same-length-7 c = c .before .before .before .before .before .before .before .before .before .before .before .before .before .before .before .before .before .before .fill-built .kept .1 .1 .1 .1 .1 .0 ∙ c .before .before .before .before .before .before .before .before .before .before .before .before .before .before .before .before .before .before .before .before .before .before .before .before .before .before .before .before .before .before .find-columns .kept .1 .1 .1 .1 .0 ∙ c .before .before .before .before .before .before .before .before .before .before .before .before .before .before .before .before .before .before .before .before .before .before .before .before .before .before .before .before .before .before .before .before .before .before .before .find-sets .kept .1 .1 .0
 
 same-length-8 : tie.Need-same-length-8
 same-length-8 c = c .before .before .before .before .before .before .before .before .before .before .before .before .before .before .before .before .before .before .fill-built .kept .1 .1 .1 .1 .1 .1 .1 .1 .1 .1 .1 .1 .1 .1 .1 .1 .0
@@ -67,7 +67,7 @@ fill-noted-spec =
     cast-find-columns
     cast-t21
     cast-t22
-    find-spans-requires
+    find-sets-requires
     cast-find-columns-2
     find-columns-requires
     fill-built-requires

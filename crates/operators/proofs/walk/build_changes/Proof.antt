@@ -2,6 +2,7 @@ use Rattle.operators.proofs.walk.build_changes.Statement.{statement}
 use Rattle.operators.proofs.walk.build_changes.Tie as tie
 use Rattle.operators.proofs.walk.build_changes.Reads as reads
 use Rattle.operators.proofs.walk.build_changes.Lts as lts
+use Rattle.atom_sets.proofs.lacks.Reads as lacks-reads
 use Rattle.changes.proofs.change_of.Reads as change-of-reads
 use Rattle.operators.proofs.walk.next_touched.Reads as next-touched-reads
 use Rattle.records.proofs.keep_change.Reads as keep-change-reads
@@ -10,77 +11,68 @@ use mathlib.Core.Path.{_≡_, refl, _∙_}
 use native.Mathlib.Omega.{arith}
 use lib.ListN.{length}
 use Rattle.formula_builder.specs.Held.{store, held}
-use Rattle.operators.proofs.Walks.{Walking, walking-begins, walking-asks, walking-keeps, walking-stops, walking-more, walking-ends}
+use Rattle.operators.proofs.Walks.{looks-on, looks-at, Walking, walking-begins, walking-asks, walking-keeps, walking-stops, walking-more, walking-ends}
 use Rattle.conditions.specs.Conditions.{Noted}
 use Rattle.changes.proofs.Standing.{leaves-same, leaves-full}
 
 abbrev Inv-loop : tie.InvT-loop
-Inv-loop formulas effects notes₀ e named frame table₀ originals₀ scratch₀ from records₀ n rows₀ twins₀ k₀ v₀ notes table originals scratch records rows twins k v =
+Inv-loop formulas effects notes₀ e frame table₀ originals₀ scratch₀ from records₀ n rows₀ twins₀ k₀ v₀ notes table originals scratch records rows twins k v =
     (length notes ≡ length notes₀) × (length table ≡ length table₀) × (length originals ≡ length originals₀) × (length scratch ≡ length scratch₀) × (length records ≡ length records₀) × Walking frame formulas effects e (record { rows = rows₀; twins = twins₀ }) (store table₀ originals₀) (store table originals) scratch₀ scratch from records₀ records (record { rows = rows; twins = twins }) k v × Noted frame formulas effects notes (held (record { rows = rows; twins = twins }) (store table originals))
 
 abbrev μ-loop : tie.MeasureT-loop
-μ-loop formulas effects notes₀ e named frame table₀ originals₀ scratch₀ from records₀ n rows₀ twins₀ k₀ v₀ notes table originals scratch records rows twins k v =
+μ-loop formulas effects notes₀ e frame table₀ originals₀ scratch₀ from records₀ n rows₀ twins₀ k₀ v₀ notes table originals scratch records rows twins k v =
     n - v
 
 next-touched-requires : tie.Need-next-touched-requires Inv-loop μ-loop
-next-touched-requires c κs = (omega arith, c .before .before .before .before .before .before .before .before .pre .0 .room)
+next-touched-requires c κs = looks-on (c .before .before .before .before .before .before .before .before .pre .0) (c .before .before .before .before .before .before .before .before .pre .0 .noted) (omega arith)
 
 loop-holds : tie.Need-loop-holds Inv-loop μ-loop
-loop-holds c = (refl, refl, refl, refl, refl, walking-begins (c .before .before .before .before .before .before .before .before .before .pre .0) (c .next-touched .ensures), c .before .before .before .before .before .before .before .before .before .pre .0 .stands .noted)
+loop-holds c = (refl, refl, refl, refl, refl, walking-begins (c .before .before .before .before .before .before .before .before .before .pre .0) (c .next-touched .ensures), c .before .before .before .before .before .before .before .before .before .pre .0 .noted)
 
 cast-variable : tie.Need-cast-variable Inv-loop μ-loop
-cast-variable c = omega (arith, c .loop-test .taken, c .before .before .before .before .before .before .before .before .before .before .before .pre .0 .stands .stands .ready .variables)
+cast-variable c = omega (arith, c .loop-test .taken, c .before .before .before .before .before .before .before .before .before .before .before .pre .0 .stands .ready .variables)
 
-mul-sets : tie.Need-mul-sets Inv-loop μ-loop
-mul-sets c = omega (arith, c .loop-test .taken, c .before .before .before .before .before .before .before .before .before .before .before .pre .0 .stands .stands .ready .variables)
+lacks-requires : tie.Need-lacks-requires Inv-loop μ-loop
+lacks-requires c κs = (looks-at (looks-on {from = 0} (c .before .before .before .before .before .before .before .before .before .before .before .before .pre .0) (c .before .before .loop .inv .6) (omega arith)) (c .before .loop-test .taken), c .before .before .loop .inv .6 .sets .words)
 
-shared-slice-read-sets : tie.Need-shared-slice-read-sets Inv-loop μ-loop
-shared-slice-read-sets c = omega (arith, c .before .loop-test .taken, c .before .before .before .before .before .before .before .before .before .before .before .before .pre .0 .room)
-
-mul-clears : tie.Need-mul-clears Inv-loop μ-loop
-mul-clears c = omega (arith, c .before .loop-test .taken, c .before .before .before .before .before .before .before .before .before .before .before .before .pre .0 .stands .stands .ready .variables)
-
-add-clears : tie.Need-add-clears Inv-loop μ-loop
-add-clears c = omega (arith, c .before .loop-test .taken, c .before .before .before .before .before .before .before .before .before .before .before .before .pre .0 .stands .stands .ready .variables)
-
-shared-slice-read-clears : tie.Need-shared-slice-read-clears Inv-loop μ-loop
-shared-slice-read-clears c = omega (arith, c .before .before .loop-test .taken, c .before .before .before .before .before .before .before .before .before .before .before .before .before .pre .0 .room)
+lacks-requires-2 : tie.Need-lacks-requires-2 Inv-loop μ-loop
+lacks-requires-2 c κs = (looks-at (looks-on {from = 0} (c .before .before .before .before .before .before .before .before .before .before .before .before .before .before .pre .0) (c .before .before .before .before .loop .inv .6) (omega arith)) (c .before .before .before .loop-test .taken), c .before .before .before .before .loop .inv .6 .sets .words)
 
 change-of-requires : tie.Need-change-of-requires Inv-loop μ-loop
-change-of-requires c κs = walking-asks (c .before .before .before .before .before .before .before .before .before .before .before .before .before .before .before .before .before .pre .0) (c .before .before .before .before .before .before .before .loop .inv .5) (c .before .before .before .before .before .before .before .loop .inv .6) (c .before .before .before .before .before .before .before .loop .inv .3)
+change-of-requires c κs = walking-asks (c .before .before .before .before .before .before .before .before .before .before .before .before .before .before .before .before .before .before .before .pre .0) (c .before .before .before .before .before .before .before .before .before .loop .inv .5) (c .before .before .before .before .before .before .before .before .before .loop .inv .6) (c .before .before .before .before .before .before .before .before .before .loop .inv .3) (c .before .before .before .before .before .before .before .before .loop-test .taken) (c .before .before .before .before .before .before .lacks .ensures) (c .before .before .before .before .lacks2 .ensures)
 
 same-length : tie.Need-same-length Inv-loop μ-loop
-same-length c = c .before .before .before .before .before .before .before .before .before .change-of .kept .1 .1 .0 ∙ c .before .before .before .before .before .before .before .before .before .before .before .before .before .before .before .before .before .loop .inv .0
+same-length c = c .before .before .before .before .before .before .before .before .before .change-of .kept .1 .1 .0 ∙ c .before .before .before .before .before .before .before .before .before .before .before .before .before .before .before .before .before .before .before .loop .inv .0
 
 same-length-2 : tie.Need-same-length-2 Inv-loop μ-loop
-same-length-2 c = c .before .before .before .before .before .before .before .before .before .change-of .kept .1 .1 .1 .1 .1 .1 .1 .1 .1 .0 ∙ c .before .before .before .before .before .before .before .before .before .before .before .before .before .before .before .before .before .loop .inv .1
+same-length-2 c = c .before .before .before .before .before .before .before .before .before .change-of .kept .1 .1 .1 .1 .1 .1 .1 .1 .1 .0 ∙ c .before .before .before .before .before .before .before .before .before .before .before .before .before .before .before .before .before .before .before .loop .inv .1
 
 same-length-3 : tie.Need-same-length-3 Inv-loop μ-loop
-same-length-3 c = c .before .before .before .before .before .before .before .before .before .change-of .kept .1 .1 .1 .1 .1 .1 .1 .1 .1 .1 .0 ∙ c .before .before .before .before .before .before .before .before .before .before .before .before .before .before .before .before .before .loop .inv .2
+same-length-3 c = c .before .before .before .before .before .before .before .before .before .change-of .kept .1 .1 .1 .1 .1 .1 .1 .1 .1 .1 .0 ∙ c .before .before .before .before .before .before .before .before .before .before .before .before .before .before .before .before .before .before .before .loop .inv .2
 
 same-length-4 : tie.Need-same-length-4 Inv-loop μ-loop
-same-length-4 c = c .before .before .before .before .before .before .before .before .before .change-of .kept .1 .1 .1 .1 .1 .1 .1 .1 .1 .1 .1 .0 ∙ c .before .before .before .before .before .before .before .before .before .before .before .before .before .before .before .before .before .loop .inv .3
+same-length-4 c = c .before .before .before .before .before .before .before .before .before .change-of .kept .1 .1 .1 .1 .1 .1 .1 .1 .1 .1 .1 .0 ∙ c .before .before .before .before .before .before .before .before .before .before .before .before .before .before .before .before .before .before .before .loop .inv .3
 
 same-length-5 : tie.Need-same-length-5 Inv-loop μ-loop
-same-length-5 c = c .before .before .before .before .before .before .before .before .before .before .before .before .before .before .before .before .before .loop .inv .4
+same-length-5 c = c .before .before .before .before .before .before .before .before .before .before .before .before .before .before .before .before .before .before .before .loop .inv .4
 
 returns : tie.Need-returns Inv-loop μ-loop
-returns c = (walking-stops (c .before .before .before .before .before .before .before .before .before .before .before .before .before .before .before .before .before .before .before .before .before .before .before .before .before .before .before .pre .0) (c .before .before .before .before .before .before .before .before .before .before .before .before .before .before .before .before .before .loop .inv .5) (c .before .before .before .before .before .before .before .before .before .change-of .result) (c .before .before .before .before .before .before .before .before .before .change-of .ensures .0) (c .before .before .before .before .before .before .before .before .before .before .before .before .before .before .before .before .loop-test .taken) (c .if1 .taken) refl, leaves-full)
+returns c = (walking-stops (c .before .before .before .before .before .before .before .before .before .before .before .before .before .before .before .before .before .before .before .before .before .before .before .before .before .before .before .before .before .pre .0) (c .before .before .before .before .before .before .before .before .before .before .before .before .before .before .before .before .before .before .before .loop .inv .5) (c .before .before .before .before .before .before .before .before .before .change-of .result) (c .before .before .before .before .before .before .before .before .before .change-of .ensures .0) (c .before .before .before .before .before .before .before .before .before .before .before .before .before .before .before .before .before .before .loop-test .taken) (c .if1 .taken) refl, leaves-full)
 
 keep-change-requires : tie.Need-keep-change-requires Inv-loop μ-loop
-keep-change-requires c κs = walking-keeps (c .before .before .before .before .before .before .before .before .before .before .before .before .before .before .before .before .before .before .before .before .before .before .before .before .before .before .before .before .pre .0) (c .before .before .before .before .before .before .before .before .before .before .before .before .before .before .before .before .before .before .loop .inv .5) (c .before .before .before .before .before .before .before .before .before .before .before .before .before .before .before .before .before .before .before .before .before .before .before .before .before .before .before .before .pre .1) (c .before .before .before .before .before .before .before .before .before .before .before .before .before .before .before .before .before .before .loop .inv .4)
+keep-change-requires c κs = walking-keeps (c .before .before .before .before .before .before .before .before .before .before .before .before .before .before .before .before .before .before .before .before .before .before .before .before .before .before .before .before .before .before .pre .0) (c .before .before .before .before .before .before .before .before .before .before .before .before .before .before .before .before .before .before .before .before .loop .inv .5) (c .before .before .before .before .before .before .before .before .before .before .before .before .before .before .before .before .before .before .before .before .before .before .before .before .before .before .before .before .before .before .pre .1) (c .before .before .before .before .before .before .before .before .before .before .before .before .before .before .before .before .before .before .before .before .loop .inv .4)
 
 add-next-touched : tie.Need-add-next-touched Inv-loop μ-loop
-add-next-touched c = omega (arith, c .before .before .before .before .before .before .before .before .before .before .before .before .before .before .before .before .before .before .before .before .loop-test .taken, c .before .before .before .before .before .before .before .before .before .before .before .before .before .before .before .before .before .before .before .before .before .before .before .before .before .before .before .before .before .before .before .pre .0 .stands .stands .ready .variables)
+add-next-touched c = omega (arith, c .before .before .before .before .before .before .before .before .before .before .before .before .before .before .before .before .before .before .before .before .before .before .before .loop-test .taken, c .before .before .before .before .before .before .before .before .before .before .before .before .before .before .before .before .before .before .before .before .before .before .before .before .before .before .before .before .before .before .before .before .before .before .pre .0 .stands .ready .variables)
 
 next-touched-requires-2 : tie.Need-next-touched-requires-2 Inv-loop μ-loop
-next-touched-requires-2 c κs = (omega (arith, c .before .before .before .before .before .before .before .before .before .before .before .before .before .before .before .before .before .before .before .before .loop-test .taken), c .before .before .before .before .before .before .before .before .before .before .before .before .before .before .before .before .before .before .before .before .before .before .before .before .before .before .before .before .before .before .before .pre .0 .room)
+next-touched-requires-2 c κs = looks-on (c .before .before .before .before .before .before .before .before .before .before .before .before .before .before .before .before .before .before .before .before .before .before .before .before .before .before .before .before .before .before .before .before .before .before .pre .0) (c .before .before .before .before .before .before .before .before .before .before .before .before .before .before .change-of .ensures .1 .noted (c .before .before .before .before .before .if1 .left)) (omega (arith, c .before .before .before .before .before .before .before .before .before .before .before .before .before .before .before .before .before .before .before .before .before .before .before .loop-test .taken))
 
 loop-less : tie.Need-loop-less Inv-loop μ-loop
-loop-less c = omega (arith, c .before .before .before .before .before .before .before .before .before .before .before .before .before .before .before .before .before .before .before .before .before .loop-test .taken, c .next-touched2 .ensures .above)
+loop-less c = omega (arith, c .before .before .before .before .before .before .before .before .before .before .before .before .before .before .before .before .before .before .before .before .before .before .before .before .loop-test .taken, c .next-touched2 .ensures .above)
 
 loop-again : tie.Need-loop-again Inv-loop μ-loop
-loop-again c = (c .before .before .before .before .before .before .before .before .before .before .before .before .before .before .change-of .kept .1 .1 .0 ∙ c .before .before .before .before .before .before .before .before .before .before .before .before .before .before .before .before .before .before .before .before .before .before .loop .inv .0, c .before .before .before .before .before .before .before .before .before .before .before .before .before .before .change-of .kept .1 .1 .1 .1 .1 .1 .1 .1 .1 .0 ∙ c .before .before .before .before .before .before .before .before .before .before .before .before .before .before .before .before .before .before .before .before .before .before .loop .inv .1, c .before .before .before .before .before .before .before .before .before .before .before .before .before .before .change-of .kept .1 .1 .1 .1 .1 .1 .1 .1 .1 .1 .0 ∙ c .before .before .before .before .before .before .before .before .before .before .before .before .before .before .before .before .before .before .before .before .before .before .loop .inv .2, c .before .before .before .before .before .before .before .before .before .before .before .before .before .before .change-of .kept .1 .1 .1 .1 .1 .1 .1 .1 .1 .1 .1 .0 ∙ c .before .before .before .before .before .before .before .before .before .before .before .before .before .before .before .before .before .before .before .before .before .before .loop .inv .3, c .before .before .before .keep-change .kept .0 ∙ c .before .before .before .before .before .before .before .before .before .before .before .before .before .before .before .before .before .before .before .before .before .before .loop .inv .4, walking-more (c .before .before .before .before .before .before .before .before .before .before .before .before .before .before .before .before .before .before .before .before .before .before .before .before .before .before .before .before .before .before .before .before .pre .0) (c .before .before .before .before .before .before .before .before .before .before .before .before .before .before .before .before .before .before .before .before .before .before .loop .inv .5) (c .before .before .before .before .before .before .before .before .before .before .before .before .before .before .change-of .result) (c .before .before .before .before .before .before .before .before .before .before .before .before .before .before .change-of .ensures .0) (c .before .before .before .before .before .if1 .left) (c .before .before .before .keep-change .ensures) (c .next-touched2 .ensures), c .before .before .before .before .before .before .before .before .before .before .before .before .before .before .change-of .ensures .1 .noted (c .before .before .before .before .before .if1 .left))
+loop-again c = (c .before .before .before .before .before .before .before .before .before .before .before .before .before .before .before .change-of .kept .1 .1 .0 ∙ c .before .before .before .before .before .before .before .before .before .before .before .before .before .before .before .before .before .before .before .before .before .before .before .before .before .loop .inv .0, c .before .before .before .before .before .before .before .before .before .before .before .before .before .before .before .change-of .kept .1 .1 .1 .1 .1 .1 .1 .1 .1 .0 ∙ c .before .before .before .before .before .before .before .before .before .before .before .before .before .before .before .before .before .before .before .before .before .before .before .before .before .loop .inv .1, c .before .before .before .before .before .before .before .before .before .before .before .before .before .before .before .change-of .kept .1 .1 .1 .1 .1 .1 .1 .1 .1 .1 .0 ∙ c .before .before .before .before .before .before .before .before .before .before .before .before .before .before .before .before .before .before .before .before .before .before .before .before .before .loop .inv .2, c .before .before .before .before .before .before .before .before .before .before .before .before .before .before .before .change-of .kept .1 .1 .1 .1 .1 .1 .1 .1 .1 .1 .1 .0 ∙ c .before .before .before .before .before .before .before .before .before .before .before .before .before .before .before .before .before .before .before .before .before .before .before .before .before .loop .inv .3, c .before .before .before .before .keep-change .kept .0 ∙ c .before .before .before .before .before .before .before .before .before .before .before .before .before .before .before .before .before .before .before .before .before .before .before .before .before .loop .inv .4, walking-more (c .before .before .before .before .before .before .before .before .before .before .before .before .before .before .before .before .before .before .before .before .before .before .before .before .before .before .before .before .before .before .before .before .before .before .before .pre .0) (c .before .before .before .before .before .before .before .before .before .before .before .before .before .before .before .before .before .before .before .before .before .before .before .before .before .loop .inv .5) (c .before .before .before .before .before .before .before .before .before .before .before .before .before .before .before .change-of .result) (c .before .before .before .before .before .before .before .before .before .before .before .before .before .before .before .change-of .ensures .0) (c .before .before .before .before .before .before .if1 .left) (c .before .before .before .before .keep-change .ensures) (c .before .before .before .before .before .before .before .before .before .before .before .before .before .before .before .change-of .ensures .1 .noted (c .before .before .before .before .before .before .if1 .left)) (c .next-touched2 .ensures), c .before .before .before .before .before .before .before .before .before .before .before .before .before .before .before .change-of .ensures .1 .noted (c .before .before .before .before .before .before .if1 .left))
 
 same-length-6 : tie.Need-same-length-6 Inv-loop μ-loop
 same-length-6 c = c .before .loop .inv .0
@@ -109,11 +101,8 @@ build-changes-spec =
     next-touched-requires
     loop-holds
     cast-variable
-    mul-sets
-    shared-slice-read-sets
-    mul-clears
-    add-clears
-    shared-slice-read-clears
+    lacks-requires
+    lacks-requires-2
     change-of-requires
     same-length
     same-length-2

@@ -2,55 +2,45 @@ use Rattle.operators.proofs.walk.next_touched.Statement.{statement}
 use Rattle.operators.proofs.walk.next_touched.Tie as tie
 use Rattle.operators.proofs.walk.next_touched.Reads as reads
 use Rattle.operators.proofs.walk.next_touched.Lts as lts
-use Prim.Native.Nat.{ℕ, _-_, _≤_, _<_}
+use Rattle.operators.proofs.walk.passed_at.Reads as passed-at-reads
+use Prim.Native.Nat.{_-_}
 use native.Mathlib.Omega.{arith}
-use mathlib.Core.Path.{_≡_}
-use mathlib.Core.Bool.{Bool, true, false}
-use lib.ListN.{getD}
-use Rattle.touched.specs.Touched.{atom-place}
-use Rattle.operators.proofs.Passing.{one-more-passed, both-passed}
+use Rattle.operators.proofs.Passing.{Searching, searching-none, searching-more, searched, searched-all}
+use Rattle.operators.proofs.Walks.{looks-at}
 
 abbrev Inv-loop : tie.InvT-loop
-Inv-loop named from n v₀ v = (from ≤ v) × (v ≤ n) × ((clear : Bool) (j : ℕ) → from ≤ j → j < v → getD named (atom-place clear j) 0 ≡ 0)
+Inv-loop notes frame e from n v₀ v = Searching frame notes e from v
 
 abbrev μ-loop : tie.MeasureT-loop
-μ-loop named from n v₀ v = n - v
+μ-loop notes frame e from n v₀ v = n - v
 
+-- src/walk.rt:43:5
 loop-holds : tie.Need-loop-holds Inv-loop μ-loop
-loop-holds c = (omega arith, c .pre .0, λ clear j a b. absurd (omega arith))
+loop-holds c = searching-none (c .before .args .frame) (c .before .args .notes .now) (c .before .args .e) (c .before .args .from)
 
-mul-if1 : tie.Need-mul-if1 Inv-loop μ-loop
-mul-if1 c = omega (arith, c .before .before .pre .1, c .loop-test .taken, c .before .before .good)
+-- src/walk.rt:44:13
+passed-at-requires : tie.Need-passed-at-requires Inv-loop μ-loop
+passed-at-requires c κs = (looks-at (c .before .before .before .pre) (c .loop-test .taken), c .before .before .before .pre .words)
 
-shared-slice-read-if1 : tie.Need-shared-slice-read-if1 Inv-loop μ-loop
-shared-slice-read-if1 c = omega (arith, c .before .before .before .pre .1, c .before .loop-test .taken)
-
+-- src/walk.rt:46:13
 returns : tie.Need-returns Inv-loop μ-loop
-returns c = record { above = c .before .before .before .loop .inv .0; below = c .before .before .before .loop .inv .1; passed = c .before .before .before .loop .inv .2; stopped = λ _ z. c .if1 .taken (z false) }
+returns c = searched (c .before .before .before .loop .inv) (c .before .before .loop-test .taken) (c .before .passed-at .ensures) (c .if1 .taken)
 
-mul-if2 : tie.Need-mul-if2 Inv-loop μ-loop
-mul-if2 c = omega (arith, c .before .before .before .before .pre .1, c .before .before .loop-test .taken, c .before .before .before .before .good)
-
-add-if2 : tie.Need-add-if2 Inv-loop μ-loop
-add-if2 c = omega (arith, c .before .before .before .before .pre .1, c .before .before .loop-test .taken, c .before .before .before .before .good)
-
-shared-slice-read-if2 : tie.Need-shared-slice-read-if2 Inv-loop μ-loop
-shared-slice-read-if2 c = omega (arith, c .before .before .before .before .before .pre .1, c .before .before .before .loop-test .taken)
-
-returns-2 : tie.Need-returns-2 Inv-loop μ-loop
-returns-2 c = record { above = c .before .before .before .before .before .loop .inv .0; below = c .before .before .before .before .before .loop .inv .1; passed = c .before .before .before .before .before .loop .inv .2; stopped = λ _ z. c .if2 .taken (z true) }
-
+-- src/walk.rt:48:9
 add-v : tie.Need-add-v Inv-loop μ-loop
-add-v c = omega (arith, c .before .before .before .before .loop-test .taken, c .before .before .before .before .before .before .fits)
+add-v c = omega (arith, c .before .before .loop-test .taken, c .before .passed-at .ensures .most, c .before .before .before .before .before .pre .variables)
 
+-- src/walk.rt:43:5
 loop-less : tie.Need-loop-less Inv-loop μ-loop
-loop-less c = omega (arith, c .before .before .before .before .loop-test .taken)
+loop-less c = omega (arith, c .before .before .loop-test .taken, c .if1 .left)
 
+-- src/walk.rt:43:5
 loop-again : tie.Need-loop-again Inv-loop μ-loop
-loop-again c = (omega (arith, c .before .before .before .before .before .loop .inv .0), omega (arith, c .before .before .before .before .loop-test .taken), one-more-passed (c .before .before .before .before .before .before .args .named .now) (c .before .before .before .before .before .loop .v) (c .before .before .before .before .before .loop .inv .2) (both-passed (c .before .before .before .before .before .before .args .named .now) (c .before .before .before .before .before .loop .v) (c .before .before .if1 .left) (c .if2 .left)))
+loop-again c = searching-more (c .before .before .before .loop .inv) (c .before .passed-at .ensures)
 
-returns-3 : tie.Need-returns-3 Inv-loop μ-loop
-returns-3 c = record { above = c .before .before .pre .0; below = omega arith; passed = λ clear j a b. c .before .loop .inv .2 clear j a (omega arith); stopped = λ h _. omega arith }
+-- src/walk.rt:37:1
+returns-2 : tie.Need-returns-2 Inv-loop μ-loop
+returns-2 c = searched-all (c .before .before .before .pre .from-most) (c .before .loop .inv) (omega (arith, c .loop-test .left))
 
 pub next-touched-spec : {M : Type 1} → statement M
 next-touched-spec =
@@ -59,14 +49,9 @@ next-touched-spec =
     Inv-loop
     μ-loop
     loop-holds
-    mul-if1
-    shared-slice-read-if1
+    passed-at-requires
     returns
-    mul-if2
-    add-if2
-    shared-slice-read-if2
-    returns-2
     add-v
     loop-less
     loop-again
-    returns-3)
+    returns-2)

@@ -36,7 +36,7 @@ slice-aggregate-fill-small c = sym (length-take-le (c .before .before .before .b
 fill-small-requires : tie.Need-fill-small-requires
 fill-small-requires c κs =
     let s = c .before .before .before .before .before .before .before .before .before .before .before .before .before .before .before .before .before .before .before .before .before in
-    front-begins (lent (s .args .head) (s .args .initial .now) (s .args .twins .now) (s .args .formulas .now) (s .args .effects .now) (s .args .operators .now)) (tables (s .args .values .now) (s .args .originals .now) (s .args .table .now) (s .args .out .now) (s .args .written .now) (s .args .scratch .now)) (c .before .before .before .before .before .before .before .before .before .least .result) (c .before .before .before .before .before .before .before .before .before .least .ensures .second) (s .pre .0) (c .before .before .before .before .before .before .before .most-twins .result) (c .before .before .before .before .before .before .least2 .result) (c .before .before .before .before .before .before .before .before .before .least .ensures .first) (s .pre .1) (c .before .before .before .before .before .before .before .most-twins .ensures) (c .before .before .before .before .before .before .least2 .ensures)
+    front-begins (lent (s .args .head) (s .args .initial .now) (s .args .twins .now) (s .args .formulas .now) (s .args .effects .now) (s .args .operators .now)) (tables (s .args .values .now) (s .args .originals .now) (s .args .table .now) (s .args .out .now) (s .args .written .now) (s .args .scratch .now)) (c .before .before .before .before .before .before .before .before .before .least .result) (c .before .before .before .before .before .before .before .before .before .least .ensures .second) (s .pre .0) (c .before .before .before .before .before .before .before .most-twins .result) (c .before .before .before .before .before .before .least2 .result) (c .before .before .before .before .before .before .before .before .before .least .ensures .first) (s .pre .1) (s .pre .2) (c .before .before .before .before .before .before .before .most-twins .ensures) (c .before .before .before .before .before .before .least2 .ensures)
 
 same-length : tie.Need-same-length
 same-length c = c .before .before .before .before .before .before .before .before .before .before .before .before .fill-small .kept .1 .1 .1 .1 .1 .1 .1 .1 .1 .0

@@ -13,7 +13,7 @@ is-small-requires c κs = search needs
 fill-front-first-requires : tie.Need-fill-front-first-requires
 fill-front-first-requires c κs =
     let s = c .before .before .before .before .before .before .before .before .before .before .before .before .before .before .before .before .before .before .before in
-    (s .pre, c .before .before .before .before .before .before .before .is-small .ensures .few-effects (c .before .before .before .before .before .before .if1 .taken))
+    (s .pre, c .before .before .before .before .before .before .before .is-small .ensures .few-effects (c .before .before .before .before .before .before .if1 .taken), c .before .before .before .before .before .before .before .is-small .ensures .few-variables (c .before .before .before .before .before .before .if1 .taken))
 
 same-length : tie.Need-same-length
 same-length c = c .before .before .before .before .before .before .before .before .before .before .before .before .fill-front-first .kept .1 .1 .1 .1 .1 .1 .0

@@ -1,0 +1,101 @@
+-- Where the words of the sets stand. Assumes nothing.
+use Prim.Native.Nat.{ℕ, _+_, _*_, _/_, _%_, _≤_, _<_}
+use native.Mathlib.Omega.{arith}
+use native.Mathlib.Nat.{mul-le-mul, zero-div}
+use mathlib.Core.Path.{_≡_, refl, ap}
+use mathlib.Core.Bool.{Bool, true, false, cond}
+use mathlib.Core.List.{List}
+use lib.ListN.{length, getD}
+use lib.Dec.{eqb}
+use mir.Val.{boolByte}
+use Prim.Native.Nat.{_^_}
+use Rattle.formula_builder.specs.declared.Frame.{Frame}
+use Rattle.atom_sets.specs.Sets.{set-words, set-place, sets-end, atom-bit, lacks, InSet}
+
+-- a product that fits a word of the machine
+pub product-small : (s e : ℕ) → s ≤ 64 → e ≤ 4096 → s * e ≤ 262144
+product-small s e h g = mul-le-mul {n₂ = 64} {m₂ = 4096} h g
+
+pub products : {frame : Frame} {v e : ℕ} → InSet frame v e → (frame .variables + 7) / 8 * e ≤ 262144
+products {frame} {v} {e} a =
+    product-small ((frame .variables + 7) / 8) e (omega (arith, a .variables)) (omega (arith, a .effect, a .limit))
+
+pub all-sets : (frame : Frame) → frame .variables ≤ 512 → frame .effects ≤ 4096 → (frame .variables + 7) / 8 * frame .effects ≤ 262144
+all-sets frame h g = product-small ((frame .variables + 7) / 8) (frame .effects) (omega (arith, h)) g
+
+-- one row more is one set more
+pub row-more : (s e n : ℕ) → e < n → s * e + s ≤ s * n
+row-more s e n h =
+    let x : s * (e + 1) ≤ s * n = mul-le-mul {n₁ = s} {m₁ = e + 1} {n₂ = s} {m₂ = n} (omega arith) (omega arith) in
+    omega (arith, x)
+
+-- the sets stand behind four words for each row
+pub sets-behind : (frame : Frame) → 4 * frame .effects ≤ sets-end frame
+unfolding sets-end
+sets-behind frame = omega arith
+
+-- the word of a variable is one of its row's set
+pub place-before :
+    (frame : Frame) (v e : ℕ)
+    → v < frame .variables
+    → e < frame .effects
+    → (4 * frame .effects ≤ set-place frame v e) × (set-place frame v e < sets-end frame)
+unfolding set-place sets-end set-words
+place-before frame v e h g =
+    let x = row-more ((frame .variables + 7) / 8) e (frame .effects) g in
+    (omega arith, omega (arith, x, h))
+
+pub place-within : {frame : Frame} {v e : ℕ} → InSet frame v e → set-place frame v e < sets-end frame
+place-within {frame} {v} {e} a = place-before frame v e (a .variable) (a .effect) .1
+
+-- the bits are read from the words of the sets alone
+pub lacks-same :
+    (frame : Frame) (notes notes' : List ℕ) (clear : Bool) (v e : ℕ)
+    → v < frame .variables
+    → e < frame .effects
+    → ((j : ℕ) → 4 * frame .effects ≤ j → j < sets-end frame → getD notes' j 0 ≡ getD notes j 0)
+    → lacks frame notes' clear v e ≡ lacks frame notes clear v e
+unfolding lacks
+lacks-same frame notes notes' clear v e h g same =
+    let x = place-before frame v e h g in
+    rw (same (set-place frame v e) (x .0) (x .1))
+
+-- the code's word is the definition's
+pub place-is :
+    (frame : Frame) (v e : ℕ) → 4 * frame .effects + ((frame .variables + 7) / 8 * e + v / 8) ≡ set-place frame v e
+unfolding set-place set-words
+place-is frame v e = refl
+
+pub byte-small : (b : Bool) → boolByte b ≤ 1
+byte-small true = omega arith
+byte-small false = omega arith
+
+-- the code's word and bit are the definition's
+pub bit-is : (clear : Bool) (v : ℕ) → 2 * (v % 8) + boolByte clear ≡ atom-bit clear v
+unfolding atom-bit
+bit-is true v = refl
+bit-is false v = refl
+
+pub lacks-by :
+    (frame : Frame) (notes : List ℕ) (clear : Bool) (v e k : ℕ)
+    → k ≡ set-place frame v e
+    → eqb (getD notes k 0 / 2 ^ (2 * (v % 8) + boolByte clear) % 2) 0 ≡ lacks frame notes clear v e
+unfolding lacks
+lacks-by frame notes clear v e k q = rw (q, bit-is clear v)
+
+-- the code's end is the definition's
+pub end-is : (frame : Frame) → 4 * frame .effects + (frame .variables + 7) / 8 * frame .effects ≡ sets-end frame
+unfolding sets-end set-words
+end-is frame = refl
+
+-- a word that is 0 has none of its variables' atoms
+pub blank-lacks :
+    (frame : Frame) (notes : List ℕ) (v e : ℕ)
+    → getD notes (set-place frame v e) 0 ≡ 0
+    → (clear : Bool) (u : ℕ)
+    → u / 8 ≡ v / 8
+    → lacks frame notes clear u e ≡ true
+unfolding lacks set-place
+blank-lacks frame notes v e z clear u q =
+    let none : getD notes (4 * frame .effects + (set-words frame * e + u / 8)) 0 ≡ 0 = rw q z in
+    rw (none, zero-div (2 ^ atom-bit clear u)) refl

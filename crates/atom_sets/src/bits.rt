@@ -1,0 +1,42 @@
+// Where an atom's bit stands, and whether it does. Constant cost.
+use formula_builder::Frame;
+ghost use mathlib.Core.Path.{_≡_};
+ghost use Prim.Native.Nat.{_≤_};
+ghost use lib.Dec.{eqb};
+ghost use lib.ListN.{length, getD};
+ghost use Rattle.atom_sets.specs.Sets.{set-place, sets-end, lacks, InSet};
+
+// The word of variable v in the set of row e.
+pub fn set_word(frame: Frame, v: usize, e: usize) -> usize
+    requires { ⌜ InSet frame v e ⌝ }
+    ensures { λ k. ⌜ k ≡ set-place frame v e ⌝ }
+{
+    4 * frame.effects + ((frame.variables + 7) / 8 * e + v / 8)
+}
+
+// Whether the set of row e lacks set v, or clear v.
+pub fn lacks(notes: &[u16], frame: Frame, clear: bool, v: usize, e: usize) -> bool
+    requires { ⌜ InSet frame v e × (sets-end frame ≤ length (now notes)) ⌝ }
+    ensures { λ r. ⌜ r ≡ lacks frame (now (notes .entry)) clear v e ⌝ }
+{
+    let k = set_word(frame, v, e);
+    let bit = 2 * (v % 8) + clear as usize;
+    (notes[k] >> bit) % 2 == 0
+}
+
+// Where the sets end.
+pub fn sets_end(frame: Frame) -> usize
+    requires { ⌜ (frame .variables ≤ 512) × (frame .effects ≤ 4096) ⌝ }
+    ensures { λ k. ⌜ (k ≡ sets-end frame) × (k ≤ 278528) ⌝ }
+{
+    4 * frame.effects + (frame.variables + 7) / 8 * frame.effects
+}
+
+// Whether the word of variable v in the set of row e has no atom: then the row names none of its eight variables.
+pub fn is_blank(notes: &[u16], frame: Frame, v: usize, e: usize) -> bool
+    requires { ⌜ InSet frame v e × (sets-end frame ≤ length (now notes)) ⌝ }
+    ensures { λ r. ⌜ r ≡ eqb (getD (now (notes .entry)) (set-place frame v e) 0) 0 ⌝ }
+{
+    let k = set_word(frame, v, e);
+    notes[k] == 0
+}
