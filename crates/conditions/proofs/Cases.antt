@@ -19,17 +19,19 @@ use Rattle.formula_builder.specs.declared.Words.{Words}
 use Rattle.formula_builder.specs.declared.Frame.{Frame}
 use Rattle.formula_builder.specs.declared.Size.{Size}
 use Rattle.formula_builder.specs.declared.Step.{Step}
-use Rattle.formula_builder.specs.Held.{Store, row-of, held, size-of, side, JoinReady, Builds}
+use Rattle.formula_builder.specs.Held.{Store, row-of, held, size-of, side}
 use Rattle.formula_builder.proofs.Steps.{builds-done, falsity-small}
-use Rattle.images.specs.Images.{tree, image-at, Known, noted, Images}
-use Rattle.images.proofs.Memos.{known-grows, done-grows, done-known, images-as, images-leaf, images-bind, images-stop}
+use Rattle.images.specs.Images.{tree, image-at, Known, noted, Images, Asks as AsksImage}
+use Rattle.images.proofs.Memos.{steady-image-at, known-grows, done-grows, done-known}
 use Rattle.atom_sets.specs.Sets.{lacks, InSet}
 use Rattle.conditions.specs.declared.Target.{Target}
-use Rattle.conditions.specs.Conditions.{atom-of, acts, condition-at, Recalls, Keeps, Asks, Conditions}
+use Rattle.conditions.specs.Conditions.{atom-of, acts, condition-at, Looks, Recalls, Keeps, Asks, Conditions}
+use Rattle.conditions.specs.Joins.{AsksJoin, Joined}
 use Rattle.conditions.specs.Paths.{spine, right-of, onward, Sees, AsksRight, AsksUnder, AsksOnward, Climbs}
 use Rattle.conditions.proofs.Rows.{both-lower, under-lower, under-else, of-atom, of-spine, side-not, skipped-right}
-use Rattle.conditions.proofs.Notes.{steady-condition-at, stays-refl, stays-trans, stays-fewer}
+use Rattle.conditions.proofs.Notes.{steady-condition-at, looks, stays-refl, stays-trans, stays-fewer}
 use Rattle.conditions.proofs.Memos.{conditions-as, conditions-wider, conditions-of-images, conditions-leaf, conditions-bind, conditions-stop, conditions-known, memo-known, conditions-noted}
+use Rattle.conditions.proofs.Joins.{conditions-joined}
 
 pub truth-small : (p : Polarity) → truth p < 2
 truth-small plain = omega arith
@@ -109,44 +111,82 @@ module _ (frame : Frame) (effects notes scratch : List ℕ) (t : Target) (e : �
           false ≡ acts (atom-of t) (effect-kind (w .kind)) (w .a) → Sees frame effects notes scratch t e (falsity (side (t .negated)) + 1)
       sees-idle h = sees-constant (falsity (side (t .negated))) (falsity-small (side (t .negated))) (constant false h)
 
--- Formula a over the condition s of the inner effect.
-module _ {frame : Frame} {formulas : List ℕ} {s : Step} {before : Store} {scratch : List ℕ} {a : ℕ} (t : Target) (x : AsksUnder frame formulas s before scratch a) where
-  pub under-folded : s .row ≡ falsity (side (t .negated)) → Images (guarded (frame .variables) (side (t .negated)) (tree frame formulas a) (s .row)) frame formulas (size-of s) before before scratch scratch s
+-- Row e's formula over the condition s of the inner effect.
+module _ {frame : Frame} {formulas effects notes : List ℕ} {t : Target} {s : Step} {before : Store} {scratch : List ℕ} {e : ℕ} (x : AsksUnder frame formulas effects notes t s before scratch e) where
+  abbrev over : Build ℕ
+  over = guarded (frame .variables) (side (t .negated)) (tree frame formulas (row-at effects e .a)) (s .row)
+
+  pub under-folded :
+      s .row ≡ falsity (side (t .negated))
+      → Climbs over frame formulas effects notes notes t e (frame .effects) (size-of s) before before scratch scratch s
   unfolding guarded give
   under-folded h =
-      images-as (rw (eq-eqb (s .row) (falsity (side (t .negated))) h))
-      (images-leaf (steady-give (s .row)) (x .asks .memo)
-      (builds-done (x .going) (record { value = refl; state = refl; ready = x .asks .ready; below = x .inner; grew = omega arith })))
+      let a = x .asks in
+      record {
+        conditions =
+            conditions-as (rw (eq-eqb (s .row) (falsity (side (t .negated))) h))
+            (conditions-leaf (steady-give (s .row)) (a .noted) (a .memo) (a .effect-memo)
+            (builds-done (x .going) (record { value = refl; state = refl; ready = a .ready; below = x .inner; grew = omega arith })));
+        stays = stays-refl frame notes (frame .effects);
+      }
 
-  module _ (h : s .row ≡ falsity (side (t .negated)) → ⊥) {after : Store} {s2 : List ℕ} {f : Step} (y : Images (image-at frame formulas (side (t .negated)) a) frame formulas (size-of s) before after scratch s2 f) where
-    joins :
-        guarded (frame .variables) (side (t .negated)) (tree frame formulas a) (s .row)
-        ≡ bind (image-at frame formulas (side (t .negated)) a) (λ z. join (side (t .negated)) z (s .row))
-    unfolding guarded image-at
-    joins = rw (ne-eqb (s .row) (falsity (side (t .negated))) h)
+  -- with the words w
+  module _ (w : Words) (q : row-of w ≡ row-at effects e) where
+    pub under-image-asks : AsksImage frame formulas (size-of s) before scratch (w .a)
+    under-image-asks =
+        let a = x .asks in
+        let low = under-lower frame formulas effects scratch (a .effect-source) e (a .effect) (x .under) in
+        record { source = a .source; ready = a .ready; memo = a .memo; formula = omega (arith, ap (λ (r : Row). r .a) q, low .0) }
 
-    pub under-full : f .full ≡ true → Images (guarded (frame .variables) (side (t .negated)) (tree frame formulas a) (s .row)) frame formulas (size-of s) before after scratch s2 f
-    under-full k =
-        images-as joins
-        (images-stop (λ z. join (side (t .negated)) z (s .row)) (λ z. steady-join (side (t .negated)) z (s .row)) y k)
+    module _ (h : s .row ≡ falsity (side (t .negated)) → ⊥) {after : Store} {s2 : List ℕ} {f : Step} (y : Images (image-at frame formulas (side (t .negated)) (w .a)) frame formulas (size-of s) before after scratch s2 f) where
+      joins : over ≡ bind (image-at frame formulas (side (t .negated)) (w .a)) (λ z. join (side (t .negated)) z (s .row))
+      unfolding guarded image-at
+      joins = rw (ne-eqb (s .row) (falsity (side (t .negated))) h, ← q)
 
-    module _ (k : f .full ≡ false) where
-      pub under-join-asks : JoinReady frame (size-of f) (after .table) (f .row) (s .row)
-      under-join-asks =
-          let m = y .builds .done k in
-          record { rows = m .ready .rows; two = m .ready .two; left = m .below; right = omega (arith, x .inner, m .grew) }
+      image : Conditions (image-at frame formulas (side (t .negated)) (w .a)) frame formulas effects notes t e (size-of s) before after scratch s2 f
+      image =
+          conditions-of-images (steady-image-at frame formulas (side (t .negated)) (w .a)) (x .asks .noted) (x .asks .effect-memo) y
 
-      pub under-done :
-          {last : Store} {z : Step}
-          → Builds (join (side (t .negated)) (f .row) (s .row)) frame (size-of f) after last z
-          → Images (guarded (frame .variables) (side (t .negated)) (tree frame formulas a) (s .row)) frame formulas (size-of s) before last scratch s2 z
-      under-done b =
-          images-as joins
-          (images-bind (λ z. join (side (t .negated)) z (s .row)) y k
-          (images-leaf (steady-join (side (t .negated)) (f .row) (s .row)) (y .memo k) b))
+      pub under-full :
+          f .full ≡ true → Climbs over frame formulas effects notes notes t e (frame .effects) (size-of s) before after scratch s2 f
+      under-full k =
+          record {
+            conditions =
+                conditions-as joins
+                (conditions-stop (λ z. join (side (t .negated)) z (s .row)) (λ z. steady-join (side (t .negated)) z (s .row)) image k);
+            stays = stays-refl frame notes (frame .effects);
+          }
 
--- The right effect d, with the condition s of the left one.
-module _ {frame : Frame} {formulas effects notes : List ℕ} {t : Target} {s : Step} {before : Store} {scratch : List ℕ} {d n : ℕ} (x : AsksRight frame formulas effects notes t s before scratch d n) where
+      module _ (k : f .full ≡ false) where
+        pub under-join-asks : AsksJoin frame notes e (size-of f) (after .table) (f .row) (s .row)
+        under-join-asks =
+            let m = y .builds .done k in
+            record {
+              looks = looks (x .asks) refl;
+              originals = after .originals;
+              ready = m .ready;
+              left = m .below;
+              right = omega (arith, x .inner, m .grew);
+            }
+
+        pub under-done :
+            {notes' : List ℕ} {last : Store} {z : Step}
+            → Joined frame notes notes' t e (t .negated) (size-of f) (f .row) (s .row) after last z
+            → Climbs over frame formulas effects notes notes' t e (frame .effects) (size-of s) before last scratch s2 z
+        under-done j =
+            let flag : t .negated ≡ false → eqb (row-at effects e .kind) 3 ≡ t .negated =
+            λ p. ne-eqb (row-at effects e .kind) 3 (λ z. omega (arith, z, x .under)) ∙ sym p in
+            record {
+              conditions =
+                  conditions-as joins
+                  (conditions-bind (λ z. join (side (t .negated)) z (s .row)) image k
+                  (conditions-joined (record { ready = y .builds .done k .ready; noted = image .noted k; flag = flag }) (image .memo k)
+                  (image .effect-memo k) j));
+              stays = j .stays;
+            }
+
+-- The right effect d of row e, with the condition s of the left one.
+module _ {frame : Frame} {formulas effects notes : List ℕ} {t : Target} {s : Step} {before : Store} {scratch : List ℕ} {e d n : ℕ} (x : AsksRight frame formulas effects notes t s before scratch e d n) where
   pub right-in-set : InSet frame (t .variable) d
   right-in-set =
       let a = x .asks in
@@ -175,31 +215,41 @@ module _ {frame : Frame} {formulas effects notes : List ℕ} {t : Target} {s : S
         stays = stays-refl frame notes n;
       }
 
+  join-looks : {notes' : List ℕ} → length notes' ≡ length notes → Looks frame notes' e
+  join-looks {notes'} long =
+      let k = looks {notes' = notes'} (x .asks) long in
+      record { words = k .words; limit = k .limit; variables = k .variables; effect = x .effect }
+
+  join-flag : t .negated ≡ false → eqb (row-at effects e .kind) 3 ≡ not (t .negated)
+  join-flag p = eq-eqb (row-at effects e .kind) 3 (x .both) ∙ ap (λ b. not b) (sym p)
+
   -- it is known
   module _ {w : ℕ} (k : Known (condition-at frame formulas effects t d) (held (size-of s) before) w) where
-    pub known-join-asks : JoinReady frame (size-of s) (before .table) (s .row) w
+    pub known-join-asks : AsksJoin frame notes e (size-of s) (before .table) (s .row) w
     unfolding held
     known-join-asks =
         let b : w < length (upto (s .rows) (row-at (before .table))) = k .below in
         record {
-          rows = x .asks .ready .rows;
-          two = x .asks .ready .two;
+          looks = join-looks refl;
+          originals = before .originals;
+          ready = x .asks .ready;
           left = x .left;
           right = rw (length-upto (s .rows) (row-at (before .table))) at b;
         }
 
     pub right-known :
-        {last : Store} {z : Step}
-        → Builds (join (side (not (t .negated))) (s .row) w) frame (size-of s) before last z
-        → Climbs (right-of frame formulas effects t d (s .row)) frame formulas effects notes notes t d n (size-of s) before last scratch scratch z
+        {notes' : List ℕ} {last : Store} {z : Step}
+        → Joined frame notes notes' t e (not (t .negated)) (size-of s) (s .row) w before last z
+        → Climbs (right-of frame formulas effects t d (s .row)) frame formulas effects notes notes' t d n (size-of s) before last scratch scratch z
     unfolding right-of
-    right-known b =
+    right-known j =
+        let a = x .asks in
         record {
           conditions =
               conditions-bind (λ r. join (side (not (t .negated))) (s .row) r)
-              (conditions-known frame formulas effects t (size-of s) before scratch d w (x .asks) k) refl
-              (conditions-leaf (steady-join (side (not (t .negated))) (s .row) w) (x .asks .noted) (x .asks .memo) (x .asks .effect-memo) b);
-          stays = stays-refl frame notes n;
+              (conditions-known frame formulas effects t (size-of s) before scratch d w a k) refl
+              (conditions-joined (record { ready = a .ready; noted = a .noted; flag = join-flag }) (a .memo) (a .effect-memo) j);
+          stays = stays-fewer frame (omega (arith, x .room)) (j .stays);
         }
 
   -- it is built
@@ -217,23 +267,30 @@ module _ {frame : Frame} {formulas effects notes : List ℕ} {t : Target} {s : S
         }
 
     module _ (g : r .full ≡ false) where
-      pub right-join-asks : JoinReady frame (size-of r) (after .table) (s .row) (r .row)
+      pub right-join-asks : AsksJoin frame notes' e (size-of r) (after .table) (s .row) (r .row)
       right-join-asks =
           let m = y .conditions .builds .done g in
-          record { rows = m .ready .rows; two = m .ready .two; left = omega (arith, x .left, m .grew); right = m .below }
+          record {
+            looks = join-looks (y .stays .long);
+            originals = after .originals;
+            ready = m .ready;
+            left = omega (arith, x .left, m .grew);
+            right = m .below;
+          }
 
       pub right-done :
-          {last : Store} {z : Step}
-          → Builds (join (side (not (t .negated))) (s .row) (r .row)) frame (size-of r) after last z
-          → Climbs (right-of frame formulas effects t d (s .row)) frame formulas effects notes notes' t d n (size-of s) before last scratch s2 z
+          {notes'' : List ℕ} {last : Store} {z : Step}
+          → Joined frame notes' notes'' t e (not (t .negated)) (size-of r) (s .row) (r .row) after last z
+          → Climbs (right-of frame formulas effects t d (s .row)) frame formulas effects notes notes'' t d n (size-of s) before last scratch s2 z
       unfolding right-of
-      right-done b =
+      right-done j =
           let c = y .conditions in
           record {
             conditions =
                 conditions-bind (λ r. join (side (not (t .negated))) (s .row) r) c g
-                (conditions-leaf (steady-join (side (not (t .negated))) (s .row) (r .row)) (c .noted g) (c .memo g) (c .effect-memo g) b);
-            stays = y .stays;
+                (conditions-joined (record { ready = c .builds .done g .ready; noted = c .noted g; flag = join-flag }) (c .memo g)
+                (c .effect-memo g) j);
+            stays = stays-trans frame (y .stays) (stays-fewer frame (omega (arith, x .room)) (j .stays));
           }
 
 pub steady-onward :
@@ -279,7 +336,7 @@ module _ {frame : Frame} {formulas effects notes : List ℕ} {t : Target} {s : S
           omega
           (arith, ap (λ (r : Row). r .b) q, both-lower frame formulas effects scratch (x .below .asks .effect-source) e (x .below .asks .effect) (sym kind-read ∙ three) .1)
 
-      pub right-asks : AsksRight frame formulas effects notes t s before scratch (w .b) n
+      pub right-asks : AsksRight frame formulas effects notes t s before scratch e (w .b) n
       right-asks =
           let a = x .below .asks in
           record {
@@ -294,6 +351,8 @@ module _ {frame : Frame} {formulas effects notes : List ℕ} {t : Target} {s : S
                   variable = a .variable;
                   effect = omega (arith, a .effect, right-lower);
                 };
+            effect = a .effect;
+            both = sym kind-read ∙ three;
             left = spine-within;
             going = x .going;
             room = omega (arith, x .below .room, right-lower);
@@ -315,38 +374,25 @@ module _ {frame : Frame} {formulas effects notes : List ℕ} {t : Target} {s : S
           }
 
     module _ (other : w .kind ≡ 3 → ⊥) where
-      pub under-asks : AsksUnder frame formulas s before scratch (w .a)
+      pub under-asks : AsksUnder frame formulas effects notes t s before scratch e
       under-asks =
           let a = x .below .asks in
-          let four = under-else frame formulas effects scratch (a .effect-source) e (a .effect) (x .below .composed) (λ k. other (kind-read ∙ k)) in
           record {
-            asks =
-                record {
-                  source = a .source;
-                  ready = a .ready;
-                  memo = a .memo;
-                  formula =
-                      omega
-                      (arith, ap (λ (r : Row). r .a) q, under-lower frame formulas effects scratch (a .effect-source) e (a .effect) four .0);
-                };
+            asks = a;
+            under = under-else frame formulas effects scratch (a .effect-source) e (a .effect) (x .below .composed) (λ k. other (kind-read ∙ k));
             inner = spine-within;
             going = x .going;
           }
 
       pub climbs-under :
-          {after : Store} {s2 : List ℕ} {r : Step}
-          → Images (guarded (frame .variables) (side (t .negated)) (tree frame formulas (w .a)) (s .row)) frame formulas (size-of s) before after scratch s2 r
-          → Climbs (onward frame formulas effects t right e (s .row)) frame formulas effects notes notes t e n (size-of s) before after scratch s2 r
+          {notes' : List ℕ} {after : Store} {s2 : List ℕ} {r : Step}
+          → Climbs (guarded (frame .variables) (side (t .negated)) (tree frame formulas (row-at effects e .a)) (s .row)) frame formulas effects notes notes' t e (frame .effects) (size-of s) before after scratch s2 r
+          → Climbs (onward frame formulas effects t right e (s .row)) frame formulas effects notes notes' t e n (size-of s) before after scratch s2 r
       unfolding onward
       climbs-under y =
           record {
-            conditions =
-                conditions-as
-                (rw (left, ne-eqb (row-at effects e .kind) 3 (λ k. other (kind-read ∙ k)))
-                (ap (λ (r : Row). guarded (frame .variables) (side (t .negated)) (tree frame formulas (r .a)) (s .row)) (sym q)))
-                (conditions-of-images (steady-guarded (frame .variables) (side (t .negated)) (tree frame formulas (w .a)) (s .row))
-                (x .below .asks .noted) (x .below .asks .effect-memo) y);
-            stays = stays-refl frame notes n;
+            conditions = conditions-as (rw (left, ne-eqb (row-at effects e .kind) 3 (λ k. other (kind-read ∙ k)))) (y .conditions);
+            stays = stays-fewer frame (omega (arith, x .below .room)) (y .stays);
           }
 
   -- what is left is built: row e's condition is known

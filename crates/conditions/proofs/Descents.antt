@@ -1,5 +1,5 @@
 -- The path while it goes down: each turn writes an entry, and the notes stay right. Assumes nothing.
-use Prim.Native.Nat.{ℕ, _+_, _-_, _*_, _≤_, _<_}
+use Prim.Native.Nat.{ℕ, _+_, _-_, _≤_, _<_}
 use native.Mathlib.Omega.{arith}
 use native.Mathlib.Decide.{ℕ-discrete}
 use mathlib.Core.Path.{_≡_, refl, sym, ap, _∙_}
@@ -16,10 +16,10 @@ use Rattle.formula_builder.specs.Held.{row-of}
 use Rattle.atom_sets.specs.Sets.{sets-end, lacks, InSet}
 use Rattle.atom_sets.proofs.Places.{sets-behind}
 use Rattle.conditions.specs.declared.Target.{Target}
-use Rattle.conditions.specs.Conditions.{AtomSets, column, kept-place, Noted, path-at}
+use Rattle.conditions.specs.Conditions.{AtomSets, Noted, path-at}
 use Rattle.conditions.specs.Paths.{spine, entry-row, entry-right, Skips, AsksSeen, Sees, Follows, AsksTurn, AsksDescent, Descending, Descended}
 use Rattle.conditions.proofs.Rows.{both-lower, spine-lower}
-use Rattle.conditions.proofs.Notes.{sets-stay, stays-refl}
+use Rattle.conditions.proofs.Notes.{sets-stay, columns-stay, kept-stay, joins-stay, stays-refl}
 
 -- the spine by a row's words
 pub spine-right : (effects : List ℕ) (e : ℕ) (w : Words) (right : Bool) → row-of w ≡ row-at effects e → right ≡ true → w .b ≡ spine effects right e
@@ -93,44 +93,28 @@ pub path-read :
 unfolding path-at
 path-read frame notes base d q = ap (λ b. getD notes (b + d) 0) q
 
--- a column is read from its word alone
-column-same : (notes : List ℕ) (j x d : ℕ) → getD (set notes j x) d 0 ≡ getD notes d 0 → column (set notes j x) d ≡ column notes d
-unfolding column
-column-same notes j x d q = q
-
--- a word among the last ones is of no set and no column, and nothing is kept there
+-- a word among the last ones is of no set, no column and no join, and nothing is kept there
 module _ (frame : Frame) (notes : List ℕ) (j x : ℕ) (far : length notes ≤ j + frame .effects) (words : sets-end frame + frame .effects ≤ length notes) where
-  earlier : (k : ℕ) → k < sets-end frame → getD (set notes j x) k 0 ≡ getD notes k 0
-  earlier k g = getD-set-other notes j k x 0 (λ q. omega (arith, far, q, g, words))
+  earlier : (k : ℕ) → k + frame .effects < length notes → getD (set notes j x) k 0 ≡ getD notes k 0
+  earlier k g = getD-set-other notes j k x 0 (λ q. omega (arith, far, q, g))
 
-  same-column : (d : ℕ) → d < frame .effects → column (set notes j x) d ≡ column notes d
-  same-column d g = column-same notes j x d (earlier d (omega (arith, sets-behind frame)))
+  before-sets : (k : ℕ) → k < sets-end frame → getD (set notes j x) k 0 ≡ getD notes k 0
+  before-sets k g = earlier k (omega (arith, words))
 
   sets-path : {effects : List ℕ} → AtomSets frame effects notes → AtomSets frame effects (set notes j x)
-  sets-path n = sets-stay (length-set notes j x) (λ k g h. earlier k h) n
+  sets-path n = sets-stay (length-set notes j x) (λ k g h. before-sets k h) n
 
   noted-path :
       {formulas effects : List ℕ} {s : St}
       → Noted frame formulas effects notes s
       → Noted frame formulas effects (set notes j x) s
   noted-path n =
+      let low : (d : ℕ) → d < frame .effects → getD (set notes j x) d 0 ≡ getD notes d 0 = λ d g. before-sets d (omega (arith, sets-behind frame)) in
       record {
         sets = sets-path (n .sets);
-        columns =
-            record {
-              words = rw (length-set notes j x) (n .columns .words);
-              apart = λ d f g i c q.
-                  n .columns .apart d f g i (rw (same-column f i) at c) (sym (same-column d g) ∙ q ∙ same-column f i);
-            };
-        kept =
-            record {
-              known = λ u d y g v m c i w.
-                  let within : kept-place frame (column notes d) u + frame .effects < length notes =
-                  rw (same-column d g, length-set notes j x) at i in
-                  n .kept .known u d y g v m (rw (same-column d g) at c) within
-                  (sym (getD-set-other notes j (kept-place frame (column notes d) u) x 0 (λ q. omega (arith, q, within, far)))
-                  ∙ rw (same-column d g) at w);
-            };
+        columns = columns-stay (length-set notes j x) low (n .columns);
+        kept = kept-stay (length-set notes j x) low (λ k g h. earlier k h) (n .kept);
+        joins = joins-stay (λ k g h. before-sets k (omega (arith, sets-behind frame))) (n .joins);
       }
 
 -- Entry depth gets the word w.

@@ -3,6 +3,7 @@ pub mod Rows
 pub mod Alone
 pub mod Notes
 pub mod Memos
+pub mod Joins
 pub mod Cases
 pub mod Descents
 pub mod Ascents

@@ -8,9 +8,12 @@ use mathlib.Core.Bool.{Bool, true, false, cond}
 use mathlib.Core.List.{List}
 use lib.ListN.{length, getD, set, length-set}
 use lib.Seq.{getD-set-same, getD-set-other}
+use lib.Dec.{eqb}
 use mir.Val.{boolByte}
+use Rattle.task.specs.Table.{row-at}
 use Rattle.normal_form.specs.Builder.{St, Build}
 use Rattle.normal_form.specs.Growth.{Grows, Steady}
+use Rattle.normal_form.proofs.Growth.{steady-join}
 use Rattle.normal_form.proofs.Steady.{steady-condition}
 use Rattle.formula_builder.specs.declared.Frame.{Frame}
 use Rattle.formula_builder.specs.declared.Size.{Size}
@@ -18,10 +21,10 @@ use Rattle.formula_builder.specs.declared.Step.{Step}
 use Rattle.formula_builder.specs.Held.{Store, side, Builds}
 use Rattle.images.specs.Images.{Known, noted}
 use Rattle.images.proofs.Memos.{known-grows}
-use Rattle.atom_sets.specs.Sets.{sets-end, lacks}
+use Rattle.atom_sets.specs.Sets.{sets-end}
 use Rattle.atom_sets.proofs.Places.{sets-behind, lacks-same}
 use Rattle.conditions.specs.declared.Target.{Target}
-use Rattle.conditions.specs.Conditions.{atom-of, effect-tree, condition-at, AtomSets, column, kept-place, Columns, Noted, Looks, KeptAt, Recalls, path-at, PathStays, Keeps, Asks}
+use Rattle.conditions.specs.Conditions.{atom-of, effect-tree, condition-at, AtomSets, column, kept-place, Columns, Kept, join-place, Joins, Noted, Looks, KeptAt, Recalls, path-at, PathStays, Keeps, Asks}
 
 pub steady-condition-at :
     (frame : Frame) (formulas effects : List ℕ) (t : Target) (e : ℕ) → Steady (condition-at frame formulas effects t e)
@@ -34,13 +37,20 @@ pub noted-grows :
     → Grows s s'
     → Noted frame formulas effects notes s
     → Noted frame formulas effects notes s'
-noted-grows {frame} {formulas} {effects} g n =
+noted-grows {frame} {formulas} {effects} {notes} g n =
     record {
       sets = n .sets;
       columns = n .columns;
       kept =
           record {
             known = λ t e r h v p c i w. known-grows (steady-condition-at frame formulas effects t e) g (n .kept .known t e r h v p c i w);
+          };
+      joins =
+          record {
+            known = λ e r h w.
+                known-grows
+                (steady-join (side (eqb (row-at effects e .kind) 3)) (getD notes (join-place frame e) 0) (getD notes (join-place frame e + 1) 0))
+                g (n .joins .known e r h w);
           };
     }
 
@@ -58,18 +68,68 @@ sets-stay {frame} {effects} {notes} {notes'} long same x =
           x .alone formulas clear v e h g (sym (lacks-same frame notes notes' clear v e h g same) ∙ q);
     }
 
+-- the columns stay while their words stay
+pub columns-stay :
+    {frame : Frame} {notes notes' : List ℕ}
+    → length notes' ≡ length notes
+    → ((d : ℕ) → d < frame .effects → getD notes' d 0 ≡ getD notes d 0)
+    → Columns frame notes
+    → Columns frame notes'
+unfolding column
+columns-stay long same x =
+    record {
+      words = rw long (x .words);
+      apart = λ d e g h c q. x .apart d e g h (rw (same e h) at c) (sym (same d g) ∙ q ∙ same e h);
+    }
+
 behind : (a b : ℕ) → a ≤ a + b
 behind a b = omega arith
+
+place-behind : (frame : Frame) (c : ℕ) (t : Target) → sets-end frame ≤ kept-place frame c t
+unfolding kept-place
+place-behind frame c t = behind (sets-end frame) (c * (2 * frame .variables) + (2 * t .variable + cond (t .clear) 1 0))
+
+-- the conditions that are kept stay right while their words and the columns stay
+pub kept-stay :
+    {frame : Frame} {formulas effects notes notes' : List ℕ} {s : St}
+    → length notes' ≡ length notes
+    → ((d : ℕ) → d < frame .effects → getD notes' d 0 ≡ getD notes d 0)
+    → ((j : ℕ) → sets-end frame ≤ j → j + frame .effects < length notes → getD notes' j 0 ≡ getD notes j 0)
+    → Kept frame formulas effects notes s
+    → Kept frame formulas effects notes' s
+unfolding column
+kept-stay {frame} {notes = notes} {notes' = notes'} long low same x =
+    record {
+      known = λ t e r h v p c i w.
+          let k = kept-place frame (column notes e) t in
+          let within : k + frame .effects < length notes = rw (low e h, long) at i in
+          let there : getD notes' k 0 ≡ r + 1 = rw (low e h) at w in
+          x .known t e r h v p (rw (low e h) at c) within (sym (same k (place-behind frame (column notes e) t) within) ∙ there);
+    }
+
+-- the last joins stay right while their words stay
+pub joins-stay :
+    {frame : Frame} {effects notes notes' : List ℕ} {s : St}
+    → ((j : ℕ) → frame .effects ≤ j → j < 4 * frame .effects → getD notes' j 0 ≡ getD notes j 0)
+    → Joins frame effects notes s
+    → Joins frame effects notes' s
+joins-stay {frame} same x =
+    record {
+      known = λ e r h w.
+          let k = join-place frame e in
+          rw (same k (omega arith) (omega arith), same (k + 1) (omega arith) (omega arith))
+          (x .known e r h (sym (same (k + 2) (omega arith) (omega arith)) ∙ w));
+    }
 
 -- nothing is kept
 pub noted-blank :
     {frame : Frame} {effects notes : List ℕ} (formulas : List ℕ) (s : St)
     → AtomSets frame effects notes
     → Columns frame notes
+    → ((j : ℕ) → frame .effects ≤ j → j < 4 * frame .effects → getD notes j 0 ≡ 0)
     → ((j : ℕ) → sets-end frame ≤ j → getD notes j 0 ≡ 0)
     → Noted frame formulas effects notes s
-unfolding kept-place
-noted-blank {frame} {effects} {notes} formulas s sets columns blank =
+noted-blank {frame} {effects} {notes} formulas s sets columns free blank =
     record {
       sets = sets;
       columns = columns;
@@ -78,11 +138,12 @@ noted-blank {frame} {effects} {notes} formulas s sets columns blank =
             known = λ t e r h v p c i w.
                 absurd
                 (impossible r
-                (sym
-                (blank
-                (sets-end frame + (column notes e * (2 * frame .variables) + (2 * t .variable + cond (t .clear) 1 0)))
-                (behind (sets-end frame) _))
-                ∙ w));
+                (sym (blank (kept-place frame (column notes e) t) (place-behind frame (column notes e) t)) ∙ w));
+          };
+      joins =
+          record {
+            known = λ e r h w.
+                absurd (impossible r (sym (free (join-place frame e + 2) (omega arith) (omega arith)) ∙ w));
           };
     }
   where
@@ -223,8 +284,7 @@ module _ (frame : Frame) where
 -- The word of target t and row e.
 module _ {frame : Frame} {notes : List ℕ} {t : Target} {e k : ℕ} (h : e < frame .effects) (p : KeptAt frame notes t e k) where
   beyond : sets-end frame ≤ k
-  unfolding kept-place
-  beyond = rw (p .place) (behind (sets-end frame) (column notes e * (2 * frame .variables) + (2 * t .variable + cond (t .clear) 1 0)))
+  beyond = rw (p .place) (place-behind frame (column notes e) t)
 
   -- no set and no column is that word
   earlier : (x j : ℕ) → j < sets-end frame → getD (set notes k x) j 0 ≡ getD notes j 0
@@ -261,13 +321,7 @@ module _ {frame : Frame} {notes : List ℕ} {t : Target} {e k : ℕ} (h : e < fr
     kept-noted =
         record {
           sets = sets-stay (length-set notes k (r + 1)) (λ j g h. earlier (r + 1) j h) (n .sets);
-          columns =
-              record {
-                words = rw (length-set notes k (r + 1)) (n .columns .words);
-                apart = λ d f g i c q.
-                    n .columns .apart d f g i (rw (same-column (r + 1) f i) at c)
-                    (sym (same-column (r + 1) d g) ∙ q ∙ same-column (r + 1) f i);
-              };
+          columns = columns-stay (length-set notes k (r + 1)) (λ d g. earlier (r + 1) d (omega (arith, sets-behind frame))) (n .columns);
           kept =
               record {
                 known = λ u d x g v m c i w.
@@ -275,6 +329,7 @@ module _ {frame : Frame} {notes : List ℕ} {t : Target} {e k : ℕ} (h : e < fr
                     read-back u d x g v m (rw same at c) (rw (same, length-set notes k (r + 1)) at i) (ℕ-discrete (kept-place frame (column notes d) u) k)
                     (rw same at w);
               };
+          joins = joins-stay (λ j g h. earlier (r + 1) j (omega (arith, sets-behind frame))) (n .joins);
         }
 
   pub recall-kept : Recalls frame notes t e (getD notes k 0)

@@ -3,13 +3,14 @@ use Prim.Native.Nat.{ℕ, _+_, _-_, _*_, _≤_, _<_}
 use mathlib.Core.Path.{_≡_}
 use mathlib.Core.Bool.{Bool, true, false, cond}
 use mathlib.Core.List.{List}
+use lib.Dec.{eqb}
 use lib.ListN.{length, getD}
 use Rattle.task.specs.Bounded.{upto}
 use Rattle.task.specs.Table.{Row, row-at, EffectKind, empty-kind, set-kind, clear-kind, both-kind, under-kind, unknown-effect}
 use Rattle.task.specs.Semantics.{Atom, sets, clears, same-atom, Effect}
 use Rattle.task.specs.Tree.{effect-of}
 use Rattle.task.proofs.Trees.{EffectsDown}
-use Rattle.normal_form.specs.Builder.{St, Build, give, falsity}
+use Rattle.normal_form.specs.Builder.{St, Build, give, join, falsity}
 use Rattle.normal_form.specs.Conditions.{condition}
 use Rattle.formula_builder.specs.declared.Frame.{Frame}
 use Rattle.formula_builder.specs.declared.Size.{Size}
@@ -113,11 +114,28 @@ pub record Kept (frame : Frame) (formulas effects notes : List ℕ) (s : St) : T
       → getD notes (kept-place frame (column notes e) t) 0 ≡ r + 1
       → Known (condition-at frame formulas effects t e) s r
 
--- The notes: sets of atoms, columns, and the conditions that are kept.
+-- where the last join of row e is kept: behind the columns, three words for each row
+abbrev pub join-place : Frame → ℕ → ℕ
+join-place frame e = frame .effects + 3 * e
+
+-- the join of row e, for a plain target: "or" where e is both, "and" where it is a formula over an effect
+abbrev pub join-of : List ℕ → ℕ → ℕ → ℕ → Build ℕ
+join-of effects e l r = join (side (eqb (row-at effects e .kind) 3)) l r
+
+-- Behind the two rows that were joined last for row e stands the row that joining them gives now, plus 1; or 0.
+pub record Joins (frame : Frame) (effects notes : List ℕ) (s : St) : Type 0 where
+  pub known :
+      (e r : ℕ)
+      → e < frame .effects
+      → getD notes (join-place frame e + 2) 0 ≡ r + 1
+      → Known (join-of effects e (getD notes (join-place frame e) 0) (getD notes (join-place frame e + 1) 0)) s r
+
+-- The notes: sets of atoms, columns, the conditions that are kept, and the last joins.
 pub record Noted (frame : Frame) (formulas effects notes : List ℕ) (s : St) : Type 0 where
   pub sets : AtomSets frame effects notes
   pub columns : Columns frame notes
   pub kept : Kept frame formulas effects notes s
+  pub joins : Joins frame effects notes s
 
 -- What looking into row e's column asks.
 pub record Looks (frame : Frame) (notes : List ℕ) (e : ℕ) : Type 0 where

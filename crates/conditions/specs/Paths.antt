@@ -12,7 +12,7 @@ use Rattle.formula_builder.specs.declared.Frame.{Frame}
 use Rattle.formula_builder.specs.declared.Size.{Size}
 use Rattle.formula_builder.specs.declared.Step.{Step}
 use Rattle.formula_builder.specs.Held.{Store, held, size-of, side}
-use Rattle.images.specs.Images.{tree, Known, Asks as AsksImage}
+use Rattle.images.specs.Images.{tree, Known}
 use Rattle.conditions.specs.declared.Target.{Target}
 use Rattle.conditions.specs.declared.Bottom.{Bottom}
 use Rattle.conditions.specs.Conditions.{condition-at, EffectSource, AtomSets, Noted, Looks, path-at, PathStays, Asks, Conditions}
@@ -117,16 +117,19 @@ pub record AsksBelow (frame : Frame) (formulas effects notes : List ℕ) (t : Ta
   pub composed : 3 ≤ row-at effects e .kind
   pub room : e + from < frame .effects
 
--- With s built for the left effect: what the right one, d, and the join ask.
-pub record AsksRight (frame : Frame) (formulas effects notes : List ℕ) (t : Target) (s : Step) (before : Store) (scratch : List ℕ) (d from : ℕ) : Type 0 where
+-- Row e is both. With s built for its left effect: what the right one, d, and the join ask.
+pub record AsksRight (frame : Frame) (formulas effects notes : List ℕ) (t : Target) (s : Step) (before : Store) (scratch : List ℕ) (e d from : ℕ) : Type 0 where
   pub asks : Asks frame formulas effects notes t (size-of s) before scratch d
+  pub effect : e < frame .effects
+  pub both : row-at effects e .kind ≡ 3
   pub left : s .row < s .rows
   pub going : s .full ≡ false
   pub room : d + from < frame .effects
 
--- With s built for the inner effect: what formula a over it asks.
-pub record AsksUnder (frame : Frame) (formulas : List ℕ) (s : Step) (before : Store) (scratch : List ℕ) (a : ℕ) : Type 0 where
-  pub asks : AsksImage frame formulas (size-of s) before scratch a
+-- Row e is a formula over an effect. With s built for that: what the formula and the join ask.
+pub record AsksUnder (frame : Frame) (formulas effects notes : List ℕ) (t : Target) (s : Step) (before : Store) (scratch : List ℕ) (e : ℕ) : Type 0 where
+  pub asks : Asks frame formulas effects notes t (size-of s) before scratch e
+  pub under : row-at effects e .kind ≡ 4
   pub inner : s .row < s .rows
   pub going : s .full ≡ false
 

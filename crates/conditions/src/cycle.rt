@@ -1,6 +1,7 @@
 // The condition of an effect: the builder goes down the spine of a row and up again, and recurses to the right effect of "both", which is
 // a lower row. Each row is built at most once for a target.
 use crate::Target;
+use crate::joined::joined;
 use crate::kept::keep;
 use crate::path::descend;
 use crate::seen::seen;
@@ -9,7 +10,6 @@ use atom_sets::lacks;
 use formula_builder::Frame;
 use formula_builder::Size;
 use formula_builder::Step;
-use formula_builder::join;
 use formula_builder::read_row;
 use formula_builder::standing;
 use images::note;
@@ -165,6 +165,7 @@ fn above(
             effects,
             notes,
             d,
+            e,
             from,
             t,
             frame,
@@ -176,7 +177,9 @@ fn above(
     }
     under(
         formulas,
-        w.a as usize,
+        effects,
+        notes,
+        e,
         t,
         frame,
         s,
@@ -186,13 +189,14 @@ fn above(
     )
 }
 
-// The condition of the right effect d, then the join with that of the left one, s. Nothing is built if d lacks the atom, and nothing is called
+// The condition of row e's right effect d, then the join with that of the left one, s. Nothing is built if d lacks the atom, and nothing is called
 // for d if its condition is known.
 fn both(
     formulas: &[u16],
     effects: &[u16],
     notes: &mut [u16],
     d: usize,
+    e: usize,
     from: usize,
     t: Target,
     frame: Frame,
@@ -201,7 +205,7 @@ fn both(
     originals: &mut [u16],
     scratch: &mut [u16],
 ) -> Step
-    requires { ⌜ AsksRight frame (now formulas) (now effects) (now notes) t s (store (now table) (now originals)) (now scratch) d from ⌝ }
+    requires { ⌜ AsksRight frame (now formulas) (now effects) (now notes) t s (store (now table) (now originals)) (now scratch) e d from ⌝ }
     ensures { λ r. ⌜ Climbs (right-of frame (now (formulas .entry)) (now (effects .entry)) t d (s .row)) frame (now (formulas .entry)) (now (effects .entry)) (now (notes .entry)) (now (notes .exit)) t d from (size-of s) (store (now (table .entry)) (now (originals .entry))) (store (now (table .exit)) (now (originals .exit))) (now (scratch .entry)) (now (scratch .exit)) r ⌝ }
 {
     if lacks(notes, frame, t.clear, t.variable as usize, d) {
@@ -213,7 +217,7 @@ fn both(
     };
     let known = seen(effects, notes, scratch, frame, t, d);
     if 0 < known {
-        return join(table, frame, at, !t.negated, s.row, known - 1);
+        return joined(notes, e, t, !t.negated, frame, at, s.row, known - 1, table);
     }
     let r = below(
         formulas,
@@ -235,5 +239,5 @@ fn both(
         rows: r.rows,
         twins: r.twins,
     };
-    join(table, frame, mid, !t.negated, s.row, r.row)
+    joined(notes, e, t, !t.negated, frame, mid, s.row, r.row, table)
 }

@@ -1,20 +1,24 @@
 // A formula over an effect's condition.
 use crate::Target;
+use crate::joined::joined;
 use formula_builder::Frame;
 use formula_builder::Size;
 use formula_builder::Step;
 use formula_builder::falsity;
-use formula_builder::join;
+use formula_builder::read_row;
 use images::sided;
+ghost use Rattle.task.specs.Table.{row-at};
 ghost use Rattle.normal_form.specs.Conditions.{guarded};
 ghost use Rattle.formula_builder.specs.Held.{store, side, size-of};
-ghost use Rattle.images.specs.Images.{tree, Images};
-ghost use Rattle.conditions.specs.Paths.{AsksUnder};
+ghost use Rattle.images.specs.Images.{tree};
+ghost use Rattle.conditions.specs.Paths.{AsksUnder, Climbs};
 
-// Formula a over the condition s of the inner effect: built only if that did not fold away. Costs what the image does.
+// Row e's formula over the condition s of the inner effect: built only if that did not fold away. Costs what the image does.
 pub fn under(
     formulas: &[u16],
-    a: usize,
+    effects: &[u16],
+    notes: &mut [u16],
+    e: usize,
     t: Target,
     frame: Frame,
     s: Step,
@@ -22,8 +26,8 @@ pub fn under(
     originals: &mut [u16],
     scratch: &mut [u16],
 ) -> Step
-    requires { ⌜ AsksUnder frame (now formulas) s (store (now table) (now originals)) (now scratch) a ⌝ }
-    ensures { λ r. ⌜ Images (guarded (frame .variables) (side (t .negated)) (tree frame (now (formulas .entry)) a) (s .row)) frame (now (formulas .entry)) (size-of s) (store (now (table .entry)) (now (originals .entry))) (store (now (table .exit)) (now (originals .exit))) (now (scratch .entry)) (now (scratch .exit)) r ⌝ }
+    requires { ⌜ AsksUnder frame (now formulas) (now effects) (now notes) t s (store (now table) (now originals)) (now scratch) e ⌝ }
+    ensures { λ r. ⌜ Climbs (guarded (frame .variables) (side (t .negated)) (tree frame (now (formulas .entry)) (row-at (now (effects .entry)) e .a)) (s .row)) frame (now (formulas .entry)) (now (effects .entry)) (now (notes .entry)) (now (notes .exit)) t e (frame .effects) (size-of s) (store (now (table .entry)) (now (originals .entry))) (store (now (table .exit)) (now (originals .exit))) (now (scratch .entry)) (now (scratch .exit)) r ⌝ }
 {
     if s.row == falsity(t.negated) {
         return s;
@@ -32,7 +36,17 @@ pub fn under(
         rows: s.rows,
         twins: s.twins,
     };
-    let f = sided(formulas, a, t.negated, frame, at, table, originals, scratch);
+    let w = read_row(effects, e);
+    let f = sided(
+        formulas,
+        w.a as usize,
+        t.negated,
+        frame,
+        at,
+        table,
+        originals,
+        scratch,
+    );
     if f.full {
         return f;
     }
@@ -40,5 +54,5 @@ pub fn under(
         rows: f.rows,
         twins: f.twins,
     };
-    join(table, frame, mid, t.negated, f.row, s.row)
+    joined(notes, e, t, t.negated, frame, mid, f.row, s.row, table)
 }

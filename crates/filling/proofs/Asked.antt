@@ -201,8 +201,8 @@ module _ {l : Lent} {rows twins effects : ℕ} {x : Tables} {notes built records
           noted = λ t.
               noted-blank (l .formulas) t
               (sets-kept kept (c .elsewhere) (sets-right its-frame (l .effects) (x .scratch) named rules (s .sets))) (c .columns)
-              (λ j h.
-              c .elsewhere .behind j (omega (arith, h, sets-behind its-frame)) ∙ s .behind j h ∙ o .blank-notes j);
+              (λ j g h. c .elsewhere .behind j g ∙ s .ahead j h ∙ o .blank-notes j)
+              (λ j h. c .elsewhere .behind j (omega (arith, h, sets-behind its-frame)) ∙ s .behind j h ∙ o .blank-notes j);
           fresh = o .fresh;
           space = o .space;
         }

@@ -18,7 +18,7 @@ use Rattle.conditions.proofs.path.descend.Reads as descend-reads
 use Rattle.conditions.proofs.seen.seen.Reads as seen-reads
 use Rattle.conditions.proofs.under.under.Reads as under-reads
 use Rattle.atom_sets.proofs.lacks.Reads as lacks-reads
-use Rattle.formula_builder.proofs.join.Reads as join-reads
+use Rattle.conditions.proofs.joined.joined.Reads as joined-reads
 use Rattle.formula_builder.proofs.standing.Reads as standing-reads
 use Rattle.formula_builder.proofs.read_row.Reads as read-row-reads
 use Rattle.images.proofs.note.Reads as note-reads
@@ -100,9 +100,6 @@ above-same-length-4 t c = search needs
 above-returns-2 : (t : ℕ) → above-lts.Need-returns-2 (read-row-reads.Asked, read-row-reads.Learnt, both-below t, both.Post, under-reads.Asked, under-reads.Learnt) (above-at t) above.Post
 above-returns-2 t c = climbs-both (c .before .before .before .before .before .before .before .before .before .before .before .before .before .before .before .before .before .before .before .before .before .before .before .before .pre .1) (c .before .before .before .before .before .before .before .before .before .before .before .before .before .before .before .before .before .if1 .left) (c .before .before .before .before .before .before .before .before .before .before .before .before .before .before .before .before .read-row .result) (c .before .before .before .before .before .before .before .before .before .before .before .before .before .before .before .before .read-row .ensures) (c .before .before .before .before .before .before .before .before .before .before .before .before .before .before .if2 .taken) (c .before .before .before .before .before .before .before .before .both .ensures)
 
-above-cast-under : (t : ℕ) → above-lts.Need-cast-under (read-row-reads.Asked, read-row-reads.Learnt, both-below t, both.Post, under-reads.Asked, under-reads.Learnt) (above-at t) above.Post
-above-cast-under t c = search needs
-
 above-under-requires : (t : ℕ) → above-lts.Need-under-requires (read-row-reads.Asked, read-row-reads.Learnt, both-below t, both.Post, under-reads.Asked, under-reads.Learnt) (above-at t) above.Post
 above-under-requires t c κs = under-asks (c .before .before .before .before .before .before .before .before .before .before .before .before .before .before .pre .1) (c .before .before .before .before .before .before .before .if1 .left) (c .before .before .before .before .before .before .read-row .result) (c .before .before .before .before .before .before .read-row .ensures) (c .before .before .before .before .if2 .left)
 
@@ -115,8 +112,11 @@ above-same-length-6 t c = search needs
 above-same-length-7 : (t : ℕ) → above-lts.Need-same-length-7 (read-row-reads.Asked, read-row-reads.Learnt, both-below t, both.Post, under-reads.Asked, under-reads.Learnt) (above-at t) above.Post
 above-same-length-7 t c = search needs
 
+above-same-length-8 : (t : ℕ) → above-lts.Need-same-length-8 (read-row-reads.Asked, read-row-reads.Learnt, both-below t, both.Post, under-reads.Asked, under-reads.Learnt) (above-at t) above.Post
+above-same-length-8 t c = search needs
+
 above-returns-3 : (t : ℕ) → above-lts.Need-returns-3 (read-row-reads.Asked, read-row-reads.Learnt, both-below t, both.Post, under-reads.Asked, under-reads.Learnt) (above-at t) above.Post
-above-returns-3 t c = climbs-under (c .before .before .before .before .before .before .before .before .before .before .before .before .before .before .before .before .before .before .before .before .before .pre .1) (c .before .before .before .before .before .before .before .before .before .before .before .before .before .before .if1 .left) (c .before .before .before .before .before .before .before .before .before .before .before .before .before .read-row .result) (c .before .before .before .before .before .before .before .before .before .before .before .before .before .read-row .ensures) (c .before .before .before .before .before .before .before .before .before .before .before .if2 .left) (c .before .before .before .before .before .before .under .ensures)
+above-returns-3 t c = climbs-under (c .before .before .before .before .before .before .before .before .before .before .before .before .before .before .before .before .before .before .before .before .before .before .before .pre .1) (c .before .before .before .before .before .before .before .before .before .before .before .before .before .before .before .before .if1 .left) (c .before .before .before .before .before .before .before .before .before .before .before .before .before .before .before .read-row .result) (c .before .before .before .before .before .before .before .before .before .before .before .before .before .before .before .read-row .ensures) (c .before .before .before .before .before .before .before .before .before .before .before .before .before .if2 .left) (c .before .before .before .before .before .before .before .before .under .ensures)
 
 abbrev below-Inv-loop : below-lts.InvT-loop
 below-Inv-loop formulas effects notes₀ e from t frame table₀ originals₀ scratch₀ base depth₀ s₀ notes table originals scratch depth s =
@@ -194,74 +194,74 @@ below-same-length-8 t c = c .before .loop .inv .3
 below-returns-2 : (t : ℕ) → below-lts.Need-returns-2 (descend-reads.Asked, descend-reads.Learnt, standing-reads.Asked, standing-reads.Learnt, raise-below t, raise.Post) (below-at t) below.Post below-Inv-loop below-μ-loop
 below-returns-2 t c = rising-all (c .before .before .before .before .before .before .before .before .before .before .before .before .before .before .before .before .pre .1) (c .before .before .before .before .before .before .before .descend .ensures .descending .stays) (rw (c .before .before .standing .ensures) at (c .before .loop .inv .4)) (omega (arith, c .loop-test .left))
 
-both-cast-lacks : (t : ℕ) → both-lts.Need-cast-lacks (lacks-reads.Asked, lacks-reads.Learnt, seen-reads.Asked, seen-reads.Learnt, join-reads.Asked, join-reads.Learnt, below-below t, below.Post) (both-at t) both.Post
+both-cast-lacks : (t : ℕ) → both-lts.Need-cast-lacks (lacks-reads.Asked, lacks-reads.Learnt, seen-reads.Asked, seen-reads.Learnt, joined-reads.Asked, joined-reads.Learnt, below-below t, below.Post) (both-at t) both.Post
 both-cast-lacks t c = search needs
 
-both-lacks-requires : (t : ℕ) → both-lts.Need-lacks-requires (lacks-reads.Asked, lacks-reads.Learnt, seen-reads.Asked, seen-reads.Learnt, join-reads.Asked, join-reads.Learnt, below-below t, below.Post) (both-at t) both.Post
+both-lacks-requires : (t : ℕ) → both-lts.Need-lacks-requires (lacks-reads.Asked, lacks-reads.Learnt, seen-reads.Asked, seen-reads.Learnt, joined-reads.Asked, joined-reads.Learnt, below-below t, below.Post) (both-at t) both.Post
 both-lacks-requires t c κs = (right-in-set (c .before .before .before .before .before .before .before .before .pre .1), c .before .before .before .before .before .before .before .before .pre .1 .asks .noted .sets .words)
 
-both-same-length : (t : ℕ) → both-lts.Need-same-length (lacks-reads.Asked, lacks-reads.Learnt, seen-reads.Asked, seen-reads.Learnt, join-reads.Asked, join-reads.Learnt, below-below t, below.Post) (both-at t) both.Post
+both-same-length : (t : ℕ) → both-lts.Need-same-length (lacks-reads.Asked, lacks-reads.Learnt, seen-reads.Asked, seen-reads.Learnt, joined-reads.Asked, joined-reads.Learnt, below-below t, below.Post) (both-at t) both.Post
 both-same-length t c = search needs
 
-both-returns : (t : ℕ) → both-lts.Need-returns (lacks-reads.Asked, lacks-reads.Learnt, seen-reads.Asked, seen-reads.Learnt, join-reads.Asked, join-reads.Learnt, below-below t, below.Post) (both-at t) both.Post
+both-returns : (t : ℕ) → both-lts.Need-returns (lacks-reads.Asked, lacks-reads.Learnt, seen-reads.Asked, seen-reads.Learnt, joined-reads.Asked, joined-reads.Learnt, below-below t, below.Post) (both-at t) both.Post
 both-returns t c = right-lacks (c .before .before .before .before .before .before .before .before .before .before .pre .1) (sym (c .if1 .taken) ∙ c .before .lacks .ensures)
 
-both-seen-requires : (t : ℕ) → both-lts.Need-seen-requires (lacks-reads.Asked, lacks-reads.Learnt, seen-reads.Asked, seen-reads.Learnt, join-reads.Asked, join-reads.Learnt, below-below t, below.Post) (both-at t) both.Post
+both-seen-requires : (t : ℕ) → both-lts.Need-seen-requires (lacks-reads.Asked, lacks-reads.Learnt, seen-reads.Asked, seen-reads.Learnt, joined-reads.Asked, joined-reads.Learnt, below-below t, below.Post) (both-at t) both.Post
 both-seen-requires t c κs = asks-seen (c .before .before .before .before .before .before .before .before .before .before .before .before .pre .1 .asks)
 
-both-sub-join : (t : ℕ) → both-lts.Need-sub-join (lacks-reads.Asked, lacks-reads.Learnt, seen-reads.Asked, seen-reads.Learnt, join-reads.Asked, join-reads.Learnt, below-below t, below.Post) (both-at t) both.Post
-both-sub-join t c = search needs
+both-sub-joined : (t : ℕ) → both-lts.Need-sub-joined (lacks-reads.Asked, lacks-reads.Learnt, seen-reads.Asked, seen-reads.Learnt, joined-reads.Asked, joined-reads.Learnt, below-below t, below.Post) (both-at t) both.Post
+both-sub-joined t c = search needs
 
-both-join-requires : (t : ℕ) → both-lts.Need-join-requires (lacks-reads.Asked, lacks-reads.Learnt, seen-reads.Asked, seen-reads.Learnt, join-reads.Asked, join-reads.Learnt, below-below t, below.Post) (both-at t) both.Post
-both-join-requires t c κs = known-join-asks (c .before .before .before .before .before .before .before .before .before .before .before .before .before .before .before .before .pre .1) (c .before .before .before .seen .ensures .known _ _ _ (c .before .before .before .before .before .before .before .before .before .before .before .before .before .before .before .before .pre .1 .asks) (c .before .before .if2 .taken))
+both-joined-requires : (t : ℕ) → both-lts.Need-joined-requires (lacks-reads.Asked, lacks-reads.Learnt, seen-reads.Asked, seen-reads.Learnt, joined-reads.Asked, joined-reads.Learnt, below-below t, below.Post) (both-at t) both.Post
+both-joined-requires t c κs = known-join-asks (c .before .before .before .before .before .before .before .before .before .before .before .before .before .before .before .before .before .pre .1) (c .before .before .before .before .seen .ensures .known _ _ _ (c .before .before .before .before .before .before .before .before .before .before .before .before .before .before .before .before .before .pre .1 .asks) (c .before .before .before .if2 .taken))
 
-both-same-length-2 : (t : ℕ) → both-lts.Need-same-length-2 (lacks-reads.Asked, lacks-reads.Learnt, seen-reads.Asked, seen-reads.Learnt, join-reads.Asked, join-reads.Learnt, below-below t, below.Post) (both-at t) both.Post
+both-same-length-2 : (t : ℕ) → both-lts.Need-same-length-2 (lacks-reads.Asked, lacks-reads.Learnt, seen-reads.Asked, seen-reads.Learnt, joined-reads.Asked, joined-reads.Learnt, below-below t, below.Post) (both-at t) both.Post
 both-same-length-2 t c = search needs
 
-both-same-length-3 : (t : ℕ) → both-lts.Need-same-length-3 (lacks-reads.Asked, lacks-reads.Learnt, seen-reads.Asked, seen-reads.Learnt, join-reads.Asked, join-reads.Learnt, below-below t, below.Post) (both-at t) both.Post
+both-same-length-3 : (t : ℕ) → both-lts.Need-same-length-3 (lacks-reads.Asked, lacks-reads.Learnt, seen-reads.Asked, seen-reads.Learnt, joined-reads.Asked, joined-reads.Learnt, below-below t, below.Post) (both-at t) both.Post
 both-same-length-3 t c = search needs
 
-both-same-length-4 : (t : ℕ) → both-lts.Need-same-length-4 (lacks-reads.Asked, lacks-reads.Learnt, seen-reads.Asked, seen-reads.Learnt, join-reads.Asked, join-reads.Learnt, below-below t, below.Post) (both-at t) both.Post
+both-same-length-4 : (t : ℕ) → both-lts.Need-same-length-4 (lacks-reads.Asked, lacks-reads.Learnt, seen-reads.Asked, seen-reads.Learnt, joined-reads.Asked, joined-reads.Learnt, below-below t, below.Post) (both-at t) both.Post
 both-same-length-4 t c = search needs
 
-both-returns-2 : (t : ℕ) → both-lts.Need-returns-2 (lacks-reads.Asked, lacks-reads.Learnt, seen-reads.Asked, seen-reads.Learnt, join-reads.Asked, join-reads.Learnt, below-below t, below.Post) (both-at t) both.Post
-both-returns-2 t c = right-known (c .before .before .before .before .before .before .before .before .before .before .before .before .before .before .before .before .before .before .before .pre .1) (c .before .before .before .before .before .before .seen .ensures .known _ _ _ (c .before .before .before .before .before .before .before .before .before .before .before .before .before .before .before .before .before .before .before .pre .1 .asks) (c .before .before .before .before .before .if2 .taken)) (c .before .before .join .ensures _ (c .before .before .before .before .before .before .before .before .before .before .before .before .before .before .before .before .before .before .before .pre .1 .asks .ready))
+both-returns-2 : (t : ℕ) → both-lts.Need-returns-2 (lacks-reads.Asked, lacks-reads.Learnt, seen-reads.Asked, seen-reads.Learnt, joined-reads.Asked, joined-reads.Learnt, below-below t, below.Post) (both-at t) both.Post
+both-returns-2 t c = right-known (c .before .before .before .before .before .before .before .before .before .before .before .before .before .before .before .before .before .before .before .before .before .before .pre .1) (c .before .before .before .before .before .before .before .before .before .seen .ensures .known _ _ _ (c .before .before .before .before .before .before .before .before .before .before .before .before .before .before .before .before .before .before .before .before .before .before .pre .1 .asks) (c .before .before .before .before .before .before .before .before .if2 .taken)) (c .before .before .before .before .joined .ensures _)
 
-both-below-requires : (t : ℕ) → both-lts.Need-below-requires (lacks-reads.Asked, lacks-reads.Learnt, seen-reads.Asked, seen-reads.Learnt, join-reads.Asked, join-reads.Learnt, below-below t, below.Post) (both-at t) both.Post
+both-below-requires : (t : ℕ) → both-lts.Need-below-requires (lacks-reads.Asked, lacks-reads.Learnt, seen-reads.Asked, seen-reads.Learnt, joined-reads.Asked, joined-reads.Learnt, below-below t, below.Post) (both-at t) both.Post
 both-below-requires t c κs = (omega (arith, c .before .before .before .before .before .before .before .before .before .before .before .before .before .before .before .before .before .before .pre .0), asks-below _ (c .before .before .before .before .before .before .before .before .before .before .before .before .before .before .before .before .before .before .pre .1 .asks) (c .before .before .before .before .before .seen .ensures) (omega (arith, c .before .before .before .before .if2 .left)) (c .before .before .before .before .before .before .before .before .before .before .before .before .before .before .before .before .before .before .pre .1 .room))
 
-both-same-length-5 : (t : ℕ) → both-lts.Need-same-length-5 (lacks-reads.Asked, lacks-reads.Learnt, seen-reads.Asked, seen-reads.Learnt, join-reads.Asked, join-reads.Learnt, below-below t, below.Post) (both-at t) both.Post
+both-same-length-5 : (t : ℕ) → both-lts.Need-same-length-5 (lacks-reads.Asked, lacks-reads.Learnt, seen-reads.Asked, seen-reads.Learnt, joined-reads.Asked, joined-reads.Learnt, below-below t, below.Post) (both-at t) both.Post
 both-same-length-5 t c = search needs
 
-both-same-length-6 : (t : ℕ) → both-lts.Need-same-length-6 (lacks-reads.Asked, lacks-reads.Learnt, seen-reads.Asked, seen-reads.Learnt, join-reads.Asked, join-reads.Learnt, below-below t, below.Post) (both-at t) both.Post
+both-same-length-6 : (t : ℕ) → both-lts.Need-same-length-6 (lacks-reads.Asked, lacks-reads.Learnt, seen-reads.Asked, seen-reads.Learnt, joined-reads.Asked, joined-reads.Learnt, below-below t, below.Post) (both-at t) both.Post
 both-same-length-6 t c = search needs
 
-both-same-length-7 : (t : ℕ) → both-lts.Need-same-length-7 (lacks-reads.Asked, lacks-reads.Learnt, seen-reads.Asked, seen-reads.Learnt, join-reads.Asked, join-reads.Learnt, below-below t, below.Post) (both-at t) both.Post
+both-same-length-7 : (t : ℕ) → both-lts.Need-same-length-7 (lacks-reads.Asked, lacks-reads.Learnt, seen-reads.Asked, seen-reads.Learnt, joined-reads.Asked, joined-reads.Learnt, below-below t, below.Post) (both-at t) both.Post
 both-same-length-7 t c = search needs
 
-both-same-length-8 : (t : ℕ) → both-lts.Need-same-length-8 (lacks-reads.Asked, lacks-reads.Learnt, seen-reads.Asked, seen-reads.Learnt, join-reads.Asked, join-reads.Learnt, below-below t, below.Post) (both-at t) both.Post
+both-same-length-8 : (t : ℕ) → both-lts.Need-same-length-8 (lacks-reads.Asked, lacks-reads.Learnt, seen-reads.Asked, seen-reads.Learnt, joined-reads.Asked, joined-reads.Learnt, below-below t, below.Post) (both-at t) both.Post
 both-same-length-8 t c = search needs
 
-both-returns-3 : (t : ℕ) → both-lts.Need-returns-3 (lacks-reads.Asked, lacks-reads.Learnt, seen-reads.Asked, seen-reads.Learnt, join-reads.Asked, join-reads.Learnt, below-below t, below.Post) (both-at t) both.Post
+both-returns-3 : (t : ℕ) → both-lts.Need-returns-3 (lacks-reads.Asked, lacks-reads.Learnt, seen-reads.Asked, seen-reads.Learnt, joined-reads.Asked, joined-reads.Learnt, below-below t, below.Post) (both-at t) both.Post
 both-returns-3 t c = right-full (c .before .before .before .before .before .before .before .before .before .before .before .before .before .before .before .before .before .before .before .before .before .before .before .before .before .before .before .before .pre .1) (c .before .before .before .before .before .before .before .before .before .below .ensures) (c .if3 .taken)
 
-both-join-requires-2 : (t : ℕ) → both-lts.Need-join-requires-2 (lacks-reads.Asked, lacks-reads.Learnt, seen-reads.Asked, seen-reads.Learnt, join-reads.Asked, join-reads.Learnt, below-below t, below.Post) (both-at t) both.Post
-both-join-requires-2 t c κs = right-join-asks (c .before .before .before .before .before .before .before .before .before .before .before .before .before .before .before .before .before .before .before .before .before .before .before .before .before .before .before .before .before .before .pre .1) (c .before .before .before .before .before .before .before .before .before .before .before .below .ensures) (c .before .before .if3 .left)
+both-joined-requires-2 : (t : ℕ) → both-lts.Need-joined-requires-2 (lacks-reads.Asked, lacks-reads.Learnt, seen-reads.Asked, seen-reads.Learnt, joined-reads.Asked, joined-reads.Learnt, below-below t, below.Post) (both-at t) both.Post
+both-joined-requires-2 t c κs = right-join-asks (c .before .before .before .before .before .before .before .before .before .before .before .before .before .before .before .before .before .before .before .before .before .before .before .before .before .before .before .before .before .before .before .pre .1) (c .before .before .before .before .before .before .before .before .before .before .before .before .below .ensures) (c .before .before .before .if3 .left)
 
-both-same-length-9 : (t : ℕ) → both-lts.Need-same-length-9 (lacks-reads.Asked, lacks-reads.Learnt, seen-reads.Asked, seen-reads.Learnt, join-reads.Asked, join-reads.Learnt, below-below t, below.Post) (both-at t) both.Post
-both-same-length-9 t c = c .before .before .before .before .before .before .before .before .before .before .before .before .before .before .below .kept .1 .1 .0
+both-same-length-9 : (t : ℕ) → both-lts.Need-same-length-9 (lacks-reads.Asked, lacks-reads.Learnt, seen-reads.Asked, seen-reads.Learnt, joined-reads.Asked, joined-reads.Learnt, below-below t, below.Post) (both-at t) both.Post
+both-same-length-9 t c = c .before .before .before .before .joined2 .kept .0 ∙ c .before .before .before .before .before .before .before .before .before .before .before .before .before .before .before .before .before .below .kept .1 .1 .0
 
-both-same-length-10 : (t : ℕ) → both-lts.Need-same-length-10 (lacks-reads.Asked, lacks-reads.Learnt, seen-reads.Asked, seen-reads.Learnt, join-reads.Asked, join-reads.Learnt, below-below t, below.Post) (both-at t) both.Post
-both-same-length-10 t c = c .before .before .join2 .kept .0 ∙ c .before .before .before .before .before .before .before .before .before .before .before .before .before .before .below .kept .1 .1 .1 .1 .1 .1 .1 .1 .0
+both-same-length-10 : (t : ℕ) → both-lts.Need-same-length-10 (lacks-reads.Asked, lacks-reads.Learnt, seen-reads.Asked, seen-reads.Learnt, joined-reads.Asked, joined-reads.Learnt, below-below t, below.Post) (both-at t) both.Post
+both-same-length-10 t c = c .before .before .before .before .joined2 .kept .1 .1 .1 .1 .1 .1 .1 .1 .0 ∙ c .before .before .before .before .before .before .before .before .before .before .before .before .before .before .before .before .before .below .kept .1 .1 .1 .1 .1 .1 .1 .1 .0
 
-both-same-length-11 : (t : ℕ) → both-lts.Need-same-length-11 (lacks-reads.Asked, lacks-reads.Learnt, seen-reads.Asked, seen-reads.Learnt, join-reads.Asked, join-reads.Learnt, below-below t, below.Post) (both-at t) both.Post
-both-same-length-11 t c = c .before .before .before .before .before .before .before .before .before .before .before .before .before .before .below .kept .1 .1 .1 .1 .1 .1 .1 .1 .1 .0
+both-same-length-11 : (t : ℕ) → both-lts.Need-same-length-11 (lacks-reads.Asked, lacks-reads.Learnt, seen-reads.Asked, seen-reads.Learnt, joined-reads.Asked, joined-reads.Learnt, below-below t, below.Post) (both-at t) both.Post
+both-same-length-11 t c = c .before .before .before .before .before .before .before .before .before .before .before .before .before .before .before .before .before .below .kept .1 .1 .1 .1 .1 .1 .1 .1 .1 .0
 
-both-same-length-12 : (t : ℕ) → both-lts.Need-same-length-12 (lacks-reads.Asked, lacks-reads.Learnt, seen-reads.Asked, seen-reads.Learnt, join-reads.Asked, join-reads.Learnt, below-below t, below.Post) (both-at t) both.Post
-both-same-length-12 t c = c .before .before .before .before .before .before .before .before .before .before .before .before .before .before .below .kept .1 .1 .1 .1 .1 .1 .1 .1 .1 .1 .0
+both-same-length-12 : (t : ℕ) → both-lts.Need-same-length-12 (lacks-reads.Asked, lacks-reads.Learnt, seen-reads.Asked, seen-reads.Learnt, joined-reads.Asked, joined-reads.Learnt, below-below t, below.Post) (both-at t) both.Post
+both-same-length-12 t c = c .before .before .before .before .before .before .before .before .before .before .before .before .before .before .before .before .before .below .kept .1 .1 .1 .1 .1 .1 .1 .1 .1 .1 .0
 
-both-returns-4 : (t : ℕ) → both-lts.Need-returns-4 (lacks-reads.Asked, lacks-reads.Learnt, seen-reads.Asked, seen-reads.Learnt, join-reads.Asked, join-reads.Learnt, below-below t, below.Post) (both-at t) both.Post
-both-returns-4 t c = right-done (c .before .before .before .before .before .before .before .before .before .before .before .before .before .before .before .before .before .before .before .before .before .before .before .before .before .before .before .before .before .before .before .before .before .pre .1) (c .before .before .before .before .before .before .before .before .before .before .before .before .before .before .below .ensures) (c .before .before .before .before .before .if3 .left) (c .before .before .join2 .ensures _ (c .before .before .before .before .before .before .before .before .before .before .before .before .before .before .below .ensures .conditions .builds .done (c .before .before .before .before .before .if3 .left) .ready))
+both-returns-4 : (t : ℕ) → both-lts.Need-returns-4 (lacks-reads.Asked, lacks-reads.Learnt, seen-reads.Asked, seen-reads.Learnt, joined-reads.Asked, joined-reads.Learnt, below-below t, below.Post) (both-at t) both.Post
+both-returns-4 t c = right-done (c .before .before .before .before .before .before .before .before .before .before .before .before .before .before .before .before .before .before .before .before .before .before .before .before .before .before .before .before .before .before .before .before .before .before .before .before .pre .1) (c .before .before .before .before .before .before .before .before .before .before .before .before .before .before .before .before .before .below .ensures) (c .before .before .before .before .before .before .before .before .if3 .left) (c .before .before .before .before .joined2 .ensures _)
 
 raise-above-requires : (t : ℕ) → raise-lts.Need-above-requires (above-below t, above.Post, note-reads.Asked, note-reads.Learnt, keep-reads.Asked, keep-reads.Learnt) (raise-at t) raise.Post
 raise-above-requires t c κs = (omega (arith, c .before .before .before .before .before .before .before .before .before .before .pre .0), c .before .before .before .before .before .before .before .before .before .before .pre .1)
@@ -306,11 +306,11 @@ pub +above+below+both+raise-spec : {M : Type 1} → statement M
     (above-same-length-3 t)
     (above-same-length-4 t)
     (above-returns-2 t)
-    (above-cast-under t)
     (above-under-requires t)
     (above-same-length-5 t)
     (above-same-length-6 t)
     (above-same-length-7 t)
+    (above-same-length-8 t)
     (above-returns-3 t))
     (λ t. below-lts.spec (
       descend-reads.Asked,
@@ -352,8 +352,8 @@ pub +above+below+both+raise-spec : {M : Type 1} → statement M
       lacks-reads.Learnt,
       seen-reads.Asked,
       seen-reads.Learnt,
-      join-reads.Asked,
-      join-reads.Learnt,
+      joined-reads.Asked,
+      joined-reads.Learnt,
       below-below t,
       below.Post,
     )
@@ -364,8 +364,8 @@ pub +above+below+both+raise-spec : {M : Type 1} → statement M
     (both-same-length t)
     (both-returns t)
     (both-seen-requires t)
-    (both-sub-join t)
-    (both-join-requires t)
+    (both-sub-joined t)
+    (both-joined-requires t)
     (both-same-length-2 t)
     (both-same-length-3 t)
     (both-same-length-4 t)
@@ -376,7 +376,7 @@ pub +above+below+both+raise-spec : {M : Type 1} → statement M
     (both-same-length-7 t)
     (both-same-length-8 t)
     (both-returns-3 t)
-    (both-join-requires-2 t)
+    (both-joined-requires-2 t)
     (both-same-length-9 t)
     (both-same-length-10 t)
     (both-same-length-11 t)
