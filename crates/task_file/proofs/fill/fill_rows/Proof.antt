@@ -25,7 +25,7 @@ enum-told c = search needs
 
 -- src/fill.rt:17:9
 same-length : tie.Need-same-length
-same-length c = search needs
+same-length c = c .before .before .before .before .read-rows .kept .1 .1 .1 .1 .1 .0
 
 -- src/fill.rt:17:9
 returns : tie.Need-returns
@@ -49,11 +49,11 @@ enum-told-2 c = search needs
 
 -- src/fill.rt:21:9
 same-length-2 : tie.Need-same-length-2
-same-length-2 c = search needs
+same-length-2 c = c .before .before .before .before .before .before .before .before .before .before .before .before .read-rows .kept .1 .1 .1 .1 .1 .0
 
 -- src/fill.rt:21:9
 same-length-3 : tie.Need-same-length-3
-same-length-3 c = search needs
+same-length-3 c = c .before .before .before .before .read-rows2 .kept .1 .1 .1 .1 .1 .0
 
 -- src/fill.rt:21:9
 returns-2 : tie.Need-returns-2
@@ -69,15 +69,15 @@ read-rows-requires-3 c κs = search needs
 
 -- src/fill.rt:11:1
 same-length-4 : tie.Need-same-length-4
-same-length-4 c = search needs
+same-length-4 c = c .before .before .before .before .before .before .before .before .before .before .before .before .before .before .before .before .before .before .read-rows .kept .1 .1 .1 .1 .1 .0
 
 -- src/fill.rt:11:1
 same-length-5 : tie.Need-same-length-5
-same-length-5 c = search needs
+same-length-5 c = c .before .before .before .before .before .before .before .before .before .before .read-rows2 .kept .1 .1 .1 .1 .1 .0
 
 -- src/fill.rt:11:1
 same-length-6 : tie.Need-same-length-6
-same-length-6 c = search needs
+same-length-6 c = c .before .before .read-rows3 .kept .1 .1 .1 .1 .1 .0
 
 -- src/fill.rt:11:1
 returns-3 : tie.Need-returns-3

@@ -27,7 +27,7 @@ enum-told c = search needs
 
 -- src/fill.rt:42:9
 same-length : tie.Need-same-length
-same-length c = search needs
+same-length c = c .before .before .before .before .read-state .kept .1 .1 .1 .0
 
 -- src/fill.rt:42:9
 returns : tie.Need-returns
@@ -63,11 +63,11 @@ enum-told-2 c = search needs
 
 -- src/fill.rt:47:9
 same-length-2 : tie.Need-same-length-2
-same-length-2 c = search needs
+same-length-2 c = c .before .before .before .before .before .before .before .before .before .before .before .before .before .before .read-state .kept .1 .1 .1 .0
 
 -- src/fill.rt:47:9
 same-length-3 : tie.Need-same-length-3
-same-length-3 c = search needs
+same-length-3 c = c .before .before .before .before .read-twins .kept .1 .1 .1 .1 .0
 
 -- src/fill.rt:47:9
 returns-2 : tie.Need-returns-2
@@ -79,23 +79,23 @@ fill-rows-requires c κs = c .before .before .before .before .before .before .be
 
 -- src/fill.rt:27:1
 same-length-4 : tie.Need-same-length-4
-same-length-4 c = search needs
+same-length-4 c = c .before .before .before .before .before .before .before .before .before .before .before .before .before .before .before .before .before .before .before .before .before .before .before .before .before .read-state .kept .1 .1 .1 .0
 
 -- src/fill.rt:27:1
 same-length-5 : tie.Need-same-length-5
-same-length-5 c = search needs
+same-length-5 c = c .before .before .before .before .before .before .before .before .before .before .before .before .before .before .before .read-twins .kept .1 .1 .1 .1 .0
 
 -- src/fill.rt:27:1
 same-length-6 : tie.Need-same-length-6
-same-length-6 c = search needs
+same-length-6 c = c .before .before .before .before .before .before .fill-rows .kept .1 .1 .1 .0
 
 -- src/fill.rt:27:1
 same-length-7 : tie.Need-same-length-7
-same-length-7 c = search needs
+same-length-7 c = c .before .before .before .before .before .before .fill-rows .kept .1 .1 .1 .1 .0
 
 -- src/fill.rt:27:1
 same-length-8 : tie.Need-same-length-8
-same-length-8 c = search needs
+same-length-8 c = c .before .before .before .before .before .before .fill-rows .kept .1 .1 .1 .1 .1 .0
 
 -- src/fill.rt:27:1
 returns-3 : tie.Need-returns-3

@@ -47,7 +47,7 @@ add-t6 c = search needs
 
 -- src/read_state.rt:44:1
 same-length : tie.Need-same-length
-same-length c = search needs
+same-length c = c .before .before .unpack .kept .1 .1 .1 .0
 
 -- src/read_state.rt:44:1
 returns-3 : tie.Need-returns-3
