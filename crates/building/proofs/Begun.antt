@@ -19,7 +19,8 @@ use Rattle.formula_builder.proofs.Steps.{within-before}
 use Rattle.images.specs.Images.{image-at, memo-place, Images, Asks}
 use Rattle.images.proofs.Memos.{steady-image-at}
 use Rattle.changes.specs.Stands.{Leaves}
-use Rattle.changes.proofs.Standing.{stands-next, makes-row, leaves-full}
+use Rattle.conditions.proofs.Memos.{effect-memo-blank}
+use Rattle.changes.proofs.Standing.{stands-next, makes-image, leaves-full}
 use Rattle.records.specs.Recorded.{Opens, Recorded}
 use Rattle.operators.specs.declared.Tally.{Tally}
 use Rattle.operators.specs.Operator.{operator-built, operators-built, operator-here, BuildsOperator, OperatorWalked}
@@ -113,7 +114,7 @@ module _ (frame : Frame) (formulas effects operators : List ℕ) where
                           past-twins = λ j h. b .blank-originals j;
                         };
                     memo = record { known = λ p i r h e. absurd (omega (arith, e, b .blank-scratch (memo-place frame p i))) };
-                    clean = λ j h. b .blank-scratch j;
+                    effect-memo = effect-memo-blank frame formulas effects scratch (held (size-at p) (store table originals)) (b .blank-scratch);
                   };
             };
         kept = λ _. none-kept frame formulas effects operators records (p .operators) (p .records) (g .none) (g .no-records);
@@ -177,7 +178,7 @@ module _ (frame : Frame) (formulas effects operators : List ℕ) where
           let step : Row → St → ℕ = λ r m. image-at frame formulas plain (r .kind) m .value in
           ap (step (row-at operators (p .operators))) (stood .state) ∙ ap (λ (r : Row). step r (held (size-at p) s)) (sym words)
 
-      module _ {after : Store} {s2 l : List ℕ} (z : Tally) (y : OperatorWalked frame formulas effects (w .kind) (w .a) (size-at p) s after scratch s2 (p .records) records l z) where
+      module _ {after : Store} {s2 l : List ℕ} (z : Tally) (y : OperatorWalked frame formulas effects (w .kind) (w .a) (size-at p) s after s2 (p .records) records l z) where
         -- no room for its rows or twins
         pub took-over : {r : Progress} → z .full ≡ true → r ≡ stopped (p .operators + 1) → Took frame formulas effects operators after s2 l p r
         took-over g e =
@@ -283,7 +284,9 @@ module _ (frame : Frame) (formulas effects operators : List ℕ) where
                   stood =
                       record {
                         state = ap (λ (x : Got ℕ). x .st) same ∙ d .state;
-                        stands = stands-next (t .done q .stands) (makes-row y .reaches) g long;
+                        stands =
+                            stands-next (t .done q .stands)
+                            (makes-image (steady-image-at frame formulas plain goal) (t .done q .stands .effect-memo) y .reaches) g long;
                       };
                 };
             over = λ g w. y .builds .over g (rw (ap (λ (x : Got ℕ). x .st) same) at w);

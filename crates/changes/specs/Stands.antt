@@ -1,31 +1,24 @@
 -- Where building stands between two steps, and what a step with a value of its own answers.
-use Prim.Native.Nat.{ℕ, _+_, _*_, _≤_, _<_}
+use Prim.Native.Nat.{ℕ, _<_}
 use mathlib.Core.Path.{_≡_}
 use mathlib.Core.Bool.{Bool, true, false}
 use mathlib.Core.List.{List}
-use lib.ListN.{length, getD}
 use Rattle.normal_form.specs.Builder.{St, Build}
 use Rattle.normal_form.specs.Operators.{Changes}
 use Rattle.formula_builder.specs.declared.Frame.{Frame}
 use Rattle.formula_builder.specs.declared.Size.{Size}
 use Rattle.formula_builder.specs.Held.{Store, held, Ready, Within}
 use Rattle.images.specs.Images.{Memo, Source}
-use Rattle.conditions.specs.Conditions.{EffectSource, Noted}
+use Rattle.conditions.specs.Conditions.{EffectMemo, EffectSource, Noted}
 use Rattle.changes.specs.declared.Change.{Change}
 
--- The words from one up to another are 0, and all others as before.
-pub record Cleared (from to : ℕ) (before after : List ℕ) : Type 0 where
-  pub inside : (j : ℕ) → from ≤ j → j < to → getD after j 0 ≡ 0
-  pub below : (j : ℕ) → j < from → getD after j 0 ≡ getD before j 0
-  pub above : (j : ℕ) → to ≤ j → getD after j 0 ≡ getD before j 0
-
--- The source keeps the rules, the tables and the memo of images hold what is built, and the rest of the scratch is 0.
+-- The source keeps the rules, and the tables and both memos hold what is built.
 pub record Stands (frame : Frame) (formulas effects : List ℕ) (at : Size) (s : Store) (scratch : List ℕ) : Type 0 where
   pub source : Source frame formulas scratch
   pub effect-source : EffectSource frame effects scratch
   pub ready : Ready frame at s
   pub memo : Memo frame formulas scratch (held at s)
-  pub clean : (j : ℕ) → 2 * frame .formulas ≤ j → getD scratch j 0 ≡ 0
+  pub effect-memo : EffectMemo frame formulas effects scratch (held at s)
 
 -- It stands there with notes, before effect e.
 pub record StandsAt (frame : Frame) (formulas effects notes : List ℕ) (at : Size) (s : Store) (scratch : List ℕ) (e : ℕ) : Type 0 where
@@ -42,21 +35,21 @@ pub record Deletes (frame : Frame) (formulas effects notes : List ℕ) (at : Siz
 pub record Leaves (full : Bool) (frame : Frame) (formulas effects notes : List ℕ) (at : Size) (s : Store) : Type 0 where
   pub noted : full ≡ false → Noted frame formulas effects notes (held at s)
 
--- The state that a definition gives: the tables hold it, with the memo of images.
-pub record Reached (t : St) (frame : Frame) (formulas : List ℕ) (at : Size) (after : Store) (scratch : List ℕ) : Type 0 where
+-- The state that a definition gives: the tables hold it, with both memos.
+pub record Reached (t : St) (frame : Frame) (formulas effects : List ℕ) (at : Size) (after : Store) (scratch : List ℕ) : Type 0 where
   pub state : t ≡ held at after
   pub ready : Ready frame at after
   pub memo : Memo frame formulas scratch (held at after)
+  pub effect-memo : EffectMemo frame formulas effects scratch (held at after)
 
--- A step reaches its state, or there is no room for it; what lies behind the memo of images stays as it is.
-pub record Reaches {A : Type 0} (m : Build A) (frame : Frame) (formulas : List ℕ) (at : Size) (before after : Store) (s1 s2 : List ℕ) (full : Bool) (next : Size) : Type 0 where
-  pub done : full ≡ false → Reached (m (held at before) .st) frame formulas next after s2
+-- A step reaches its state, or there is no room for it.
+pub record Reaches {A : Type 0} (m : Build A) (frame : Frame) (formulas effects : List ℕ) (at : Size) (before after : Store) (scratch : List ℕ) (full : Bool) (next : Size) : Type 0 where
+  pub done : full ≡ false → Reached (m (held at before) .st) frame formulas effects next after scratch
   pub over : full ≡ true → Within frame (m (held at before) .st) → ⊥
-  pub rest : (j : ℕ) → 2 * frame .formulas ≤ j → getD s2 j 0 ≡ getD s1 j 0
 
 -- And it answers its value.
-pub record Makes {A : Type 0} (m : Build A) (frame : Frame) (formulas : List ℕ) (at : Size) (before after : Store) (s1 s2 : List ℕ) (full : Bool) (next : Size) (x : A) : Type 0 where
-  pub reaches : Reaches m frame formulas at before after s1 s2 full next
+pub record Makes {A : Type 0} (m : Build A) (frame : Frame) (formulas effects : List ℕ) (at : Size) (before after : Store) (scratch : List ℕ) (full : Bool) (next : Size) (x : A) : Type 0 where
+  pub reaches : Reaches m frame formulas effects at before after scratch full next
   pub value : full ≡ false → m (held at before) .value ≡ x
 
 abbrev pub size-after : Change → Size

@@ -1,16 +1,15 @@
 // D and N of one variable.
-use crate::fresh::condition_of;
 use conditions::Target;
+use conditions::condition;
 use formula_builder::Frame;
 use formula_builder::Size;
 use formula_builder::Step;
 use formula_builder::join;
 use formula_builder::standing;
 ghost use Rattle.normal_form.specs.Operators.{deletes-of};
-ghost use Rattle.formula_builder.specs.Held.{store, size-of};
-ghost use Rattle.images.specs.Images.{Images};
-ghost use Rattle.conditions.specs.Conditions.{effect-tree};
-ghost use Rattle.changes.specs.Stands.{Deletes, Leaves};
+ghost use Rattle.formula_builder.specs.Held.{store};
+ghost use Rattle.conditions.specs.Conditions.{effect-tree, Conditions};
+ghost use Rattle.changes.specs.Stands.{Deletes};
 
 // D, freed of conflict with A: if neither is row 0, D and N, with N the negated condition of set v.
 pub fn deletes(
@@ -28,7 +27,7 @@ pub fn deletes(
     scratch: &mut [u16],
 ) -> Step
     requires { ⌜ Deletes frame (now formulas) (now effects) (now notes) at (store (now table) (now originals)) (now scratch) e v d ⌝ }
-    ensures { λ r. ⌜ Images (deletes-of (frame .variables) (effect-tree frame (now (formulas .entry)) (now (effects .entry)) e) v a d) frame (now (formulas .entry)) at (store (now (table .entry)) (now (originals .entry))) (store (now (table .exit)) (now (originals .exit))) (now (scratch .entry)) (now (scratch .exit)) r × Leaves (r .full) frame (now (formulas .entry)) (now (effects .entry)) (now (notes .exit)) (size-of r) (store (now (table .exit)) (now (originals .exit))) ⌝ }
+    ensures { λ r. ⌜ Conditions (deletes-of (frame .variables) (effect-tree frame (now (formulas .entry)) (now (effects .entry)) e) v a d) frame (now (formulas .entry)) (now (effects .entry)) (now (notes .exit)) at (store (now (table .entry)) (now (originals .entry))) (store (now (table .exit)) (now (originals .exit))) (now (scratch .exit)) r ⌝ }
 {
     if a == 0 {
         return standing(at, d);
@@ -41,7 +40,7 @@ pub fn deletes(
         variable: v,
         negated: true,
     };
-    let n = condition_of(
+    let n = condition(
         formulas,
         effects,
         notes,

@@ -1,10 +1,8 @@
 // What an operator's effect does to one variable: the row under which it is set, and the row under which it is cleared.
 mod conflict;
-mod fresh;
+mod named;
 mod variable;
 
-pub use fresh::clear;
-pub use fresh::condition_of;
 pub use variable::change_of;
 
 // The size after a step, and the rows under which a variable is set and cleared, never both; or that there was no room.

@@ -1,7 +1,7 @@
 // A, D and N of one variable.
 use crate::Change;
 use crate::conflict::deletes;
-use crate::fresh::condition_if;
+use crate::named::condition_if;
 use conditions::Target;
 use formula_builder::Frame;
 use formula_builder::Size;
@@ -30,7 +30,7 @@ pub fn change_of(
     scratch: &mut [u16],
 ) -> Change
     requires { ⌜ StandsAt frame (now formulas) (now effects) (now notes) at (store (now table) (now originals)) (now scratch) e × (sets ≡ false → Unnamed frame (now formulas) (now effects) false v e) × (clears ≡ false → Unnamed frame (now formulas) (now effects) true v e) × (v < frame .variables) ⌝ }
-    ensures { λ r. ⌜ Makes (changes-of (frame .variables) (effect-tree frame (now (formulas .entry)) (now (effects .entry)) e) v) frame (now (formulas .entry)) at (store (now (table .entry)) (now (originals .entry))) (store (now (table .exit)) (now (originals .exit))) (now (scratch .entry)) (now (scratch .exit)) (r .full) (size-after r) (made v r) × Leaves (r .full) frame (now (formulas .entry)) (now (effects .entry)) (now (notes .exit)) (size-after r) (store (now (table .exit)) (now (originals .exit))) ⌝ }
+    ensures { λ r. ⌜ Makes (changes-of (frame .variables) (effect-tree frame (now (formulas .entry)) (now (effects .entry)) e) v) frame (now (formulas .entry)) (now (effects .entry)) at (store (now (table .entry)) (now (originals .entry))) (store (now (table .exit)) (now (originals .exit))) (now (scratch .exit)) (r .full) (size-after r) (made v r) × Leaves (r .full) frame (now (formulas .entry)) (now (effects .entry)) (now (notes .exit)) (size-after r) (store (now (table .exit)) (now (originals .exit))) ⌝ }
 {
     let set = Target {
         clear: false,

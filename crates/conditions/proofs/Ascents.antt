@@ -5,8 +5,6 @@ use mathlib.Core.Path.{_≡_, refl, sym, ap, _∙_}
 use mathlib.Core.Bool.{Bool, true, false}
 use mathlib.Core.List.{List}
 use lib.ListN.{length}
-use Rattle.task.specs.Table.{row-at}
-use Rattle.normal_form.specs.Builder.{bind}
 use Rattle.formula_builder.specs.declared.Frame.{Frame}
 use Rattle.formula_builder.specs.declared.Size.{Size}
 use Rattle.formula_builder.specs.declared.Step.{Step}
@@ -15,18 +13,22 @@ use Rattle.images.proofs.Memos.{done-known}
 use Rattle.conditions.specs.declared.Target.{Target}
 use Rattle.conditions.specs.declared.Bottom.{Bottom}
 use Rattle.conditions.specs.Conditions.{condition-at, path-at, PathStays, Asks, Conditions}
-use Rattle.conditions.specs.Paths.{spine, onward, entry-row, entry-right, Skips, AsksSeen, Sees, Follows, Descent, AsksDescent, Descended, AsksBelow, AsksOnward, Climbs, Rising}
-use Rattle.conditions.proofs.Rows.{of-spine}
+use Rattle.conditions.specs.Paths.{onward, Leads, entry-row, entry-pass, AsksSeen, Sees, Descent, AsksDescent, Descended, AsksBelow, AsksOnward, Climbs, Rising}
 use Rattle.conditions.proofs.Notes.{steady-condition-at, looks, stays-refl, stays-trans, stays-fewer}
-use Rattle.conditions.proofs.Memos.{conditions-as, conditions-wider, asks-next, conditions-bind, conditions-stop, conditions-known}
+use Rattle.conditions.proofs.Memos.{conditions-as, asks-next, conditions-bind, conditions-stop, conditions-known}
 use Rattle.conditions.proofs.Cases.{steady-onward}
+use Rattle.conditions.proofs.Descents.{follows-as}
 
 -- what looking at row e asks
 pub asks-seen :
     {frame : Frame} {formulas effects notes : List ℕ} {t : Target} {at : Size} {before : Store} {scratch : List ℕ} {e : ℕ}
     → Asks frame formulas effects notes t at before scratch e
-    → AsksSeen frame effects notes scratch e
-asks-seen a = record { source = a .effect-source; looks = looks a refl; formulas = a .source .limit }
+    → AsksSeen frame effects notes scratch t e
+asks-seen a =
+    record {
+      source = a .effect-source;
+      kept = record { looks = looks a refl; variable = a .variable; formulas = a .source .limit; memo = a .effect-source .memo };
+    }
 
 pub asks-descent :
     {frame : Frame} {formulas effects notes : List ℕ} {t : Target} {at : Size} {before : Store} {scratch : List ℕ} {e from : ℕ}
@@ -36,7 +38,6 @@ asks-descent x =
     record {
       seen = asks-seen (x .asks);
       sets = x .asks .noted .sets;
-      variable = x .asks .variable;
       composed = x .composed;
       room = x .room;
     }
@@ -51,12 +52,12 @@ pub asks-below :
     → AsksBelow frame formulas effects notes t at before scratch e from
 asks-below from a s h room = record { asks = a; composed = s .composed (omega (arith, h)); room = room }
 
--- the last entry: its row, and whether the way goes to the right
+-- the last entry: its row, and whether it is passed
 abbrev row-over : Frame → List ℕ → ℕ → ℕ
 row-over frame notes depth = entry-row (path-at frame notes (depth - 1))
 
-abbrev right-over : Frame → List ℕ → ℕ → Bool
-right-over frame notes depth = entry-right (path-at frame notes (depth - 1))
+abbrev pass-over : Frame → List ℕ → ℕ → Bool
+pass-over frame notes depth = entry-pass (path-at frame notes (depth - 1))
 
 -- one entry less
 descent-up :
@@ -69,8 +70,6 @@ descent-up {depth = depth} x h =
       begins = omega (arith, h);
       last = x .entries (depth - 1) (omega (arith, h)) (omega (arith, h));
       entries = λ d g k. x .entries d g (omega (arith, k));
-      composed = λ d g k. x .composed d g (omega (arith, k));
-      skips = λ d g k. x .skips d g (omega (arith, k));
     }
 
 -- the entries are read from their words alone
@@ -79,52 +78,25 @@ descent-stays :
     → PathStays frame notes notes' depth
     → Descent frame effects notes t from depth e i
     → Descent frame effects notes' t from depth e i
-descent-stays {frame} {effects} {notes} {notes'} {t} {from} {depth} {e} {i} s x =
+descent-stays s x =
     record {
       begins = x .begins;
-      last = follows (omega arith) refl (x .last);
-      entries = λ d g h. follows (omega (arith, h)) (ap (λ v. entry-row v) (s .same d h)) (x .entries d g h);
-      composed = λ d g h. rw (s .same d h) (x .composed d g h);
-      skips = λ d g h. rw (s .same d h) (x .skips d g h);
+      last = follows-as (λ k. s .same _ (omega (arith, k))) refl (x .last);
+      entries = λ d g h. follows-as (λ k. s .same (d - 1) (omega (arith, h, k))) (ap (λ v. entry-row v) (s .same d h)) (x .entries d g h);
     }
-  where
-    follows :
-        {d j k : ℕ} → d ≤ depth → k ≡ j → Follows frame effects notes from e d j → Follows frame effects notes' from e d k
-    follows {d} {j} {k} h same f =
-        record {
-          first = λ z. same ∙ f .first z;
-          next = λ g.
-              same ∙ f .next g ∙ ap (λ v. spine effects (entry-right v) (entry-row v)) (sym (s .same (d - 1) (omega (arith, g, h))));
-          falls = omega (arith, f .falls, same);
-        }
 
 -- Up the path that begins with row e, with what building its condition asks.
 module _ {frame : Frame} {formulas effects notes : List ℕ} {t : Target} {at : Size} {before : Store} {scratch : List ℕ} {e from : ℕ} (a : AsksBelow frame formulas effects notes t at before scratch e from) where
   -- an entry and what is known of it
   module _ {notes₁ : List ℕ} {depth i : ℕ} (x : Descent frame effects notes₁ t from depth e i) (h : from < depth) where
-    pub entry-lower : row-over frame notes₁ depth + (depth - 1) < frame .effects
+    entry-lower : row-over frame notes₁ depth + (depth - 1) < frame .effects
     entry-lower = omega (arith, x .entries (depth - 1) (omega (arith, h)) (omega (arith, h)) .falls, a .room)
 
-    pub entry-most : row-over frame notes₁ depth ≤ e
+    entry-most : row-over frame notes₁ depth ≤ e
     entry-most = omega (arith, x .entries (depth - 1) (omega (arith, h)) (omega (arith, h)) .falls, h)
 
-    entry-composed : 3 ≤ row-at effects (row-over frame notes₁ depth) .kind
-    entry-composed = x .composed (depth - 1) (omega (arith, h)) (omega (arith, h))
-
-    entry-skips : Skips frame effects t (right-over frame notes₁ depth) (row-over frame notes₁ depth)
-    entry-skips = x .skips (depth - 1) (omega (arith, h)) (omega (arith, h))
-
-    entry-read :
-        condition-at frame formulas effects t (row-over frame notes₁ depth)
-        ≡ bind (condition-at frame formulas effects t (spine effects (right-over frame notes₁ depth) (row-over frame notes₁ depth)))
-        (λ l. onward frame formulas effects t (right-over frame notes₁ depth) (row-over frame notes₁ depth) l)
-    entry-read =
-        of-spine frame formulas effects scratch (a .asks .effect-source) (row-over frame notes₁ depth) (omega (arith, entry-lower)) t
-        (right-over frame notes₁ depth) entry-skips entry-composed
-
-    spine-is :
-        condition-at frame formulas effects t (spine effects (right-over frame notes₁ depth) (row-over frame notes₁ depth)) ≡ condition-at frame formulas effects t i
-    spine-is = ap (λ j. condition-at frame formulas effects t j) (sym (x .last .next h))
+    entry-leads : Leads frame effects t (pass-over frame notes₁ depth) (row-over frame notes₁ depth) i
+    entry-leads = x .last .next h
 
   -- The step is full: so it is for each entry above.
   full-up :
@@ -132,24 +104,23 @@ module _ {frame : Frame} {formulas effects notes : List ℕ} {t : Target} {at : 
       → depth ≡ from + n
       → r .full ≡ true
       → Descent frame effects notes₁ t from depth e i
-      → Conditions (condition-at frame formulas effects t i) frame formulas effects notes₂ t e at before after scratch s2 r
-      → Conditions (condition-at frame formulas effects t e) frame formulas effects notes₂ t e at before after scratch s2 r
+      → Conditions (condition-at frame formulas effects t i) frame formulas effects notes₂ at before after s2 r
+      → Conditions (condition-at frame formulas effects t e) frame formulas effects notes₂ at before after s2 r
   full-up zero depth i q g x y =
       conditions-as (ap (λ j. condition-at frame formulas effects t j) (sym (x .last .first (omega (arith, q))))) y
   full-up {notes₁ = notes₁} (suc n) depth i q g x y =
       let h : from < depth = omega (arith, q) in
       let j = row-over frame notes₁ depth in
-      let right = right-over frame notes₁ depth in
+      let pass = pass-over frame notes₁ depth in
       full-up n (depth - 1) j (omega (arith, q)) g (descent-up x h)
-      (conditions-as (entry-read x h)
-      (conditions-stop (λ l. onward frame formulas effects t right j l) (λ l. steady-onward frame formulas effects t right j l)
-      (conditions-as (spine-is x h) y) g))
+      (conditions-as (entry-leads x h .reads formulas)
+      (conditions-stop (λ l. onward frame formulas effects t pass j l) (λ l. steady-onward frame formulas effects t pass j l) y g))
 
   -- The bottom's condition is known.
   pub rising-none :
       {notes' : List ℕ} {b : Bottom}
       → Descended frame effects notes notes' scratch t e from b
-      → Rising frame formulas effects notes' notes' t e from (b .depth) at before before scratch scratch (done-step at (b .known - 1))
+      → Rising frame formulas effects notes' notes' t e from (b .depth) at before before scratch (done-step at (b .known - 1))
   rising-none {notes'} {b} d =
       let x = d .descending in
       let low : d .row ≤ e = omega (arith, x .descent .last .falls, x .descent .begins) in
@@ -170,22 +141,21 @@ module _ {frame : Frame} {formulas effects notes : List ℕ} {t : Target} {at : 
         climbs =
             record {
               conditions =
-                  conditions-wider low
-                  (conditions-known frame formulas effects t at before scratch (d .row) (b .known - 1) asks
-                  (x .sees .known formulas at before asks (d .found)));
+                  conditions-known frame formulas effects t at before scratch (d .row) (b .known - 1) asks
+                  (x .sees .known formulas at before asks (d .found));
               stays = stays-refl frame notes' from;
             };
         going = refl;
       }
 
-  module _ {notes₀ notes₁ : List ℕ} {mid : Store} {s1 : List ℕ} {l : Step} {depth : ℕ} (down : PathStays frame notes notes₀ from) (x : Rising frame formulas effects notes₀ notes₁ t e from depth at before mid scratch s1 l) where
+  module _ {notes₀ notes₁ : List ℕ} {mid : Store} {s1 : List ℕ} {l : Step} {depth : ℕ} (down : PathStays frame notes notes₀ from) (x : Rising frame formulas effects notes₀ notes₁ t e from depth at before mid s1 l) where
     pub rising-long : length notes₁ ≡ length notes
     rising-long = x .climbs .stays .long ∙ down .long
 
     -- The path is at its end.
     pub rising-all :
         depth ≤ from
-        → Climbs (condition-at frame formulas effects t e) frame formulas effects notes notes₁ t e from at before mid scratch s1 l
+        → Climbs (condition-at frame formulas effects t e) frame formulas effects notes notes₁ from at before mid s1 l
     rising-all h =
         record {
           conditions =
@@ -205,40 +175,37 @@ module _ {frame : Frame} {formulas effects notes : List ℕ} {t : Target} {at : 
 
       pub rising-asks :
           length s1 ≡ length scratch
-          → AsksOnward frame formulas effects notes₁ t l mid s1 (entry-right w) (entry-row w) (depth - 1)
+          → AsksOnward frame formulas effects notes₁ t l mid s1 (entry-pass w) (entry-row w) (depth - 1)
       rising-asks long =
           rw top
           (record {
             below =
                 record {
                   asks = asks-next (row-over frame notes₁ depth) (a .asks) (x .climbs .conditions) (x .going) long (omega (arith, entry-lower (x .descent) h));
-                  composed = entry-composed (x .descent) h;
+                  composed = entry-leads (x .descent) h .composed;
                   room = entry-lower (x .descent) h;
                 };
             going = x .going;
-            skips = entry-skips (x .descent) h;
-            known =
-                rw (sym (x .descent .last .next h))
-                (done-known (steady-condition-at frame formulas effects t (x .row)) (x .climbs .conditions .builds .done (x .going)));
+            row = x .row;
+            leads = entry-leads (x .descent) h;
+            known = done-known (steady-condition-at frame formulas effects t (x .row)) (x .climbs .conditions .builds .done (x .going));
           })
 
-      module _ {notes₂ : List ℕ} {after : Store} {s2 : List ℕ} {r : Step} (y : Climbs (onward frame formulas effects t (entry-right w) (entry-row w) (l .row)) frame formulas effects notes₁ notes₂ t (entry-row w) (depth - 1) (size-of l) mid after s1 s2 r) where
+      module _ {notes₂ : List ℕ} {after : Store} {s2 : List ℕ} {r : Step} (y : Climbs (onward frame formulas effects t (entry-pass w) (entry-row w) (l .row)) frame formulas effects notes₁ notes₂ (depth - 1) (size-of l) mid after s2 r) where
         climbed :
-            Conditions (condition-at frame formulas effects t (row-over frame notes₁ depth)) frame formulas effects notes₂ t e at before after scratch s2 r
+            Conditions (condition-at frame formulas effects t (row-over frame notes₁ depth)) frame formulas effects notes₂ at before after s2 r
         climbed =
             let j = row-over frame notes₁ depth in
-            let right = right-over frame notes₁ depth in
-            conditions-as (entry-read (x .descent) h)
-            (conditions-bind (λ l. onward frame formulas effects t right j l)
-            (conditions-as (spine-is (x .descent) h) (x .climbs .conditions)) (x .going)
-            (conditions-wider (entry-most (x .descent) h) (rw top at (y .conditions))))
+            let pass = pass-over frame notes₁ depth in
+            conditions-as (entry-leads (x .descent) h .reads formulas)
+            (conditions-bind (λ l. onward frame formulas effects t pass j l) (x .climbs .conditions) (x .going) (rw top at (y .conditions)))
 
         stayed : PathStays frame notes₀ notes₂ from
         stayed = stays-trans frame (x .climbs .stays) (stays-fewer frame (omega (arith, h)) (y .stays))
 
         pub rising-more :
             r .full ≡ false
-            → Rising frame formulas effects notes₀ notes₂ t e from (depth - 1) at before after scratch s2 r
+            → Rising frame formulas effects notes₀ notes₂ t e from (depth - 1) at before after s2 r
         rising-more g =
             record {
               row = row-over frame notes₁ depth;
@@ -249,7 +216,7 @@ module _ {frame : Frame} {formulas effects notes : List ℕ} {t : Target} {at : 
 
         pub rising-full :
             r .full ≡ true
-            → Climbs (condition-at frame formulas effects t e) frame formulas effects notes notes₂ t e from at before after scratch s2 r
+            → Climbs (condition-at frame formulas effects t e) frame formulas effects notes notes₂ from at before after s2 r
         rising-full g =
             record {
               conditions =

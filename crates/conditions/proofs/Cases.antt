@@ -1,10 +1,10 @@
 -- What is seen of a row, and what the code answers on the way up, in each case. Assumes nothing.
-use Prim.Native.Nat.{ℕ, _+_, _-_, _*_, _≤_, _<_}
+use Prim.Native.Nat.{ℕ, _+_, _-_, _≤_, _<_}
 use native.Mathlib.Omega.{arith}
 use mathlib.Core.Path.{_≡_, refl, sym, ap, _∙_}
 use mathlib.Core.Bool.{Bool, true, false, cond, not}
 use mathlib.Core.List.{List}
-use lib.ListN.{length, getD}
+use lib.ListN.{length}
 use lib.Dec.{eqb}
 use borrow.Author.Tests.{eq-eqb, ne-eqb}
 use Rattle.task.specs.Bounded.{upto}
@@ -21,16 +21,15 @@ use Rattle.formula_builder.specs.declared.Size.{Size}
 use Rattle.formula_builder.specs.declared.Step.{Step}
 use Rattle.formula_builder.specs.Held.{Store, row-of, held, size-of, side}
 use Rattle.formula_builder.proofs.Steps.{builds-done, falsity-small}
-use Rattle.images.specs.Images.{tree, image-at, Known, noted, Images, Asks as AsksImage}
+use Rattle.images.specs.Images.{tree, image-at, Known, Images, Asks as AsksImage}
 use Rattle.images.proofs.Memos.{steady-image-at, known-grows, done-grows, done-known}
-use Rattle.atom_sets.specs.Sets.{lacks, InSet}
 use Rattle.conditions.specs.declared.Target.{Target}
-use Rattle.conditions.specs.Conditions.{atom-of, acts, condition-at, Looks, Recalls, Keeps, Asks, Conditions}
+use Rattle.conditions.specs.Conditions.{atom-of, acts, condition-at, Looks, AsksKept, Recalls, Keeps, Asks, Conditions}
 use Rattle.conditions.specs.Joins.{AsksJoin, Joined}
-use Rattle.conditions.specs.Paths.{spine, right-of, onward, Sees, AsksRight, AsksUnder, AsksOnward, Climbs}
-use Rattle.conditions.proofs.Rows.{both-lower, under-lower, under-else, of-atom, of-spine, side-not, skipped-right}
+use Rattle.conditions.specs.Paths.{right-of, onward, Sees, AsksRight, AsksUnder, AsksOnward, Climbs}
+use Rattle.conditions.proofs.Rows.{both-lower, under-lower, under-else, of-atom}
 use Rattle.conditions.proofs.Notes.{steady-condition-at, looks, stays-refl, stays-trans, stays-fewer}
-use Rattle.conditions.proofs.Memos.{conditions-as, conditions-wider, conditions-of-images, conditions-leaf, conditions-bind, conditions-stop, conditions-known, memo-known, conditions-noted}
+use Rattle.conditions.proofs.Memos.{conditions-as, conditions-of-images, conditions-leaf, conditions-bind, conditions-stop, conditions-known, conditions-kept}
 use Rattle.conditions.proofs.Joins.{conditions-joined}
 
 pub truth-small : (p : Polarity) → truth p < 2
@@ -67,14 +66,8 @@ module _ (frame : Frame) (effects notes scratch : List ℕ) (t : Target) (e : �
         below = rw (length-upto (at .rows) (row-at (before .table))) (omega (arith, h, a .ready .two));
       }))
 
-  pub sees-memo :
-      0 < getD scratch (2 * frame .formulas + e) 0 → Sees frame effects notes scratch t e (getD scratch (2 * frame .formulas + e) 0)
-  sees-memo h =
-      sees-word (getD scratch (2 * frame .formulas + e) 0) h
-      (λ formulas at before a. memo-known frame formulas effects t at before scratch e a h)
-
-  pub sees-kept : (w : ℕ) → Recalls frame notes t e w → 0 < w → Sees frame effects notes scratch t e w
-  sees-kept w r h = sees-word w h (λ formulas at before a. r .known formulas effects (held at before) (a .noted) h)
+  pub sees-kept : (w : ℕ) → Recalls frame notes scratch t e w → 0 < w → Sees frame effects notes scratch t e w
+  sees-kept w r h = sees-word w h (λ formulas at before a. r .known formulas effects (held at before) (a .noted) (a .effect-memo) h)
 
   -- by its words
   module _ (w : Words) (q : row-of w ≡ row-at effects e) where
@@ -118,7 +111,7 @@ module _ {frame : Frame} {formulas effects notes : List ℕ} {t : Target} {s : S
 
   pub under-folded :
       s .row ≡ falsity (side (t .negated))
-      → Climbs over frame formulas effects notes notes t e (frame .effects) (size-of s) before before scratch scratch s
+      → Climbs over frame formulas effects notes notes (frame .effects) (size-of s) before before scratch s
   unfolding guarded give
   under-folded h =
       let a = x .asks in
@@ -143,12 +136,12 @@ module _ {frame : Frame} {formulas effects notes : List ℕ} {t : Target} {s : S
       unfolding guarded image-at
       joins = rw (ne-eqb (s .row) (falsity (side (t .negated))) h, ← q)
 
-      image : Conditions (image-at frame formulas (side (t .negated)) (w .a)) frame formulas effects notes t e (size-of s) before after scratch s2 f
+      image : Conditions (image-at frame formulas (side (t .negated)) (w .a)) frame formulas effects notes (size-of s) before after s2 f
       image =
           conditions-of-images (steady-image-at frame formulas (side (t .negated)) (w .a)) (x .asks .noted) (x .asks .effect-memo) y
 
       pub under-full :
-          f .full ≡ true → Climbs over frame formulas effects notes notes t e (frame .effects) (size-of s) before after scratch s2 f
+          f .full ≡ true → Climbs over frame formulas effects notes notes (frame .effects) (size-of s) before after s2 f
       under-full k =
           record {
             conditions =
@@ -172,7 +165,7 @@ module _ {frame : Frame} {formulas effects notes : List ℕ} {t : Target} {s : S
         pub under-done :
             {notes' : List ℕ} {last : Store} {z : Step}
             → Joined frame notes notes' t e (t .negated) (size-of f) (f .row) (s .row) after last z
-            → Climbs over frame formulas effects notes notes' t e (frame .effects) (size-of s) before last scratch s2 z
+            → Climbs over frame formulas effects notes notes' (frame .effects) (size-of s) before last s2 z
         under-done j =
             let flag : t .negated ≡ false → eqb (row-at effects e .kind) 3 ≡ t .negated =
             λ p. ne-eqb (row-at effects e .kind) 3 (λ z. omega (arith, z, x .under)) ∙ sym p in
@@ -187,34 +180,6 @@ module _ {frame : Frame} {formulas effects notes : List ℕ} {t : Target} {s : S
 
 -- The right effect d of row e, with the condition s of the left one.
 module _ {frame : Frame} {formulas effects notes : List ℕ} {t : Target} {s : Step} {before : Store} {scratch : List ℕ} {e d n : ℕ} (x : AsksRight frame formulas effects notes t s before scratch e d n) where
-  pub right-in-set : InSet frame (t .variable) d
-  right-in-set =
-      let a = x .asks in
-      record {
-        variables = omega (arith, a .ready .variables);
-        limit = a .effect-source .limit;
-        variable = a .variable;
-        effect = a .effect;
-      }
-
-  -- it lacks the atom
-  pub right-lacks :
-      true ≡ lacks frame notes (t .clear) (t .variable) d
-      → Climbs (right-of frame formulas effects t d (s .row)) frame formulas effects notes notes t d n (size-of s) before before scratch scratch s
-  unfolding right-of give
-  right-lacks h =
-      let a = x .asks in
-      let idle = a .noted .sets .alone formulas (t .clear) (t .variable) d (a .variable) (a .effect) (sym h) .idle t refl refl in
-      record {
-        conditions =
-            conditions-as
-            (ap (λ (m : Build ℕ). bind m (λ r. join (side (not (t .negated))) (s .row) r)) idle
-            ∙ rw (← (side-not (t .negated))) (skipped-right (side (t .negated)) (s .row)))
-            (conditions-leaf {at = size-of s} {before = before} {after = before} {r = s} (steady-give (s .row)) (a .noted) (a .memo) (a .effect-memo)
-            (builds-done (x .going) (record { value = refl; state = refl; ready = a .ready; below = x .left; grew = omega arith })));
-        stays = stays-refl frame notes n;
-      }
-
   join-looks : {notes' : List ℕ} → length notes' ≡ length notes → Looks frame notes' e
   join-looks {notes'} long =
       let k = looks {notes' = notes'} (x .asks) long in
@@ -240,7 +205,7 @@ module _ {frame : Frame} {formulas effects notes : List ℕ} {t : Target} {s : S
     pub right-known :
         {notes' : List ℕ} {last : Store} {z : Step}
         → Joined frame notes notes' t e (not (t .negated)) (size-of s) (s .row) w before last z
-        → Climbs (right-of frame formulas effects t d (s .row)) frame formulas effects notes notes' t d n (size-of s) before last scratch scratch z
+        → Climbs (right-of frame formulas effects t d (s .row)) frame formulas effects notes notes' n (size-of s) before last scratch z
     unfolding right-of
     right-known j =
         let a = x .asks in
@@ -253,10 +218,10 @@ module _ {frame : Frame} {formulas effects notes : List ℕ} {t : Target} {s : S
         }
 
   -- it is built
-  module _ {notes' : List ℕ} {after : Store} {s2 : List ℕ} {r : Step} (y : Climbs (condition-at frame formulas effects t d) frame formulas effects notes notes' t d n (size-of s) before after scratch s2 r) where
+  module _ {notes' : List ℕ} {after : Store} {s2 : List ℕ} {r : Step} (y : Climbs (condition-at frame formulas effects t d) frame formulas effects notes notes' n (size-of s) before after s2 r) where
     pub right-full :
         r .full ≡ true
-        → Climbs (right-of frame formulas effects t d (s .row)) frame formulas effects notes notes' t d n (size-of s) before after scratch s2 r
+        → Climbs (right-of frame formulas effects t d (s .row)) frame formulas effects notes notes' n (size-of s) before after s2 r
     unfolding right-of
     right-full g =
         record {
@@ -281,7 +246,7 @@ module _ {frame : Frame} {formulas effects notes : List ℕ} {t : Target} {s : S
       pub right-done :
           {notes'' : List ℕ} {last : Store} {z : Step}
           → Joined frame notes' notes'' t e (not (t .negated)) (size-of r) (s .row) (r .row) after last z
-          → Climbs (right-of frame formulas effects t d (s .row)) frame formulas effects notes notes'' t d n (size-of s) before last scratch s2 z
+          → Climbs (right-of frame formulas effects t d (s .row)) frame formulas effects notes notes'' n (size-of s) before last s2 z
       unfolding right-of
       right-done j =
           let c = y .conditions in
@@ -294,140 +259,169 @@ module _ {frame : Frame} {formulas effects notes : List ℕ} {t : Target} {s : S
           }
 
 pub steady-onward :
-    (frame : Frame) (formulas effects : List ℕ) (t : Target) (right : Bool) (e l : ℕ) → Steady (onward frame formulas effects t right e l)
+    (frame : Frame) (formulas effects : List ℕ) (t : Target) (pass : Bool) (e l : ℕ) → Steady (onward frame formulas effects t pass e l)
 unfolding onward right-of
-steady-onward frame formulas effects t right e l =
-    steady-cond right (steady-give l)
+steady-onward frame formulas effects t pass e l =
+    steady-cond pass (steady-give l)
     (steady-cond (eqb (row-at effects e .kind) 3)
     (steady-bind (steady-condition-at frame formulas effects t (row-at effects e .b)) (λ r. steady-join (side (not (t .negated))) l r))
     (steady-guarded (frame .variables) (side (t .negated)) (tree frame formulas (row-at effects e .a)) l))
 
--- Row e, with the condition s of its spine.
-module _ {frame : Frame} {formulas effects notes : List ℕ} {t : Target} {s : Step} {before : Store} {scratch : List ℕ} {right : Bool} {e n : ℕ} (x : AsksOnward frame formulas effects notes t s before scratch right e n) where
-  spine-within : s .row < s .rows
+-- Row e, with the condition s of the row to which the way goes.
+module _ {frame : Frame} {formulas effects notes : List ℕ} {t : Target} {s : Step} {before : Store} {scratch : List ℕ} {pass : Bool} {e n : ℕ} (x : AsksOnward frame formulas effects notes t s before scratch pass e n) where
+  row-within : s .row < s .rows
   unfolding held
-  spine-within =
+  row-within =
       let b : s .row < length (upto (s .rows) (row-at (before .table))) = x .known .below in
       rw (length-upto (s .rows) (row-at (before .table))) at b
 
-  -- the way went to the right
-  pub climbs-right :
-      right ≡ true
-      → Climbs (onward frame formulas effects t right e (s .row)) frame formulas effects notes notes t e n (size-of s) before before scratch scratch s
+  -- it is passed
+  climbs-pass :
+      pass ≡ true
+      → Climbs (onward frame formulas effects t pass e (s .row)) frame formulas effects notes notes n (size-of s) before before scratch s
   unfolding onward give
-  climbs-right went =
+  climbs-pass went =
       let a = x .below .asks in
       record {
         conditions =
             conditions-as (rw went)
             (conditions-leaf (steady-give (s .row)) (a .noted) (a .memo) (a .effect-memo)
-            (builds-done (x .going) (record { value = refl; state = refl; ready = a .ready; below = spine-within; grew = omega arith })));
+            (builds-done (x .going) (record { value = refl; state = refl; ready = a .ready; below = row-within; grew = omega arith })));
         stays = stays-refl frame notes n;
       }
 
-  -- with the words w
-  module _ (left : right ≡ false) (w : Words) (q : row-of w ≡ row-at effects e) where
-    kind-read : w .kind ≡ row-at effects e .kind
-    kind-read = ap (λ (r : Row). r .kind) q
+  -- it is not
+  module _ (left : pass ≡ false) where
+    pub asks-on : AsksOnward frame formulas effects notes t s before scratch false e n
+    asks-on = rw left at x
 
-    module _ (three : w .kind ≡ 3) where
-      pub right-lower : w .b < e
-      right-lower =
-          omega
-          (arith, ap (λ (r : Row). r .b) q, both-lower frame formulas effects scratch (x .below .asks .effect-source) e (x .below .asks .effect) (sym kind-read ∙ three) .1)
-
-      pub right-asks : AsksRight frame formulas effects notes t s before scratch e (w .b) n
-      right-asks =
-          let a = x .below .asks in
-          record {
-            asks =
-                record {
-                  source = a .source;
-                  effect-source = a .effect-source;
-                  ready = a .ready;
-                  noted = a .noted;
-                  memo = a .memo;
-                  effect-memo = a .effect-memo;
-                  variable = a .variable;
-                  effect = omega (arith, a .effect, right-lower);
-                };
-            effect = a .effect;
-            both = sym kind-read ∙ three;
-            left = spine-within;
-            going = x .going;
-            room = omega (arith, x .below .room, right-lower);
-          }
-
-      pub climbs-both :
-          {notes' : List ℕ} {after : Store} {s2 : List ℕ} {r : Step}
-          → Climbs (right-of frame formulas effects t (w .b) (s .row)) frame formulas effects notes notes' t (w .b) n (size-of s) before after scratch s2 r
-          → Climbs (onward frame formulas effects t right e (s .row)) frame formulas effects notes notes' t e n (size-of s) before after scratch s2 r
-      unfolding onward
-      climbs-both y =
-          record {
-            conditions =
-                conditions-as
-                (rw (left, eq-eqb (row-at effects e .kind) 3 (sym kind-read ∙ three))
-                (ap (λ (r : Row). right-of frame formulas effects t (r .b) (s .row)) (sym q)))
-                (conditions-wider (omega (arith, right-lower)) (y .conditions));
-            stays = y .stays;
-          }
-
-    module _ (other : w .kind ≡ 3 → ⊥) where
-      pub under-asks : AsksUnder frame formulas effects notes t s before scratch e
-      under-asks =
-          let a = x .below .asks in
-          record {
-            asks = a;
-            under = under-else frame formulas effects scratch (a .effect-source) e (a .effect) (x .below .composed) (λ k. other (kind-read ∙ k));
-            inner = spine-within;
-            going = x .going;
-          }
-
-      pub climbs-under :
-          {notes' : List ℕ} {after : Store} {s2 : List ℕ} {r : Step}
-          → Climbs (guarded (frame .variables) (side (t .negated)) (tree frame formulas (row-at effects e .a)) (s .row)) frame formulas effects notes notes' t e (frame .effects) (size-of s) before after scratch s2 r
-          → Climbs (onward frame formulas effects t right e (s .row)) frame formulas effects notes notes' t e n (size-of s) before after scratch s2 r
-      unfolding onward
-      climbs-under y =
-          record {
-            conditions = conditions-as (rw (left, ne-eqb (row-at effects e .kind) 3 (λ k. other (kind-read ∙ k)))) (y .conditions);
-            stays = stays-fewer frame (omega (arith, x .below .room)) (y .stays);
-          }
+    pub climbs-on :
+        {notes' : List ℕ} {after : Store} {s2 : List ℕ} {r : Step}
+        → Climbs (onward frame formulas effects t false e (s .row)) frame formulas effects notes notes' n (size-of s) before after s2 r
+        → Climbs (onward frame formulas effects t pass e (s .row)) frame formulas effects notes notes' n (size-of s) before after s2 r
+    climbs-on {notes'} {after} {s2} {r} y = rw left y
 
   -- what is left is built: row e's condition is known
   onward-known :
       {notes' : List ℕ} {after : Store} {s2 : List ℕ} {r : Step}
-      → Conditions (onward frame formulas effects t right e (s .row)) frame formulas effects notes' t e (size-of s) before after scratch s2 r
+      → Conditions (onward frame formulas effects t pass e (s .row)) frame formulas effects notes' (size-of s) before after s2 r
       → r .full ≡ false
       → Known (condition-at frame formulas effects t e) (held (size-of r) after) (r .row)
   unfolding bind
   onward-known {after = after} {r = r} y g =
-      let a = x .below .asks in
       let d = y .builds .done g in
-      let steady = steady-onward frame formulas effects t right e (s .row) in
-      let first = known-grows (steady-condition-at frame formulas effects t (spine effects right e)) (done-grows steady d) (x .known) in
+      let steady = steady-onward frame formulas effects t pass e (s .row) in
+      let first = known-grows (steady-condition-at frame formulas effects t (x .row)) (done-grows steady d) (x .known) in
       let then = done-known steady d in
       record {
         again =
-            ap (λ (m : Build ℕ). m (held (size-of r) after))
-            (of-spine frame formulas effects scratch (a .effect-source) e (a .effect) t right (x .skips) (x .below .composed))
+            ap (λ (m : Build ℕ). m (held (size-of r) after)) (x .leads .reads formulas)
             ∙ rw (first .again) (then .again);
         below = then .below;
       }
 
-  pub raised :
-      {notes' notes'' : List ℕ} {after : Store} {s2 : List ℕ} {r : Step}
-      → Climbs (onward frame formulas effects t right e (s .row)) frame formulas effects notes notes' t e n (size-of s) before after scratch s2 r
+  -- what keeping it asks, and that it is kept
+  pub kept-asks :
+      {notes' s2 : List ℕ}
+      → length notes' ≡ length notes
       → length s2 ≡ length scratch
-      → Keeps frame notes' notes'' t e r
-      → Climbs (onward frame formulas effects t right e (s .row)) frame formulas effects notes notes'' t e n (size-of s) before after scratch
-      (noted s2 (2 * frame .formulas + e) r) r
-  raised {after = after} {s2 = s2} {r = r} y long keeps =
+      → AsksKept frame notes' s2 t e
+  kept-asks {notes'} {s2} wide long =
       let a = x .below .asks in
       record {
-        conditions =
-            conditions-noted frame formulas effects t (size-of s) before after scratch s2 e r (a .effect)
-            (omega (arith, a .effect-source .memo, a .effect, long)) (onward-known (y .conditions)) (y .conditions) keeps;
+        looks = looks a wide;
+        variable = a .variable;
+        formulas = a .source .limit;
+        memo = omega (arith, a .effect-source .memo, long);
+      }
+
+  pub raised :
+      {notes' notes'' : List ℕ} {after : Store} {s2 s3 : List ℕ} {r : Step}
+      → Climbs (onward frame formulas effects t pass e (s .row)) frame formulas effects notes notes' n (size-of s) before after s2 r
+      → Keeps frame notes' notes'' s2 s3 t e (r .row)
+      → Climbs (onward frame formulas effects t pass e (s .row)) frame formulas effects notes notes'' n (size-of s) before after s3 r
+  raised y keeps =
+      record {
+        conditions = conditions-kept (onward-known (y .conditions)) (y .conditions) keeps;
         stays = stays-trans frame (y .stays) (stays-fewer frame (omega (arith, x .below .room)) (keeps .stays));
       }
+
+  pub raised-pass :
+      {notes' s2 : List ℕ}
+      → pass ≡ true
+      → Keeps frame notes notes' scratch s2 t e (s .row)
+      → Climbs (onward frame formulas effects t pass e (s .row)) frame formulas effects notes notes' n (size-of s) before before s2 s
+  raised-pass went keeps = raised (climbs-pass went) keeps
+
+  pub pass-small : s .row < 4096
+  pass-small = let m = x .below .asks .ready in omega (arith, row-within, m .rows .within, m .rows .limit)
+
+-- Row e, which is not passed, with the words w.
+module _ {frame : Frame} {formulas effects notes : List ℕ} {t : Target} {s : Step} {before : Store} {scratch : List ℕ} {e n : ℕ} (x : AsksOnward frame formulas effects notes t s before scratch false e n) (w : Words) (q : row-of w ≡ row-at effects e) where
+  kind-read : w .kind ≡ row-at effects e .kind
+  kind-read = ap (λ (r : Row). r .kind) q
+
+  module _ (three : w .kind ≡ 3) where
+    pub right-lower : w .b < e
+    right-lower =
+        omega
+        (arith, ap (λ (r : Row). r .b) q, both-lower frame formulas effects scratch (x .below .asks .effect-source) e (x .below .asks .effect) (sym kind-read ∙ three) .1)
+
+    pub right-asks : AsksRight frame formulas effects notes t s before scratch e (w .b) n
+    right-asks =
+        let a = x .below .asks in
+        record {
+          asks =
+              record {
+                source = a .source;
+                effect-source = a .effect-source;
+                ready = a .ready;
+                noted = a .noted;
+                memo = a .memo;
+                effect-memo = a .effect-memo;
+                variable = a .variable;
+                effect = omega (arith, a .effect, right-lower);
+              };
+          effect = a .effect;
+          both = sym kind-read ∙ three;
+          left = row-within x;
+          going = x .going;
+          room = omega (arith, x .below .room, right-lower);
+        }
+
+    pub climbs-both :
+        {notes' : List ℕ} {after : Store} {s2 : List ℕ} {r : Step}
+        → Climbs (right-of frame formulas effects t (w .b) (s .row)) frame formulas effects notes notes' n (size-of s) before after s2 r
+        → Climbs (onward frame formulas effects t false e (s .row)) frame formulas effects notes notes' n (size-of s) before after s2 r
+    unfolding onward
+    climbs-both y =
+        record {
+          conditions =
+              conditions-as
+              (rw (eq-eqb (row-at effects e .kind) 3 (sym kind-read ∙ three))
+              (ap (λ (r : Row). right-of frame formulas effects t (r .b) (s .row)) (sym q)))
+              (y .conditions);
+          stays = y .stays;
+        }
+
+  module _ (other : w .kind ≡ 3 → ⊥) where
+    pub under-asks : AsksUnder frame formulas effects notes t s before scratch e
+    under-asks =
+        let a = x .below .asks in
+        record {
+          asks = a;
+          under = under-else frame formulas effects scratch (a .effect-source) e (a .effect) (x .below .composed) (λ k. other (kind-read ∙ k));
+          inner = row-within x;
+          going = x .going;
+        }
+
+    pub climbs-under :
+        {notes' : List ℕ} {after : Store} {s2 : List ℕ} {r : Step}
+        → Climbs (guarded (frame .variables) (side (t .negated)) (tree frame formulas (row-at effects e .a)) (s .row)) frame formulas effects notes notes' (frame .effects) (size-of s) before after s2 r
+        → Climbs (onward frame formulas effects t false e (s .row)) frame formulas effects notes notes' n (size-of s) before after s2 r
+    unfolding onward
+    climbs-under y =
+        record {
+          conditions = conditions-as (rw (ne-eqb (row-at effects e .kind) 3 (λ k. other (kind-read ∙ k)))) (y .conditions);
+          stays = stays-fewer frame (omega (arith, x .below .room)) (y .stays);
+        }

@@ -1,89 +1,115 @@
 -- The path while it goes down: each turn writes an entry, and the notes stay right. Assumes nothing.
-use Prim.Native.Nat.{ℕ, _+_, _-_, _≤_, _<_}
+use Prim.Native.Nat.{ℕ, _+_, _-_, _*_, _/_, _≤_, _<_}
 use native.Mathlib.Omega.{arith}
-use native.Mathlib.Decide.{ℕ-discrete}
+use native.Mathlib.Decide.{ℕ-discrete, decLt}
 use mathlib.Core.Path.{_≡_, refl, sym, ap, _∙_}
-use mathlib.Core.Bool.{Bool, true, false, true≢false}
+use mathlib.Core.Bool.{true, false}
 use mathlib.Core.List.{List}
 use lib.ListN.{length, getD, set, length-set}
 use lib.Seq.{getD-set-same, getD-set-other}
-use borrow.Author.Tests.{eq-eqb, ne-eqb, lt-ltb, le-ltb}
+use borrow.Author.Tests.{lt-ltb, le-ltb}
 use Rattle.task.specs.Table.{Row, row-at}
-use Rattle.normal_form.specs.Builder.{St}
+use Rattle.normal_form.specs.Builder.{St, give, falsity}
 use Rattle.formula_builder.specs.declared.Words.{Words}
 use Rattle.formula_builder.specs.declared.Frame.{Frame}
-use Rattle.formula_builder.specs.Held.{row-of}
+use Rattle.formula_builder.specs.Held.{row-of, side}
 use Rattle.atom_sets.specs.Sets.{sets-end, lacks, InSet}
 use Rattle.atom_sets.proofs.Places.{sets-behind}
 use Rattle.conditions.specs.declared.Target.{Target}
-use Rattle.conditions.specs.Conditions.{AtomSets, Noted, path-at}
-use Rattle.conditions.specs.Paths.{spine, entry-row, entry-right, Skips, AsksSeen, Sees, Follows, AsksTurn, AsksDescent, Descending, Descended}
-use Rattle.conditions.proofs.Rows.{both-lower, spine-lower}
+use Rattle.conditions.specs.Conditions.{condition-at, AtomSets, Noted, path-at}
+use Rattle.conditions.specs.Paths.{Leads, entry-row, entry-pass, AsksSeen, Sees, Follows, AsksTurn, Turns, AsksDescent, Descending, Descended}
+use Rattle.conditions.proofs.Rows.{both-lower, known-kind, leads-under, leads-both, leads-right, leads-left}
 use Rattle.conditions.proofs.Notes.{sets-stay, columns-stay, kept-stay, joins-stay, stays-refl}
 
--- the spine by a row's words
-pub spine-right : (effects : List ℕ) (e : ℕ) (w : Words) (right : Bool) → row-of w ≡ row-at effects e → right ≡ true → w .b ≡ spine effects right e
-unfolding spine
-spine-right effects e w right q went = rw went (ap (λ (r : Row). r .b) q)
+-- The way from row e, by its words w.
+module _ {frame : Frame} {effects notes : List ℕ} {t : Target} {e : ℕ} (a : AsksTurn frame effects notes t e) (w : Words) (q : row-of w ≡ row-at effects e) where
+  kind-read : row-at effects e .kind ≡ w .kind
+  kind-read = ap (λ (r : Row). r .kind) (sym q)
 
-pub spine-both :
-    (effects : List ℕ) (e : ℕ) (w : Words) (right : Bool) → row-of w ≡ row-at effects e → right ≡ false → w .kind ≡ 3 → w .a ≡ spine effects right e
-unfolding spine
-spine-both effects e w right q went k =
-    rw (went, eq-eqb (row-at effects e .kind) 3 (ap (λ (r : Row). r .kind) (sym q) ∙ k)) (ap (λ (r : Row). r .a) q)
+  -- to a row without the flag, and with it
+  plain-word : (i : ℕ) → i < e → Leads frame effects t false e i → Turns frame effects t e i
+  plain-word i low x =
+      let small : i < 8192 = omega (arith, low, a .effect, a .source .limit) in
+      let row : entry-row i ≡ i = omega arith in
+      record { small = omega arith; leads = rw (row, le-ltb 8191 i (omega arith)) x }
 
-pub spine-under :
-    (effects : List ℕ) (e : ℕ) (w : Words) (right : Bool)
-    → row-of w ≡ row-at effects e
-    → right ≡ false
-    → (w .kind ≡ 3 → ⊥)
-    → w .b ≡ spine effects right e
-unfolding spine
-spine-under effects e w right q went k =
-    rw (went, ne-eqb (row-at effects e .kind) 3 (λ z. k (ap (λ (r : Row). r .kind) q ∙ z))) (ap (λ (r : Row). r .b) q)
+  pass-word : (i : ℕ) → i < e → Leads frame effects t true e i → Turns frame effects t e (i + 8192)
+  pass-word i low x =
+      let small : i < 8192 = omega (arith, low, a .effect, a .source .limit) in
+      let row : entry-row (i + 8192) ≡ i = omega arith in
+      record { small = omega arith; leads = rw (row, lt-ltb 8191 (i + 8192) (omega arith)) x }
 
--- the way by a row's words
-pub skips-none : (frame : Frame) (effects : List ℕ) (t : Target) (e : ℕ) → Skips frame effects t false e
-skips-none frame effects t e =
-    record { both = λ q. absurd (true≢false (sym q)); idle = λ formulas q. absurd (true≢false (sym q)) }
+  pub turns-under : w .kind ≡ 4 → Turns frame effects t e (w .b)
+  turns-under k =
+      let x = leads-under frame effects (a .scratch) (a .source) e (a .effect) t (kind-read ∙ k) in
+      let y : Leads frame effects t false e (w .b) = rw (ap (λ (r : Row). r .b) q) x in
+      plain-word (w .b) (y .lower) y
 
-pub turn-in-set :
-    {frame : Frame} {effects notes : List ℕ} {t : Target} {e : ℕ} (w : Words)
-    → AsksTurn frame effects notes t e
-    → row-of w ≡ row-at effects e
-    → w .kind ≡ 3
-    → InSet frame (t .variable) (w .a)
-turn-in-set w a q k =
-    let low = a .lower (ap (λ (r : Row). r .kind) (sym q) ∙ k) in
-    record {
-      variables = a .variables;
-      limit = a .limit;
-      variable = a .variable;
-      effect = omega (arith, low, a .effect, ap (λ (r : Row). r .a) q);
-    }
+  module _ (other : w .kind ≡ 4 → ⊥) where
+    three : row-at effects e .kind ≡ 3
+    three =
+        let most = known-kind frame effects effects (a .scratch) (a .source) e (a .effect) (λ z. other (sym kind-read ∙ z)) in
+        omega (arith, most, a .composed)
 
-pub skips-lacked :
-    {frame : Frame} {effects notes : List ℕ} {t : Target} {e : ℕ} (w : Words) (b : Bool)
-    → AsksTurn frame effects notes t e
-    → row-of w ≡ row-at effects e
-    → w .kind ≡ 3
-    → b ≡ lacks frame notes (t .clear) (t .variable) (w .a)
-    → Skips frame effects t b e
-skips-lacked {frame} {effects} {notes} {t} {e} w b a q k h =
-    record {
-      both = λ _. ap (λ (r : Row). r .kind) (sym q) ∙ k;
-      idle = λ formulas g.
-          let there = turn-in-set w a q k .effect in
-          rw (← (ap (λ (r : Row). r .a) q))
-          (a .sets .alone formulas (t .clear) (t .variable) (w .a) (a .variable) there (sym h ∙ g) .idle t refl refl);
-    }
+    lower : (w .a < e) × (w .b < e)
+    lower =
+        let l = both-lower frame effects effects (a .scratch) (a .source) e (a .effect) three in
+        (omega (arith, l .0, ap (λ (r : Row). r .a) q), omega (arith, l .1, ap (λ (r : Row). r .b) q))
+
+    in-set : (i : ℕ) → i < e → InSet frame (t .variable) i
+    in-set i low =
+        record { variables = a .variables; limit = a .source .limit; variable = a .variable; effect = omega (arith, low, a .effect) }
+
+    pub left-in-set : InSet frame (t .variable) (w .a)
+    left-in-set = in-set (w .a) (lower .0)
+
+    pub right-in-set : InSet frame (t .variable) (w .b)
+    right-in-set = in-set (w .b) (lower .1)
+
+    -- what lacks the atom folds away
+    idle :
+        (i : ℕ)
+        → i < e
+        → true ≡ lacks frame notes (t .clear) (t .variable) i
+        → (formulas : List ℕ)
+        → condition-at frame formulas effects t i ≡ give (falsity (side (t .negated)))
+    idle i low h formulas =
+        a .sets .alone formulas (t .clear) (t .variable) i (a .variable) (omega (arith, low, a .effect)) (sym h) .idle t refl refl
+
+    pub turns-right : true ≡ lacks frame notes (t .clear) (t .variable) (w .a) → Turns frame effects t e (w .b + 8192)
+    turns-right h =
+        let x =
+        leads-right frame effects (a .scratch) (a .source) e (a .effect) t three
+        (rw (ap (λ (r : Row). r .a) q) at (idle (w .a) (lower .0) h)) in
+        pass-word (w .b) (lower .1) (rw (ap (λ (r : Row). r .b) q) x)
+
+    pub turns-left : true ≡ lacks frame notes (t .clear) (t .variable) (w .b) → Turns frame effects t e (w .a + 8192)
+    turns-left h =
+        let x =
+        leads-left frame effects (a .scratch) (a .source) e (a .effect) t three
+        (rw (ap (λ (r : Row). r .b) q) at (idle (w .b) (lower .1) h)) in
+        pass-word (w .a) (lower .0) (rw (ap (λ (r : Row). r .a) q) x)
+
+    pub turns-both : Turns frame effects t e (w .a)
+    turns-both =
+        let x = leads-both frame effects (a .scratch) (a .source) e (a .effect) t three in
+        plain-word (w .a) (lower .0) (rw (ap (λ (r : Row). r .a) q) x)
 
 -- an entry is read as it was written
-pub entry-turned : (i : ℕ) → i < 8192 → (entry-row (i + 8192) ≡ i) × (entry-right (i + 8192) ≡ true)
-entry-turned i h = (omega arith, lt-ltb 8191 (i + 8192) (omega arith))
-
-pub entry-plain : (i : ℕ) → i < 8192 → (entry-row i ≡ i) × (entry-right i ≡ false)
-entry-plain i h = (omega arith, le-ltb 8191 i (omega arith))
+pub entry-written :
+    (i n : ℕ)
+    → i < 8192
+    → n < 16384
+    → (entry-row (i + n / 8192 * 8192) ≡ i) × (entry-pass (i + n / 8192 * 8192) ≡ entry-pass n)
+entry-written i n h g = go (decLt 8191 n)
+  where
+    go : Dec (8191 < n) → (entry-row (i + n / 8192 * 8192) ≡ i) × (entry-pass (i + n / 8192 * 8192) ≡ entry-pass n)
+    go (yes l) =
+        let one : n / 8192 ≡ 1 = omega arith in
+        rw one (omega arith, lt-ltb 8191 (i + 8192) (omega arith) ∙ sym (lt-ltb 8191 n l))
+    go (no l) =
+        let none : n / 8192 ≡ 0 = omega arith in
+        rw none (omega arith, le-ltb 8191 (i + 0) (omega arith) ∙ sym (le-ltb 8191 n (omega arith)))
 
 -- where an entry is read
 pub path-read :
@@ -132,6 +158,20 @@ module _ (frame : Frame) (notes : List ℕ) (base depth w : ℕ) (q : base ≡ l
       rw (length-set notes (base + depth) w, ← q)
       (getD-set-other notes (base + depth) (base + d) w 0 (λ z. other (omega (arith, z))))
 
+-- a row at depth d, by the entry before it alone
+pub follows-as :
+    {frame : Frame} {effects notes notes' : List ℕ} {t : Target} {from e d i j : ℕ}
+    → (from < d → path-at frame notes' (d - 1) ≡ path-at frame notes (d - 1))
+    → j ≡ i
+    → Follows frame effects notes t from e d i
+    → Follows frame effects notes' t from e d j
+follows-as same q f =
+    record {
+      first = λ z. q ∙ f .first z;
+      next = λ g. rw (same g, q) (f .next g);
+      falls = omega (arith, f .falls, q);
+    }
+
 -- The first turn.
 pub descending-none :
     {frame : Frame} {effects notes scratch : List ℕ} {t : Target} {e from : ℕ}
@@ -144,8 +184,6 @@ descending-none {frame} {effects} {notes} {scratch} {t} {e} {from} a =
             begins = omega arith;
             last = record { first = λ q. refl; next = λ h. absurd (omega (arith, h)); falls = omega arith };
             entries = λ d g h. absurd (omega (arith, g, h));
-            composed = λ d g h. absurd (omega (arith, g, h));
-            skips = λ d g h. absurd (omega (arith, g, h));
           };
       sees = record { known = λ formulas at before b h. absurd (omega (arith, h)); composed = λ _. a .composed };
       stays = stays-refl frame notes from;
@@ -161,130 +199,95 @@ module _ {frame : Frame} {effects notes notes' scratch : List ℕ} {t : Target} 
   pub descending-long : length notes' ≡ length notes
   descending-long = x .stays .long
 
-  module _ (none : known ≡ 0) where
-    pub descending-turn : AsksTurn frame effects notes' t i
-    descending-turn =
+  pub descending-turn : known ≡ 0 → AsksTurn frame effects notes' t i
+  descending-turn none =
+      record {
+        scratch = scratch;
+        source = a .seen .source;
+        sets = x .sets;
+        variables = a .seen .kept .looks .variables;
+        variable = a .seen .kept .variable;
+        effect = omega (arith, descending-room);
+        composed = x .sees .composed none;
+      }
+
+  -- on to the row of word n, with the entry w
+  module _ (n : ℕ) (on : Turns frame effects t i n) (base w : ℕ) (q : base ≡ length notes' - frame .effects) where
+    pub descending-asks : AsksSeen frame effects (set notes' (base + depth) w) scratch t (entry-row n)
+    descending-asks =
         record {
-          words = a .seen .source .words;
-          limit = a .seen .source .limit;
-          variables = a .seen .looks .variables;
-          sets = x .sets;
-          variable = a .variable;
-          effect = omega (arith, descending-room);
-          lower = λ k. both-lower frame effects effects scratch (a .seen .source) i (omega (arith, descending-room)) k .0;
+          source = a .seen .source;
+          kept =
+              record {
+                looks =
+                    record {
+                      words = omega (arith, length-set notes' (base + depth) w, x .stays .long, a .seen .kept .looks .words);
+                      limit = a .seen .kept .looks .limit;
+                      variables = a .seen .kept .looks .variables;
+                      effect = omega (arith, descending-room, on .leads .lower);
+                    };
+                variable = a .seen .kept .variable;
+                formulas = a .seen .kept .formulas;
+                memo = a .seen .kept .memo;
+              };
         }
 
-    module _ (right : Bool) where
-      pub descending-falls : spine effects right i < i
-      descending-falls =
-          spine-lower frame effects effects scratch (a .seen .source) i (omega (arith, descending-room)) right (x .sees .composed none)
+    module _ (written : (entry-row w ≡ i) × (entry-pass w ≡ entry-pass n)) where
+      words : sets-end frame + frame .effects ≤ length notes'
+      words = omega (arith, x .stays .long, a .seen .kept .looks .words)
 
-      module _ (base w : ℕ) (q : base ≡ length notes' - frame .effects) where
-        pub descending-asks : AsksSeen frame effects (set notes' (base + depth) w) scratch (spine effects right i)
-        descending-asks =
-            record {
-              source = a .seen .source;
-              looks =
-                  record {
-                    words = omega (arith, length-set notes' (base + depth) w, x .stays .long, a .seen .looks .words);
-                    limit = a .seen .looks .limit;
-                    variables = a .seen .looks .variables;
-                    effect = omega (arith, descending-room, descending-falls);
-                  };
-              formulas = a .seen .formulas;
-            }
+      there : path-at frame (set notes' (base + depth) w) depth ≡ w
+      there = path-there frame notes' base depth w q (omega (arith, words)) (omega (arith, descending-room))
 
-        module _ (skips : Skips frame effects t right i) (written : (entry-row w ≡ i) × (entry-right w ≡ right)) where
-          words : sets-end frame + frame .effects ≤ length notes'
-          words = omega (arith, x .stays .long, a .seen .looks .words)
+      elsewhere : (d : ℕ) → d < depth → path-at frame (set notes' (base + depth) w) d ≡ path-at frame notes' d
+      elsewhere d h = path-elsewhere frame notes' base depth w q (omega (arith, words)) d (λ z. omega (arith, z, h))
 
-          there : path-at frame (set notes' (base + depth) w) depth ≡ w
-          there = path-there frame notes' base depth w q (omega (arith, words)) (omega (arith, descending-room))
+      there-row : entry-row (path-at frame (set notes' (base + depth) w) depth) ≡ i
+      there-row = ap (λ v. entry-row v) there ∙ written .0
 
-          elsewhere : (d : ℕ) → d < depth → path-at frame (set notes' (base + depth) w) d ≡ path-at frame notes' d
-          elsewhere d h = path-elsewhere frame notes' base depth w q (omega (arith, words)) d (λ z. omega (arith, z, h))
+      there-pass : entry-pass (path-at frame (set notes' (base + depth) w) depth) ≡ entry-pass n
+      there-pass = ap (λ v. entry-pass v) there ∙ written .1
 
-          there-row : entry-row (path-at frame (set notes' (base + depth) w) depth) ≡ i
-          there-row = ap (λ v. entry-row v) there ∙ written .0
+      entry :
+          (d : ℕ)
+          → from ≤ d
+          → d < depth + 1
+          → Dec (d ≡ depth)
+          → Follows frame effects (set notes' (base + depth) w) t from e d (entry-row (path-at frame (set notes' (base + depth) w) d))
+      entry d g h (yes z) =
+          rw z (follows-as (λ k. elsewhere (depth - 1) (omega (arith, k))) there-row (x .descent .last))
+      entry d g h (no z) =
+          follows-as (λ k. elsewhere (d - 1) (omega (arith, h, z, k))) (ap (λ v. entry-row v) (elsewhere d (omega (arith, h, z))))
+          (x .descent .entries d g (omega (arith, h, z)))
 
-          there-right : entry-right (path-at frame (set notes' (base + depth) w) depth) ≡ right
-          there-right = ap (λ v. entry-right v) there ∙ written .1
-
-          -- row j at depth d, with the new entry
-          follows :
-              {d j k : ℕ}
-              → d ≤ depth
-              → k ≡ j
-              → Follows frame effects notes' from e d j
-              → Follows frame effects (set notes' (base + depth) w) from e d k
-          follows {d} {j} {k} h same f =
-              record {
-                first = λ z. same ∙ f .first z;
-                next = λ g.
-                    same ∙ f .next g ∙ ap (λ v. spine effects (entry-right v) (entry-row v)) (sym (elsewhere (d - 1) (omega (arith, g, h))));
-                falls = omega (arith, f .falls, same);
-              }
-
-          entry :
-              (d : ℕ)
-              → from ≤ d
-              → d < depth + 1
-              → Dec (d ≡ depth)
-              → Follows frame effects (set notes' (base + depth) w) from e d (entry-row (path-at frame (set notes' (base + depth) w) d))
-          entry d g h (yes z) = rw z (follows (omega arith) there-row (x .descent .last))
-          entry d g h (no z) =
-              follows (omega arith) (ap (λ v. entry-row v) (elsewhere d (omega (arith, h, z)))) (x .descent .entries d g (omega (arith, h, z)))
-
-          entry-composed :
-              (d : ℕ)
-              → from ≤ d
-              → d < depth + 1
-              → Dec (d ≡ depth)
-              → 3 ≤ row-at effects (entry-row (path-at frame (set notes' (base + depth) w) d)) .kind
-          entry-composed d g h (yes z) = rw (z, there-row) (x .sees .composed none)
-          entry-composed d g h (no z) =
-              rw (elsewhere d (omega (arith, h, z))) (x .descent .composed d g (omega (arith, h, z)))
-
-          entry-skips :
-              (d : ℕ)
-              → from ≤ d
-              → d < depth + 1
-              → Dec (d ≡ depth)
-              → Skips frame effects t (entry-right (path-at frame (set notes' (base + depth) w) d)) (entry-row (path-at frame (set notes' (base + depth) w) d))
-          entry-skips d g h (yes z) = rw (z, there-row, there-right) skips
-          entry-skips d g h (no z) =
-              rw (elsewhere d (omega (arith, h, z))) (x .descent .skips d g (omega (arith, h, z)))
-
-          pub descending-more :
-              {v : ℕ}
-              → Sees frame effects (set notes' (base + depth) w) scratch t (spine effects right i) v
-              → Descending frame effects notes (set notes' (base + depth) w) scratch t e from (depth + 1) (spine effects right i) v
-          descending-more sees =
-              record {
-                descent =
-                    record {
-                      begins = omega (arith, x .descent .begins);
-                      last =
-                          record {
-                            first = λ z. absurd (omega (arith, z, x .descent .begins));
-                            next = λ h.
-                                let same : depth + 1 - 1 ≡ depth = omega arith in
-                                rw (same, there-row, there-right) refl;
-                            falls = omega (arith, descending-falls, x .descent .last .falls);
-                          };
-                      entries = λ d g h. entry d g h (ℕ-discrete d depth);
-                      composed = λ d g h. entry-composed d g h (ℕ-discrete d depth);
-                      skips = λ d g h. entry-skips d g h (ℕ-discrete d depth);
-                    };
-                sees = sees;
-                stays =
-                    record {
-                      long = length-set notes' (base + depth) w ∙ x .stays .long;
-                      same = λ d h. elsewhere d (omega (arith, h, x .descent .begins)) ∙ x .stays .same d h;
-                    };
-                sets = sets-path frame notes' (base + depth) w (omega (arith, q)) words (x .sets);
-                noted = λ formulas s n. noted-path frame notes' (base + depth) w (omega (arith, q)) words (x .noted formulas s n);
-              }
+      pub descending-more :
+          {v : ℕ}
+          → Sees frame effects (set notes' (base + depth) w) scratch t (entry-row n) v
+          → Descending frame effects notes (set notes' (base + depth) w) scratch t e from (depth + 1) (entry-row n) v
+      descending-more sees =
+          record {
+            descent =
+                record {
+                  begins = omega (arith, x .descent .begins);
+                  last =
+                      record {
+                        first = λ z. absurd (omega (arith, z, x .descent .begins));
+                        next = λ h.
+                            let same : depth + 1 - 1 ≡ depth = omega arith in
+                            rw (same, there-row, there-pass) (on .leads);
+                        falls = omega (arith, on .leads .lower, x .descent .last .falls);
+                      };
+                  entries = λ d g h. entry d g h (ℕ-discrete d depth);
+                };
+            sees = sees;
+            stays =
+                record {
+                  long = length-set notes' (base + depth) w ∙ x .stays .long;
+                  same = λ d h. elsewhere d (omega (arith, h, x .descent .begins)) ∙ x .stays .same d h;
+                };
+            sets = sets-path frame notes' (base + depth) w (omega (arith, q)) words (x .sets);
+            noted = λ formulas s n. noted-path frame notes' (base + depth) w (omega (arith, q)) words (x .noted formulas s n);
+          }
 
   -- the last turn saw a condition
   pub descended : (known ≡ 0 → ⊥) → Descended frame effects notes notes' scratch t e from (record { depth = depth; known = known })

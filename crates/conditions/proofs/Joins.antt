@@ -220,12 +220,12 @@ module _ {frame : Frame} {notes : List ℕ} {t : Target} {e : ℕ} {or : Bool} {
 
   -- a step that leaves all but the last join
   pub conditions-joined :
-      {formulas effects notes' : List ℕ} {d : ℕ} {after : Store} {scratch : List ℕ} {x : Step}
+      {formulas effects notes' : List ℕ} {after : Store} {scratch : List ℕ} {x : Step}
       → JoinsAs frame formulas effects notes t e or at before
       → Memo frame formulas scratch (held at before)
-      → EffectMemo frame formulas effects t scratch (held at before)
+      → EffectMemo frame formulas effects scratch (held at before)
       → Joined frame notes notes' t e or at l r before after x
-      → Conditions (join (side or) l r) frame formulas effects notes' t d at before after scratch scratch x
+      → Conditions (join (side or) l r) frame formulas effects notes' at before after scratch x
   conditions-joined {formulas} {effects} a memo effect-memo j =
       let b = j .builds formulas effects a in
       let steady = steady-join (side or) l r in
@@ -234,5 +234,4 @@ module _ {frame : Frame} {notes : List ℕ} {t : Target} {e : ℕ} {or : Bool} {
         noted = j .noted formulas effects a;
         memo = λ q. memo-grows (done-grows steady (b .done q)) memo;
         effect-memo = λ q. effect-memo-grows (done-grows steady (b .done q)) (λ j h. refl) effect-memo;
-        rest = λ j h. refl;
       }

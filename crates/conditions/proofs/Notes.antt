@@ -19,7 +19,7 @@ use Rattle.formula_builder.specs.declared.Frame.{Frame}
 use Rattle.formula_builder.specs.declared.Size.{Size}
 use Rattle.formula_builder.specs.declared.Step.{Step}
 use Rattle.formula_builder.specs.Held.{Store, side, Builds}
-use Rattle.images.specs.Images.{Known, noted}
+use Rattle.images.specs.Images.{Known}
 use Rattle.images.proofs.Memos.{known-grows}
 use Rattle.atom_sets.specs.Sets.{sets-end}
 use Rattle.atom_sets.proofs.Places.{sets-behind, lacks-same}
@@ -182,7 +182,7 @@ pub byte-small : (b : Bool) → boolByte b ≤ 1
 byte-small true = omega arith
 byte-small false = omega arith
 
-byte-is : (b : Bool) → boolByte b ≡ cond b 1 0
+pub byte-is : (b : Bool) → boolByte b ≡ cond b 1 0
 byte-is true = refl
 byte-is false = refl
 
@@ -221,7 +221,7 @@ quotients n (suc c) (suc d) a b g h q =
     let x = quotients n c d a b g h (omega (arith, q)) in
     (ap suc (x .0), x .1)
 
-atoms : (v w : ℕ) (a b : Bool) → 2 * v + cond a 1 0 ≡ 2 * w + cond b 1 0 → (v ≡ w) × (a ≡ b)
+pub atoms : (v w : ℕ) (a b : Bool) → 2 * v + cond a 1 0 ≡ 2 * w + cond b 1 0 → (v ≡ w) × (a ≡ b)
 atoms v w true true q = (omega arith, refl)
 atoms v w false false q = (omega arith, refl)
 atoms v w true false q = absurd (omega (arith, q))
@@ -250,7 +250,7 @@ places-apart frame c d t u g h q =
     let y = atoms (t .variable) (u .variable) (t .clear) (u .clear) (x .1) in
     (x .0, y .0, y .1)
 
-same-condition :
+pub same-condition :
     (frame : Frame) (formulas effects : List ℕ) (t u : Target) (d e : ℕ)
     → t .negated ≡ u .negated
     → t .variable ≡ u .variable
@@ -332,30 +332,20 @@ module _ {frame : Frame} {notes : List ℕ} {t : Target} {e k : ℕ} (h : e < fr
           joins = joins-stay (λ j g h. earlier (r + 1) j (omega (arith, sets-behind frame))) (n .joins);
         }
 
-  pub recall-kept : Recalls frame notes t e (getD notes k 0)
-  recall-kept =
+  pub recall-kept : (scratch : List ℕ) → Recalls frame notes scratch t e (getD notes k 0)
+  recall-kept scratch =
       record {
-        known = λ formulas effects s n w.
+        known = λ formulas effects s n m w.
             n .kept .known t e (getD notes k 0 - 1) h (p .variable) (p .plain) (p .has-column)
             (rw (p .place) at (p .within))
             (ap (λ j. getD notes j 0) (sym (p .place)) ∙ omega (arith, w));
       }
 
-  pub keep-kept : (r : Step) → Keeps frame notes (noted notes k r) t e r
-  keep-kept r = go (r .full)
-    where
-      go : (b : Bool) → Keeps frame notes (cond b notes (set notes k (r .row + 1))) t e r
-      go true = record { stays = stays-refl frame notes (frame .effects); noted = λ formulas effects s now n. n }
-      go false =
-          record {
-            stays = stays-before frame notes k (r .row + 1) (frame .effects) (p .within);
-            noted = λ formulas effects s now n. kept-noted formulas effects s (r .row) now n;
-          }
-
--- no word
-pub recall-none : (frame : Frame) (notes : List ℕ) (t : Target) (e : ℕ) → Recalls frame notes t e 0
-recall-none frame notes t e = record { known = λ formulas effects s n w. absurd (omega (arith, w)) }
-
-pub keep-none : (frame : Frame) (notes : List ℕ) (t : Target) (e : ℕ) (r : Step) → Keeps frame notes notes t e r
-keep-none frame notes t e r =
-    record { stays = stays-refl frame notes (frame .effects); noted = λ formulas effects s now n. n }
+  pub keep-kept : (scratch : List ℕ) (row : ℕ) → Keeps frame notes (set notes k (row + 1)) scratch scratch t e row
+  keep-kept scratch row =
+      record {
+        stays = stays-before frame notes k (row + 1) (frame .effects) (p .within);
+        images = λ j g. refl;
+        noted = λ formulas effects s now n. kept-noted formulas effects s row now n;
+        effect-memo = λ formulas effects s now m. m;
+      }

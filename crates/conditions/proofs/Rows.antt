@@ -5,7 +5,6 @@ use native.Mathlib.Decide.{ℕ-discrete}
 use mathlib.Core.Path.{_≡_, refl, sym, ap, _∙_}
 use mathlib.Core.Bool.{Bool, true, false, cond, not}
 use mathlib.Core.List.{List}
-use lib.Dec.{eqb}
 use lib.ListN.{length, getD}
 use borrow.Author.Tests.{eq-eqb, ne-eqb}
 use Rattle.task.specs.Table.{row-at, effect-kind}
@@ -22,7 +21,7 @@ use Rattle.formula_builder.proofs.Steps.{join-left-false, join-right-false, joi
 use Rattle.images.specs.Images.{source-rows, tree}
 use Rattle.conditions.specs.declared.Target.{Target}
 use Rattle.conditions.specs.Conditions.{atom-of, acts, effect-rows, effect-tree, condition-at, EffectSource}
-use Rattle.conditions.specs.Paths.{spine, right-of, onward, Skips}
+use Rattle.conditions.specs.Paths.{right-of, onward, Leads}
 
 -- The condition of a row by its kind, over the formula f and the effects d and g that its words name.
 module _ (n : ℕ) (p : Polarity) (l : Atom) (a : ℕ) (f : Formula) (d g : Effect) where
@@ -84,11 +83,11 @@ skipped-left : (p : Polarity) (m : Build ℕ) → bind (give (falsity p)) (λ l.
 unfolding bind give
 skipped-left p m = ap (λ f. bind m f) (λ i r. join-skipped-left p r i)
 
-pub skipped-right : (p : Polarity) (l : ℕ) → bind (give (falsity p)) (λ r. join (opposite p) l r) ≡ give l
+skipped-right : (p : Polarity) (m : Build ℕ) → bind m (λ l. bind (give (falsity p)) (λ r. join (opposite p) l r)) ≡ bind m (λ l. give l)
 unfolding bind give
-skipped-right p l = join-skipped-right p l
+skipped-right p m = ap (λ f. bind m f) (λ i l. join-skipped-right p l i)
 
-pub side-not : (b : Bool) → opposite (side b) ≡ side (not b)
+side-not : (b : Bool) → opposite (side b) ≡ side (not b)
 side-not true = refl
 side-not false = refl
 
@@ -144,19 +143,6 @@ module _ (frame : Frame) (formulas effects scratch : List ℕ) (source : EffectS
       rule-held in
       omega (arith, m, four)
 
-  pub spine-lower : (right : Bool) → 3 ≤ row-at effects e .kind → spine effects right e < e
-  unfolding spine
-  spine-lower right c = go right (ℕ-discrete (row-at effects e .kind) 3)
-    where
-      go :
-          (right : Bool)
-          → Dec (row-at effects e .kind ≡ 3)
-          → cond right (row-at effects e .b) (cond (eqb (row-at effects e .kind) 3) (row-at effects e .a) (row-at effects e .b)) < e
-      go true (yes k) = both-lower k .1
-      go true (no k) = under-lower (under-else c k) .1
-      go false (yes k) = rw (eq-eqb (row-at effects e .kind) 3 k) (both-lower k .0)
-      go false (no k) = rw (ne-eqb (row-at effects e .kind) 3 k) (under-lower (under-else c k) .1)
-
   module _ (t : Target) where
     node : Build ℕ
     node =
@@ -198,31 +184,59 @@ module _ (frame : Frame) (formulas effects scratch : List ℕ) (source : EffectS
     unfolding node condition-at
     of-under k = unfolds ∙ under-condition (frame .variables) _ _ _ _ _ _ (row-at effects e .kind) k
 
-    -- first the spine, then what is left
-    pub of-spine :
-        (right : Bool)
-        → Skips frame effects t right e
-        → 3 ≤ row-at effects e .kind
-        → condition-at frame formulas effects t e
-        ≡ bind (condition-at frame formulas effects t (spine effects right e)) (λ l. onward frame formulas effects t right e l)
-    unfolding spine onward right-of pair
-    of-spine true s c =
-        of-both (s .both refl)
-        ∙ ap
-        (λ (m : Build ℕ).
-        bind m (λ l. bind (condition-at frame formulas effects t (row-at effects e .b)) (λ r. join (opposite (side (t .negated))) l r)))
-        (s .idle formulas refl)
-        ∙ skipped-left (side (t .negated)) (condition-at frame formulas effects t (row-at effects e .b))
-    of-spine false s c = go (ℕ-discrete (row-at effects e .kind) 3)
-      where
-        go :
-            Dec (row-at effects e .kind ≡ 3)
-            → condition-at frame formulas effects t e
-            ≡ bind
-            (condition-at frame formulas effects t (cond (eqb (row-at effects e .kind) 3) (row-at effects e .a) (row-at effects e .b)))
-            (λ l.
-            cond (eqb (row-at effects e .kind) 3)
-            (bind (condition-at frame formulas effects t (row-at effects e .b)) (λ r. join (side (not (t .negated))) l r))
-            (guarded (frame .variables) (side (t .negated)) (tree frame formulas (row-at effects e .a)) l))
-        go (yes k) = rw (eq-eqb (row-at effects e .kind) 3 k, ← (side-not (t .negated))) (of-both k)
-        go (no k) = rw (ne-eqb (row-at effects e .kind) 3 k) (of-under (under-else c k))
+-- The way by the row's kind: to what is under a formula, to the left effect of both, or to the one of both that does not fold away.
+module _ (frame : Frame) (effects scratch : List ℕ) (source : EffectSource frame effects scratch) (e : ℕ) (h : e < frame .effects) (t : Target) where
+  pub leads-under : row-at effects e .kind ≡ 4 → Leads frame effects t false e (row-at effects e .b)
+  unfolding onward
+  leads-under k =
+      record {
+        composed = omega (arith, k);
+        lower = under-lower frame effects effects scratch source e h k .1;
+        reads = λ formulas.
+            rw (ne-eqb (row-at effects e .kind) 3 (λ z. omega (arith, z, k))) (of-under frame formulas effects scratch source e h t k);
+      }
+
+  module _ (k : row-at effects e .kind ≡ 3) where
+    pub leads-both : Leads frame effects t false e (row-at effects e .a)
+    unfolding onward right-of pair
+    leads-both =
+        record {
+          composed = omega (arith, k);
+          lower = both-lower frame effects effects scratch source e h k .0;
+          reads = λ formulas.
+              rw (eq-eqb (row-at effects e .kind) 3 k, ← (side-not (t .negated))) (of-both frame formulas effects scratch source e h t k);
+        }
+
+    pub leads-right :
+        ((formulas : List ℕ) → condition-at frame formulas effects t (row-at effects e .a) ≡ give (falsity (side (t .negated))))
+        → Leads frame effects t true e (row-at effects e .b)
+    unfolding onward pair
+    leads-right idle =
+        record {
+          composed = omega (arith, k);
+          lower = both-lower frame effects effects scratch source e h k .1;
+          reads = λ formulas.
+              of-both frame formulas effects scratch source e h t k
+              ∙ ap
+              (λ (m : Build ℕ).
+              bind m (λ l. bind (condition-at frame formulas effects t (row-at effects e .b)) (λ r. join (opposite (side (t .negated))) l r)))
+              (idle formulas)
+              ∙ skipped-left (side (t .negated)) (condition-at frame formulas effects t (row-at effects e .b));
+        }
+
+    pub leads-left :
+        ((formulas : List ℕ) → condition-at frame formulas effects t (row-at effects e .b) ≡ give (falsity (side (t .negated))))
+        → Leads frame effects t true e (row-at effects e .a)
+    unfolding onward pair
+    leads-left idle =
+        record {
+          composed = omega (arith, k);
+          lower = both-lower frame effects effects scratch source e h k .0;
+          reads = λ formulas.
+              of-both frame formulas effects scratch source e h t k
+              ∙ ap
+              (λ (m : Build ℕ).
+              bind (condition-at frame formulas effects t (row-at effects e .a)) (λ l. bind m (λ r. join (opposite (side (t .negated))) l r)))
+              (idle formulas)
+              ∙ skipped-right (side (t .negated)) (condition-at frame formulas effects t (row-at effects e .a));
+        }

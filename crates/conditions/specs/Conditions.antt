@@ -50,12 +50,24 @@ unfoldable pub condition-at : Frame → List ℕ → List ℕ → Target → ℕ
 condition-at frame formulas effects t e =
     condition (frame .variables) (side (t .negated)) (atom-of t) (effect-tree frame formulas effects e)
 
--- Each word of the memo that is not 0 is the row that building gives now, plus 1.
-pub record EffectMemo (frame : Frame) (formulas effects : List ℕ) (t : Target) (scratch : List ℕ) (s : St) : Type 0 where
+-- the tag of a target
+unfoldable pub tag : Target → ℕ
+tag t = 2 * (2 * t .variable + cond (t .clear) 1 0) + cond (t .negated) 1 0 + 1
+
+-- where the memo has effect e: the row, and behind all of these the tag of the target for which it was built
+abbrev pub effect-place : Frame → ℕ → ℕ
+effect-place frame e = 2 * frame .formulas + e
+
+abbrev pub tag-place : Frame → ℕ → ℕ
+tag-place frame e = 2 * frame .formulas + e + frame .effects
+
+-- Each word of the memo that is not 0 is the row that building gives now for the target with the word's tag, plus 1.
+pub record EffectMemo (frame : Frame) (formulas effects scratch : List ℕ) (s : St) : Type 0 where
   pub known :
-      (e r : ℕ)
+      (t : Target) (e r : ℕ)
       → e < frame .effects
-      → getD scratch (2 * frame .formulas + e) 0 ≡ r + 1
+      → getD scratch (tag-place frame e) 0 ≡ tag t
+      → getD scratch (effect-place frame e) 0 ≡ r + 1
       → Known (condition-at frame formulas effects t e) s r
 
 -- The source keeps the rules of effects, and the scratch has two words for each behind the formulas'.
@@ -152,11 +164,19 @@ pub record KeptAt (frame : Frame) (notes : List ℕ) (t : Target) (e k : ℕ) : 
   pub place : k ≡ kept-place frame (column notes e) t
   pub within : k + frame .effects < length notes
 
--- Word w is 0, or what the notes keep of target t and row e.
-pub record Recalls (frame : Frame) (notes : List ℕ) (t : Target) (e w : ℕ) : Type 0 where
+-- What looking for the condition of target t and row e asks, and what keeping it asks.
+pub record AsksKept (frame : Frame) (notes scratch : List ℕ) (t : Target) (e : ℕ) : Type 0 where
+  pub looks : Looks frame notes e
+  pub variable : t .variable < frame .variables
+  pub formulas : frame .formulas ≤ 4096
+  pub memo : 2 * frame .formulas + 2 * frame .effects ≤ length scratch
+
+-- Word w is 0, or what notes or memo have of target t and row e.
+pub record Recalls (frame : Frame) (notes scratch : List ℕ) (t : Target) (e w : ℕ) : Type 0 where
   pub known :
       (formulas effects : List ℕ) (s : St)
       → Noted frame formulas effects notes s
+      → EffectMemo frame formulas effects scratch s
       → 0 < w
       → Known (condition-at frame formulas effects t e) s (w - 1)
 
@@ -169,14 +189,20 @@ pub record PathStays (frame : Frame) (notes notes' : List ℕ) (n : ℕ) : Type 
   pub long : length notes' ≡ length notes
   pub same : (d : ℕ) → d < n → path-at frame notes' d ≡ path-at frame notes d
 
--- The path stays as it is, and the notes stay right if row r is known as the condition of target t and row e.
-pub record Keeps (frame : Frame) (notes notes' : List ℕ) (t : Target) (e : ℕ) (r : Step) : Type 0 where
+-- The path and the memo of images stay as they are; notes and memo stay right if the row is known as the condition of target t and row e.
+pub record Keeps (frame : Frame) (notes notes' scratch scratch' : List ℕ) (t : Target) (e row : ℕ) : Type 0 where
   pub stays : PathStays frame notes notes' (frame .effects)
+  pub images : (j : ℕ) → j < 2 * frame .formulas → getD scratch' j 0 ≡ getD scratch j 0
   pub noted :
       (formulas effects : List ℕ) (s : St)
-      → Known (condition-at frame formulas effects t e) s (r .row)
+      → Known (condition-at frame formulas effects t e) s row
       → Noted frame formulas effects notes s
       → Noted frame formulas effects notes' s
+  pub effect-memo :
+      (formulas effects : List ℕ) (s : St)
+      → Known (condition-at frame formulas effects t e) s row
+      → EffectMemo frame formulas effects scratch s
+      → EffectMemo frame formulas effects scratch' s
 
 pub record Asks (frame : Frame) (formulas effects notes : List ℕ) (t : Target) (at : Size) (before : Store) (scratch : List ℕ) (e : ℕ) : Type 0 where
   pub source : Source frame formulas scratch
@@ -184,14 +210,13 @@ pub record Asks (frame : Frame) (formulas effects notes : List ℕ) (t : Target)
   pub ready : Ready frame at before
   pub noted : Noted frame formulas effects notes (held at before)
   pub memo : Memo frame formulas scratch (held at before)
-  pub effect-memo : EffectMemo frame formulas effects t scratch (held at before)
+  pub effect-memo : EffectMemo frame formulas effects scratch (held at before)
   pub variable : t .variable < frame .variables
   pub effect : e < frame .effects
 
--- A step with both memos and the notes: what lies behind effect e's word stays as it is.
-pub record Conditions (m : Build ℕ) (frame : Frame) (formulas effects notes' : List ℕ) (t : Target) (e : ℕ) (at : Size) (before after : Store) (scratch scratch' : List ℕ) (r : Step) : Type 0 where
+-- A step with both memos and the notes.
+pub record Conditions (m : Build ℕ) (frame : Frame) (formulas effects notes' : List ℕ) (at : Size) (before after : Store) (scratch' : List ℕ) (r : Step) : Type 0 where
   pub builds : Builds m frame at before after r
   pub noted : r .full ≡ false → Noted frame formulas effects notes' (held (size-of r) after)
   pub memo : r .full ≡ false → Memo frame formulas scratch' (held (size-of r) after)
-  pub effect-memo : r .full ≡ false → EffectMemo frame formulas effects t scratch' (held (size-of r) after)
-  pub rest : (j : ℕ) → 2 * frame .formulas + e < j → getD scratch' j 0 ≡ getD scratch j 0
+  pub effect-memo : r .full ≡ false → EffectMemo frame formulas effects scratch' (held (size-of r) after)

@@ -1,12 +1,11 @@
--- The way down the spine of an effect row and up again: what is seen of a row without building, the path, and what is left to build.
-use Prim.Native.Nat.{ℕ, _+_, _-_, _*_, _%_, _≤_, _<_}
+-- The way down from an effect row and up again: what is seen of a row without building, the path, and what is left to build.
+use Prim.Native.Nat.{ℕ, _+_, _-_, _%_, _≤_, _<_}
 use mathlib.Core.Path.{_≡_}
-use mathlib.Core.Bool.{Bool, true, false, cond, not}
+use mathlib.Core.Bool.{Bool, false, cond, not}
 use mathlib.Core.List.{List}
 use lib.Dec.{eqb, ltb}
-use lib.ListN.{length}
 use Rattle.task.specs.Table.{row-at}
-use Rattle.normal_form.specs.Builder.{St, Build, give, bind, join, falsity}
+use Rattle.normal_form.specs.Builder.{St, Build, give, bind, join}
 use Rattle.normal_form.specs.Conditions.{guarded}
 use Rattle.formula_builder.specs.declared.Frame.{Frame}
 use Rattle.formula_builder.specs.declared.Size.{Size}
@@ -15,38 +14,33 @@ use Rattle.formula_builder.specs.Held.{Store, held, size-of, side}
 use Rattle.images.specs.Images.{tree, Known}
 use Rattle.conditions.specs.declared.Target.{Target}
 use Rattle.conditions.specs.declared.Bottom.{Bottom}
-use Rattle.conditions.specs.Conditions.{condition-at, EffectSource, AtomSets, Noted, Looks, path-at, PathStays, Asks, Conditions}
-
--- the row that is built before row e: the inner one under a formula, the left one of both; the right one, if the left one does not matter
-unfoldable pub spine : List ℕ → Bool → ℕ → ℕ
-spine effects right e =
-    cond right (row-at effects e .b) (cond (eqb (row-at effects e .kind) 3) (row-at effects e .a) (row-at effects e .b))
+use Rattle.conditions.specs.Conditions.{condition-at, EffectSource, AtomSets, Noted, AsksKept, path-at, PathStays, Asks, Conditions}
 
 -- with l built: the condition of effect d, then the join
 unfoldable pub right-of : Frame → List ℕ → List ℕ → Target → ℕ → ℕ → Build ℕ
 right-of frame formulas effects t d l =
     bind (condition-at frame formulas effects t d) (λ r. join (side (not (t .negated))) l r)
 
--- with l built for its spine: what is left of the condition of effect e
+-- with l built for the row to which the way goes: what is left of the condition of effect e, nothing if e is passed
 unfoldable pub onward : Frame → List ℕ → List ℕ → Target → Bool → ℕ → ℕ → Build ℕ
-onward frame formulas effects t right e l =
-    cond right (give l)
+onward frame formulas effects t pass e l =
+    cond pass (give l)
     (cond (eqb (row-at effects e .kind) 3) (right-of frame formulas effects t (row-at effects e .b) l)
     (guarded (frame .variables) (side (t .negated)) (tree frame formulas (row-at effects e .a)) l))
 
--- If the way goes to the right, row e is both, and its left effect does not name the atom.
-pub record Skips (frame : Frame) (effects : List ℕ) (t : Target) (right : Bool) (e : ℕ) : Type 0 where
-  pub both : right ≡ true → row-at effects e .kind ≡ 3
-  pub idle :
+-- From row e, which names effects, the way goes to row i, which is lower: first the condition of i, then what is left.
+pub record Leads (frame : Frame) (effects : List ℕ) (t : Target) (pass : Bool) (e i : ℕ) : Type 0 where
+  pub composed : 3 ≤ row-at effects e .kind
+  pub lower : i < e
+  pub reads :
       (formulas : List ℕ)
-      → right ≡ true
-      → condition-at frame formulas effects t (row-at effects e .a) ≡ give (falsity (side (t .negated)))
+      → condition-at frame formulas effects t e
+      ≡ bind (condition-at frame formulas effects t i) (λ l. onward frame formulas effects t pass e l)
 
 -- What looking at row e asks.
-pub record AsksSeen (frame : Frame) (effects notes scratch : List ℕ) (e : ℕ) : Type 0 where
+pub record AsksSeen (frame : Frame) (effects notes scratch : List ℕ) (t : Target) (e : ℕ) : Type 0 where
   pub source : EffectSource frame effects scratch
-  pub looks : Looks frame notes e
-  pub formulas : frame .formulas ≤ 4096
+  pub kept : AsksKept frame notes scratch t e
 
 -- Word w is the row of effect e's condition, plus 1, which needs no building; or 0, and then e names effects.
 pub record Sees (frame : Frame) (effects notes scratch : List ℕ) (t : Target) (e w : ℕ) : Type 0 where
@@ -57,43 +51,44 @@ pub record Sees (frame : Frame) (effects notes scratch : List ℕ) (t : Target) 
       → Known (condition-at frame formulas effects t e) (held at before) (w - 1)
   pub composed : w ≡ 0 → 3 ≤ row-at effects e .kind
 
--- an entry of the path: its row, and 8192 more if the way goes to the right
+-- an entry of the path, and the row to which the way goes on: a row, and 8192 more if the row of the entry is passed
 abbrev pub entry-row : ℕ → ℕ
 entry-row w = w % 8192
 
-abbrev pub entry-right : ℕ → Bool
-entry-right w = ltb 8191 w
+abbrev pub entry-pass : ℕ → Bool
+entry-pass w = ltb 8191 w
 
--- At depth d stands row i: e where the path begins, else the spine of the entry before. Each is lower than the one before.
-pub record Follows (frame : Frame) (effects notes : List ℕ) (from e d i : ℕ) : Type 0 where
+-- At depth d stands row i: e where the path begins, else where the entry before leads. Each is lower than the one before.
+pub record Follows (frame : Frame) (effects notes : List ℕ) (t : Target) (from e d i : ℕ) : Type 0 where
   pub first : d ≡ from → i ≡ e
-  pub next : from < d → i ≡ spine effects (entry-right (path-at frame notes (d - 1))) (entry-row (path-at frame notes (d - 1)))
+  pub next : from < d → Leads frame effects t (entry-pass (path-at frame notes (d - 1))) (entry-row (path-at frame notes (d - 1))) i
   pub falls : i + d ≤ e + from
 
 -- The entries before depth lead from row e down to row i.
 pub record Descent (frame : Frame) (effects notes : List ℕ) (t : Target) (from depth e i : ℕ) : Type 0 where
   pub begins : from ≤ depth
-  pub last : Follows frame effects notes from e depth i
-  pub entries : (d : ℕ) → from ≤ d → d < depth → Follows frame effects notes from e d (entry-row (path-at frame notes d))
-  pub composed : (d : ℕ) → from ≤ d → d < depth → 3 ≤ row-at effects (entry-row (path-at frame notes d)) .kind
-  pub skips :
-      (d : ℕ) → from ≤ d → d < depth → Skips frame effects t (entry-right (path-at frame notes d)) (entry-row (path-at frame notes d))
+  pub last : Follows frame effects notes t from e depth i
+  pub entries : (d : ℕ) → from ≤ d → d < depth → Follows frame effects notes t from e d (entry-row (path-at frame notes d))
 
--- What choosing the way from row e asks.
+-- What choosing the way from row e asks. The code is not handed the scratch beside which the source stands.
 pub record AsksTurn (frame : Frame) (effects notes : List ℕ) (t : Target) (e : ℕ) : Type 0 where
-  pub words : 3 * frame .effects ≤ length effects
-  pub limit : frame .effects ≤ 4096
-  pub variables : frame .variables ≤ 512
+  pub scratch : List ℕ
+  pub source : EffectSource frame effects scratch
   pub sets : AtomSets frame effects notes
+  pub variables : frame .variables ≤ 512
   pub variable : t .variable < frame .variables
   pub effect : e < frame .effects
-  pub lower : row-at effects e .kind ≡ 3 → row-at effects e .a < e
+  pub composed : 3 ≤ row-at effects e .kind
+
+-- The way goes on to the row of word n.
+pub record Turns (frame : Frame) (effects : List ℕ) (t : Target) (e n : ℕ) : Type 0 where
+  pub small : n < 16384
+  pub leads : Leads frame effects t (entry-pass n) e (entry-row n)
 
 -- Row e names effects, and the path has room for it and for all below it.
 pub record AsksDescent (frame : Frame) (effects notes scratch : List ℕ) (t : Target) (e from : ℕ) : Type 0 where
-  pub seen : AsksSeen frame effects notes scratch e
+  pub seen : AsksSeen frame effects notes scratch t e
   pub sets : AtomSets frame effects notes
-  pub variable : t .variable < frame .variables
   pub composed : 3 ≤ row-at effects e .kind
   pub room : e + from < frame .effects
 
@@ -133,21 +128,22 @@ pub record AsksUnder (frame : Frame) (formulas effects notes : List ℕ) (t : Ta
   pub inner : s .row < s .rows
   pub going : s .full ≡ false
 
--- With s built for its spine: what is asked for row e.
-pub record AsksOnward (frame : Frame) (formulas effects notes : List ℕ) (t : Target) (s : Step) (before : Store) (scratch : List ℕ) (right : Bool) (e from : ℕ) : Type 0 where
+-- With s built for the row to which the way from row e goes: what is asked for e.
+pub record AsksOnward (frame : Frame) (formulas effects notes : List ℕ) (t : Target) (s : Step) (before : Store) (scratch : List ℕ) (pass : Bool) (e from : ℕ) : Type 0 where
   pub below : AsksBelow frame formulas effects notes t (size-of s) before scratch e from
   pub going : s .full ≡ false
-  pub skips : Skips frame effects t right e
-  pub known : Known (condition-at frame formulas effects t (spine effects right e)) (held (size-of s) before) (s .row)
+  pub row : ℕ
+  pub leads : Leads frame effects t pass e row
+  pub known : Known (condition-at frame formulas effects t row) (held (size-of s) before) (s .row)
 
 -- A step that leaves the entries before entry n of the path.
-pub record Climbs (m : Build ℕ) (frame : Frame) (formulas effects notes notes' : List ℕ) (t : Target) (e n : ℕ) (at : Size) (before after : Store) (scratch scratch' : List ℕ) (r : Step) : Type 0 where
-  pub conditions : Conditions m frame formulas effects notes' t e at before after scratch scratch' r
+pub record Climbs (m : Build ℕ) (frame : Frame) (formulas effects notes notes' : List ℕ) (n : ℕ) (at : Size) (before after : Store) (scratch' : List ℕ) (r : Step) : Type 0 where
+  pub conditions : Conditions m frame formulas effects notes' at before after scratch' r
   pub stays : PathStays frame notes notes' n
 
 -- On the way up: the condition of the row at this depth is built.
-pub record Rising (frame : Frame) (formulas effects notes notes' : List ℕ) (t : Target) (e from depth : ℕ) (at : Size) (before after : Store) (scratch scratch' : List ℕ) (s : Step) : Type 0 where
+pub record Rising (frame : Frame) (formulas effects notes notes' : List ℕ) (t : Target) (e from depth : ℕ) (at : Size) (before after : Store) (scratch' : List ℕ) (s : Step) : Type 0 where
   pub row : ℕ
   pub descent : Descent frame effects notes' t from depth e row
-  pub climbs : Climbs (condition-at frame formulas effects t row) frame formulas effects notes notes' t e from at before after scratch scratch' s
+  pub climbs : Climbs (condition-at frame formulas effects t row) frame formulas effects notes notes' from at before after scratch' s
   pub going : s .full ≡ false

@@ -1,18 +1,17 @@
-// The condition of an effect: the builder goes down the spine of a row and up again, and recurses to the right effect of "both", which is
-// a lower row. Each row is built at most once for a target.
+// The condition of an effect: the builder goes down a path from a row and up again, and recurses to the right effect of "both", which is
+// a lower row. No row is built twice for one condition.
 use crate::Target;
 use crate::joined::joined;
 use crate::kept::keep;
 use crate::path::descend;
 use crate::seen::seen;
 use crate::under::under;
-use atom_sets::lacks;
 use formula_builder::Frame;
 use formula_builder::Size;
 use formula_builder::Step;
 use formula_builder::read_row;
 use formula_builder::standing;
-use images::note;
+ghost use mathlib.Core.Bool.{false};
 ghost use Rattle.formula_builder.specs.Held.{store, size-of};
 ghost use Rattle.conditions.specs.Conditions.{Asks, Conditions, condition-at};
 ghost use Rattle.conditions.specs.Paths.{right-of, onward, AsksBelow, AsksRight, AsksOnward, Climbs};
@@ -31,7 +30,7 @@ pub fn condition(
     scratch: &mut [u16],
 ) -> Step
     requires { ⌜ Asks frame (now formulas) (now effects) (now notes) t at (store (now table) (now originals)) (now scratch) e ⌝ }
-    ensures { λ r. ⌜ Conditions (condition-at frame (now (formulas .entry)) (now (effects .entry)) t e) frame (now (formulas .entry)) (now (effects .entry)) (now (notes .exit)) t e at (store (now (table .entry)) (now (originals .entry))) (store (now (table .exit)) (now (originals .exit))) (now (scratch .entry)) (now (scratch .exit)) r ⌝ }
+    ensures { λ r. ⌜ Conditions (condition-at frame (now (formulas .entry)) (now (effects .entry)) t e) frame (now (formulas .entry)) (now (effects .entry)) (now (notes .exit)) at (store (now (table .entry)) (now (originals .entry))) (store (now (table .exit)) (now (originals .exit))) (now (scratch .exit)) r ⌝ }
 {
     let known = seen(effects, notes, scratch, frame, t, e);
     if 0 < known {
@@ -52,7 +51,7 @@ pub fn condition(
     )
 }
 
-// The condition of effect e, which names effects: down its spine to a row whose condition is known, and up again. The path begins at entry `from`.
+// The condition of effect e, which names effects: down to a row whose condition is known, and up again. The path begins at entry `from`.
 fn below(
     formulas: &[u16],
     effects: &[u16],
@@ -67,7 +66,7 @@ fn below(
     scratch: &mut [u16],
 ) -> Step
     requires { ⌜ AsksBelow frame (now formulas) (now effects) (now notes) t at (store (now table) (now originals)) (now scratch) e from ⌝ }
-    ensures { λ r. ⌜ Climbs (condition-at frame (now (formulas .entry)) (now (effects .entry)) t e) frame (now (formulas .entry)) (now (effects .entry)) (now (notes .entry)) (now (notes .exit)) t e from at (store (now (table .entry)) (now (originals .entry))) (store (now (table .exit)) (now (originals .exit))) (now (scratch .entry)) (now (scratch .exit)) r ⌝ }
+    ensures { λ r. ⌜ Climbs (condition-at frame (now (formulas .entry)) (now (effects .entry)) t e) frame (now (formulas .entry)) (now (effects .entry)) (now (notes .entry)) (now (notes .exit)) from at (store (now (table .entry)) (now (originals .entry))) (store (now (table .exit)) (now (originals .exit))) (now (scratch .exit)) r ⌝ }
 {
     let bottom = descend(effects, notes, scratch, frame, t, e, from);
     let base = notes.len() - frame.effects;
@@ -77,13 +76,13 @@ fn below(
         depth -= 1;
         let w = notes[base + depth];
         let i = (w % 8192) as usize;
-        let right = 8191 < w;
+        let pass = 8191 < w;
         s = raise(
             formulas,
             effects,
             notes,
             i,
-            right,
+            pass,
             depth,
             t,
             frame,
@@ -99,13 +98,13 @@ fn below(
     s
 }
 
-// From the condition s of row e's spine to that of row e: memo and notes get it.
+// From the condition s of the row under row e on the path to that of row e, which is kept. If row e is passed, it is the same.
 fn raise(
     formulas: &[u16],
     effects: &[u16],
     notes: &mut [u16],
     e: usize,
-    right: bool,
+    pass: bool,
     from: usize,
     t: Target,
     frame: Frame,
@@ -114,15 +113,18 @@ fn raise(
     originals: &mut [u16],
     scratch: &mut [u16],
 ) -> Step
-    requires { ⌜ AsksOnward frame (now formulas) (now effects) (now notes) t s (store (now table) (now originals)) (now scratch) right e from ⌝ }
-    ensures { λ r. ⌜ Climbs (onward frame (now (formulas .entry)) (now (effects .entry)) t right e (s .row)) frame (now (formulas .entry)) (now (effects .entry)) (now (notes .entry)) (now (notes .exit)) t e from (size-of s) (store (now (table .entry)) (now (originals .entry))) (store (now (table .exit)) (now (originals .exit))) (now (scratch .entry)) (now (scratch .exit)) r ⌝ }
+    requires { ⌜ AsksOnward frame (now formulas) (now effects) (now notes) t s (store (now table) (now originals)) (now scratch) pass e from ⌝ }
+    ensures { λ r. ⌜ Climbs (onward frame (now (formulas .entry)) (now (effects .entry)) t pass e (s .row)) frame (now (formulas .entry)) (now (effects .entry)) (now (notes .entry)) (now (notes .exit)) from (size-of s) (store (now (table .entry)) (now (originals .entry))) (store (now (table .exit)) (now (originals .exit))) (now (scratch .exit)) r ⌝ }
 {
+    if pass {
+        keep(notes, scratch, frame, t, e, s.row);
+        return s;
+    }
     let r = above(
         formulas,
         effects,
         notes,
         e,
-        right,
         from,
         t,
         frame,
@@ -131,18 +133,19 @@ fn raise(
         originals,
         scratch,
     );
-    note(scratch, 2 * frame.formulas + e, r);
-    keep(notes, frame, t, e, r);
+    if r.full {
+        return r;
+    }
+    keep(notes, scratch, frame, t, e, r.row);
     r
 }
 
-// The same by the row's kind: the right effect and the join, or the formula; nothing, if the way went to the right.
+// What is left of a row that is not passed, by its kind: the right effect and the join, or the formula.
 fn above(
     formulas: &[u16],
     effects: &[u16],
     notes: &mut [u16],
     e: usize,
-    right: bool,
     from: usize,
     t: Target,
     frame: Frame,
@@ -151,12 +154,9 @@ fn above(
     originals: &mut [u16],
     scratch: &mut [u16],
 ) -> Step
-    requires { ⌜ AsksOnward frame (now formulas) (now effects) (now notes) t s (store (now table) (now originals)) (now scratch) right e from ⌝ }
-    ensures { λ r. ⌜ Climbs (onward frame (now (formulas .entry)) (now (effects .entry)) t right e (s .row)) frame (now (formulas .entry)) (now (effects .entry)) (now (notes .entry)) (now (notes .exit)) t e from (size-of s) (store (now (table .entry)) (now (originals .entry))) (store (now (table .exit)) (now (originals .exit))) (now (scratch .entry)) (now (scratch .exit)) r ⌝ }
+    requires { ⌜ AsksOnward frame (now formulas) (now effects) (now notes) t s (store (now table) (now originals)) (now scratch) false e from ⌝ }
+    ensures { λ r. ⌜ Climbs (onward frame (now (formulas .entry)) (now (effects .entry)) t false e (s .row)) frame (now (formulas .entry)) (now (effects .entry)) (now (notes .entry)) (now (notes .exit)) from (size-of s) (store (now (table .entry)) (now (originals .entry))) (store (now (table .exit)) (now (originals .exit))) (now (scratch .exit)) r ⌝ }
 {
-    if right {
-        return s;
-    }
     let w = read_row(effects, e);
     if w.kind == 3 {
         let d = w.b as usize;
@@ -189,8 +189,7 @@ fn above(
     )
 }
 
-// The condition of row e's right effect d, then the join with that of the left one, s. Nothing is built if d lacks the atom, and nothing is called
-// for d if its condition is known.
+// The condition of row e's right effect d, then the join with that of the left one, s. Nothing is called for d if its condition is known.
 fn both(
     formulas: &[u16],
     effects: &[u16],
@@ -206,11 +205,8 @@ fn both(
     scratch: &mut [u16],
 ) -> Step
     requires { ⌜ AsksRight frame (now formulas) (now effects) (now notes) t s (store (now table) (now originals)) (now scratch) e d from ⌝ }
-    ensures { λ r. ⌜ Climbs (right-of frame (now (formulas .entry)) (now (effects .entry)) t d (s .row)) frame (now (formulas .entry)) (now (effects .entry)) (now (notes .entry)) (now (notes .exit)) t d from (size-of s) (store (now (table .entry)) (now (originals .entry))) (store (now (table .exit)) (now (originals .exit))) (now (scratch .entry)) (now (scratch .exit)) r ⌝ }
+    ensures { λ r. ⌜ Climbs (right-of frame (now (formulas .entry)) (now (effects .entry)) t d (s .row)) frame (now (formulas .entry)) (now (effects .entry)) (now (notes .entry)) (now (notes .exit)) from (size-of s) (store (now (table .entry)) (now (originals .entry))) (store (now (table .exit)) (now (originals .exit))) (now (scratch .exit)) r ⌝ }
 {
-    if lacks(notes, frame, t.clear, t.variable as usize, d) {
-        return s;
-    }
     let at = Size {
         rows: s.rows,
         twins: s.twins,

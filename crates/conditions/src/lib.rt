@@ -1,8 +1,9 @@
-// The condition under which an effect sets or clears a variable, by the effect's row number, with a memo in lent scratch:
-// word 2F + e for effect e, the row that was built plus 1, or 0. The memo serves one target. The notes serve all operators: word e is the
-// column of effect e, the three words from E + 3e on are its last join, behind those stand the sets of atoms, and behind these each column above 0
-// keeps the conditions that were built, two words for each variable. The last E words of the notes are for the path from a row down its spine: from
-// "both" to the left effect, or to the right one if the atom does not stand in the left one; from a formula to the effect under it.
+// The condition under which an effect sets or clears a variable, by the effect's row number. What is built is kept, and stays right for all
+// operators. The notes: word e is the column of effect e, the three words from E + 3e on are its last join, behind those stand the sets of
+// atoms, and behind these each column above 0 keeps plain conditions of its row, two words for each variable. A condition that has no word there
+// is kept in a memo in lent scratch: word 2F + e is the row that was built for effect e, plus 1, and word 2F + E + e is the tag of the target for
+// which it was. The last E words of the notes are for the path from a row down: from a formula to the effect under it, from "both" to the left
+// effect, or to the only one that has the atom.
 mod cycle;
 mod joined;
 mod kept;

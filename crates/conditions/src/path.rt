@@ -1,4 +1,4 @@
-// The way down the spine of a row. Entry d of the path is word d of the last E words of the notes.
+// The way down from a row to one whose condition is known. Entry d of the path is word d of the last E words of the notes.
 use crate::Bottom;
 use crate::Target;
 use crate::seen::seen;
@@ -6,46 +6,34 @@ use atom_sets::lacks;
 use formula_builder::Frame;
 use formula_builder::read_row;
 ghost use mathlib.Core.Path.{_≡_};
-ghost use Prim.Native.Nat.{_+_, _*_, _≤_, _<_};
-ghost use lib.ListN.{length};
-ghost use Rattle.conditions.specs.Paths.{spine, entry-row, entry-right, Skips, AsksTurn, AsksDescent, Descended};
+ghost use Prim.Native.Nat.{_<_};
+ghost use Rattle.conditions.specs.Paths.{entry-row, entry-pass, AsksTurn, Turns, AsksDescent, Descended};
 
-// Whether the way from row e goes to the right: e is both, and its left effect lacks the atom.
-fn goes_right(effects: &[u16], notes: &[u16], frame: Frame, t: Target, e: usize) -> bool
+// The row to which the way from row e goes on: the one under a formula, the left one of both. 8192 more if row e is passed: it is both, and the
+// other of its two effects lacks the atom. Constant cost.
+fn next_of(effects: &[u16], notes: &[u16], frame: Frame, t: Target, e: usize) -> u16
     requires { ⌜ AsksTurn frame (now effects) (now notes) t e ⌝ }
-    ensures { λ r. ⌜ Skips frame (now (effects .entry)) t r e ⌝ }
+    ensures { λ n. ⌜ Turns frame (now (effects .entry)) t e n ⌝ }
 {
     let w = read_row(effects, e);
-    if w.kind != 3 {
-        return false;
+    if w.kind == 4 {
+        return w.b;
     }
-    lacks(notes, frame, t.clear, t.variable as usize, w.a as usize)
+    if lacks(notes, frame, t.clear, t.variable as usize, w.a as usize) {
+        return w.b + 8192;
+    }
+    if lacks(notes, frame, t.clear, t.variable as usize, w.b as usize) {
+        return w.a + 8192;
+    }
+    w.a
 }
 
-// The row that is built before row e: the inner one under a formula, one of both.
-fn spine_of(effects: &[u16], right: bool, e: usize) -> usize
-    requires { ⌜ 3 * e + 3 ≤ length (now effects) ⌝ }
-    ensures { λ r. ⌜ r ≡ spine (now (effects .entry)) right e ⌝ }
+// The entry of row i, from which the way goes on to n: 8192 more if i is passed.
+fn entry(i: usize, n: u16) -> u16
+    requires { ⌜ (i < 8192) × (n < 16384) ⌝ }
+    ensures { λ w. ⌜ (entry-row w ≡ i) × (entry-pass w ≡ entry-pass n) ⌝ }
 {
-    let w = read_row(effects, e);
-    if right {
-        return w.b as usize;
-    }
-    if w.kind == 3 {
-        return w.a as usize;
-    }
-    w.b as usize
-}
-
-// An entry of the path: 8192 more if the way goes to the right.
-fn entry(i: usize, right: bool) -> u16
-    requires { ⌜ i < 8192 ⌝ }
-    ensures { λ w. ⌜ (entry-row w ≡ i) × (entry-right w ≡ right) ⌝ }
-{
-    if right {
-        return (i + 8192) as u16;
-    }
-    i as u16
+    i as u16 + n / 8192 * 8192
 }
 
 // From row e, which names effects, down to the first row whose condition is known. Entry `from` is e. At most e steps.
@@ -66,10 +54,10 @@ pub fn descend(
     let mut i = e;
     let mut known = 0;
     while known == 0 {
-        let right = goes_right(effects, notes, frame, t, i);
-        notes[base + depth] = entry(i, right);
+        let n = next_of(effects, notes, frame, t, i);
+        notes[base + depth] = entry(i, n);
         depth += 1;
-        i = spine_of(effects, right, i);
+        i = (n % 8192) as usize;
         known = seen(effects, notes, scratch, frame, t, i);
     }
     Bottom { depth, known }

@@ -8,7 +8,7 @@ use formula_builder::read_row;
 use formula_builder::truth;
 ghost use Rattle.conditions.specs.Paths.{AsksSeen, Sees};
 
-// The row of effect e's condition plus 1, if memo or notes have it, or e is no more than an atom; else 0.
+// The row of effect e's condition plus 1, if it is kept, or e is no more than an atom; else 0.
 pub fn seen(
     effects: &[u16],
     notes: &[u16],
@@ -17,14 +17,10 @@ pub fn seen(
     t: Target,
     e: usize,
 ) -> u16
-    requires { ⌜ AsksSeen frame (now effects) (now notes) (now scratch) e ⌝ }
+    requires { ⌜ AsksSeen frame (now effects) (now notes) (now scratch) t e ⌝ }
     ensures { λ w. ⌜ Sees frame (now (effects .entry)) (now (notes .entry)) (now (scratch .entry)) t e w ⌝ }
 {
-    let known = scratch[2 * frame.formulas + e];
-    if 0 < known {
-        return known;
-    }
-    let kept = recall(notes, frame, t, e);
+    let kept = recall(notes, scratch, frame, t, e);
     if 0 < kept {
         return kept;
     }

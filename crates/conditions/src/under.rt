@@ -27,7 +27,7 @@ pub fn under(
     scratch: &mut [u16],
 ) -> Step
     requires { ⌜ AsksUnder frame (now formulas) (now effects) (now notes) t s (store (now table) (now originals)) (now scratch) e ⌝ }
-    ensures { λ r. ⌜ Climbs (guarded (frame .variables) (side (t .negated)) (tree frame (now (formulas .entry)) (row-at (now (effects .entry)) e .a)) (s .row)) frame (now (formulas .entry)) (now (effects .entry)) (now (notes .entry)) (now (notes .exit)) t e (frame .effects) (size-of s) (store (now (table .entry)) (now (originals .entry))) (store (now (table .exit)) (now (originals .exit))) (now (scratch .entry)) (now (scratch .exit)) r ⌝ }
+    ensures { λ r. ⌜ Climbs (guarded (frame .variables) (side (t .negated)) (tree frame (now (formulas .entry)) (row-at (now (effects .entry)) e .a)) (s .row)) frame (now (formulas .entry)) (now (effects .entry)) (now (notes .entry)) (now (notes .exit)) (frame .effects) (size-of s) (store (now (table .entry)) (now (originals .entry))) (store (now (table .exit)) (now (originals .exit))) (now (scratch .exit)) r ⌝ }
 {
     if s.row == falsity(t.negated) {
         return s;

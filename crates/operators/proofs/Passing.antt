@@ -197,17 +197,16 @@ module _ (frame : Frame) (formulas effects : List ℕ) (e : ℕ) where
 -- What is reached and recorded after one of them is so after the other.
 module _ {m m' : Build (List Changes)} (a : Alike m m') where
   pub reaches-alike :
-      {frame : Frame} {formulas : List ℕ} {at : Size} {before after : Store} {s1 s2 : List ℕ} {full : Bool} {next : Size}
-      → Reaches m' frame formulas at before after s1 s2 full next
-      → Reaches m frame formulas at before after s1 s2 full next
+      {frame : Frame} {formulas effects : List ℕ} {at : Size} {before after : Store} {scratch : List ℕ} {full : Bool} {next : Size}
+      → Reaches m' frame formulas effects at before after scratch full next
+      → Reaches m frame formulas effects at before after scratch full next
   reaches-alike {at = at} {before = before} x =
       let same = a .state (held at before) in
       record {
         done = λ q.
             let d = x .done q in
-            record { state = same ∙ d .state; ready = d .ready; memo = d .memo };
+            record { state = same ∙ d .state; ready = d .ready; memo = d .memo; effect-memo = d .effect-memo };
         over = λ q w. x .over q (rw same at w);
-        rest = x .rest;
       }
 
   pub recorded-alike :

@@ -1,12 +1,12 @@
 -- Walking over the variables of an operator. Assumes nothing.
-use Prim.Native.Nat.{ℕ, _+_, _*_, _≤_, _<_}
+use Prim.Native.Nat.{ℕ, _+_, _≤_, _<_}
 use native.Mathlib.Omega.{arith}
 use native.Mathlib.Numerals.{add-one}
 use mathlib.Core.Path.{_≡_, refl, sym, ap, _∙_}
 use mathlib.Core.Bool.{Bool, true, false, not, true≢false}
 use mathlib.Core.List.{List, [], _∷_, _++_}
 use lib.Dec.{eqb}
-use lib.ListN.{length, getD}
+use lib.ListN.{length}
 use Rattle.normal_form.specs.Builder.{St, give, bind, each, plain}
 use Rattle.normal_form.proofs.ShapeSizes.{each-grows}
 use Rattle.normal_form.specs.Operators.{Changes, changes-of}
@@ -21,7 +21,8 @@ use Rattle.images.specs.Images.{image-at, Images, Asks}
 use Rattle.images.proofs.Memos.{steady-image-at}
 use Rattle.conditions.specs.Conditions.{effect-tree, Unnamed, Noted}
 use Rattle.changes.specs.Stands.{Stands, StandsAt, Reaches, Makes, size-after, made}
-use Rattle.changes.proofs.Standing.{stands-next, stands-at-next, leaves-step}
+use Rattle.conditions.proofs.Memos.{conditions-of-images}
+use Rattle.changes.proofs.Standing.{stands-next, stands-at-next}
 use Rattle.atom_sets.specs.Sets.{lacks, InSet}
 use Rattle.changes.specs.declared.Change.{Change}
 use Rattle.records.specs.Recorded.{Keeps, Opens, Recorded}
@@ -34,15 +35,14 @@ use Rattle.operators.proofs.Passing.{not-false, stretch-passed, reaches
 makes-give :
     {A : Type 0} {frame : Frame} {formulas effects : List ℕ} {at : Size} {s : Store} {scratch : List ℕ} (x : A)
     → Stands frame formulas effects at s scratch
-    → Makes (give x) frame formulas at s s scratch scratch false at x
+    → Makes (give x) frame formulas effects at s s scratch false at x
 unfolding give
 makes-give x a =
     record {
       reaches =
           record {
-            done = λ _. record { state = refl; ready = a .ready; memo = a .memo };
+            done = λ _. record { state = refl; ready = a .ready; memo = a .memo; effect-memo = a .effect-memo };
             over = λ e w. absurd (true≢false (sym e));
-            rest = λ j h. refl;
           };
       value = λ _. refl;
     }
@@ -56,7 +56,7 @@ module _ (frame : Frame) (formulas effects : List ℕ) (e : ℕ) where
   changes-none :
       {at : Size} {s : Store} {scratch : List ℕ}
       → Stands frame formulas effects at s scratch
-      → Reaches (all-changes frame formulas effects e 0) frame formulas at s s scratch scratch false at
+      → Reaches (all-changes frame formulas effects e 0) frame formulas effects at s s scratch false at
   unfolding all-changes each
   changes-none a = makes-give [] a .reaches
 
@@ -67,11 +67,11 @@ module _ (frame : Frame) (formulas effects : List ℕ) (e : ℕ) where
   unfolding all-changes each give
   none-recorded at s from l = recorded-none from l
 
-  module _ {at : Size} {before mid : Store} {s1 s2 : List ℕ} {here : Size} (v : ℕ) (x : Reaches (all-changes frame formulas effects e v) frame formulas at before mid s1 s2 false here) where
+  module _ {at : Size} {before mid : Store} {s2 : List ℕ} {here : Size} (v : ℕ) (x : Reaches (all-changes frame formulas effects e v) frame formulas effects at before mid s2 false here) where
     changes-more :
         {after : Store} {s3 : List ℕ} {full : Bool} {next : Size}
-        → Reaches (changes-of (frame .variables) (effect-tree frame formulas effects e) v) frame formulas here mid after s2 s3 full next
-        → Reaches (all-changes frame formulas effects e (v + 1)) frame formulas at before after s1 s3 full next
+        → Reaches (changes-of (frame .variables) (effect-tree frame formulas effects e) v) frame formulas effects here mid after s3 full next
+        → Reaches (all-changes frame formulas effects e (v + 1)) frame formulas effects at before after s3 full next
     unfolding all-changes each bind give
     changes-more y =
         let step : St → St = λ t. changes-of (frame .variables) (effect-tree frame formulas effects e) v t .st in
@@ -80,15 +80,14 @@ module _ (frame : Frame) (formulas effects : List ℕ) (e : ℕ) where
         (record {
           done = λ q.
               let d = y .done q in
-              record { state = same ∙ d .state; ready = d .ready; memo = d .memo };
+              record { state = same ∙ d .state; ready = d .ready; memo = d .memo; effect-memo = d .effect-memo };
           over = λ q w. y .over q (rw same at w);
-          rest = λ j h. y .rest j h ∙ x .rest j h;
         })
 
     more-recorded :
         {after : Store} {s3 : List ℕ} {full : Bool} {next : Size} {from k to : ℕ} {l m n : List ℕ} (c : Change)
         → Recorded (all-changes frame formulas effects e v (held at before) .value) from l m k
-        → Makes (changes-of (frame .variables) (effect-tree frame formulas effects e) v) frame formulas here mid after s2 s3 full next (made v c)
+        → Makes (changes-of (frame .variables) (effect-tree frame formulas effects e) v) frame formulas effects here mid after s3 full next (made v c)
         → full ≡ false
         → Recorded (made v c ∷ []) k m n to
         → Recorded (all-changes frame formulas effects e (v + 1) (held at before) .value) from l n to
@@ -102,10 +101,10 @@ module _ (frame : Frame) (formulas effects : List ℕ) (e : ℕ) where
 
   -- no room for a part is no room for all
   changes-stop :
-      {at : Size} {before after : Store} {s1 s2 : List ℕ} {next last : Size} (v n : ℕ)
+      {at : Size} {before after : Store} {s2 : List ℕ} {next last : Size} (v n : ℕ)
       → v ≤ n
-      → Reaches (all-changes frame formulas effects e v) frame formulas at before after s1 s2 true next
-      → Reaches (all-changes frame formulas effects e n) frame formulas at before after s1 s2 true last
+      → Reaches (all-changes frame formulas effects e v) frame formulas effects at before after s2 true next
+      → Reaches (all-changes frame formulas effects e n) frame formulas effects at before after s2 true last
   unfolding all-changes
   changes-stop {at} {before} v n h x =
       record {
@@ -116,21 +115,20 @@ module _ (frame : Frame) (formulas effects : List ℕ) (e : ℕ) where
             (each-grows (changes-of (frame .variables) (effect-tree frame formulas effects e)) (held at before)
             (λ k. steady-changes (frame .variables) (effect-tree frame formulas effects e) k) v n h)
             w);
-        rest = x .rest;
       }
 
   all-walked :
-      {at : Size} {before after : Store} {s1 s2 : List ℕ} {from : ℕ} {l m : List ℕ} (r : Tally) (v n : ℕ)
+      {at : Size} {before after : Store} {s2 : List ℕ} {from : ℕ} {l m : List ℕ} (r : Tally) (v n : ℕ)
       → v ≡ n
-      → Reaches (all-changes frame formulas effects e v) frame formulas at before after s1 s2 (r .full) (size-behind r)
+      → Reaches (all-changes frame formulas effects e v) frame formulas effects at before after s2 (r .full) (size-behind r)
       → Recorded (all-changes frame formulas effects e v (held at before) .value) from l m (r .records)
-      → Walked (all-changes frame formulas effects e n) frame formulas at before after s1 s2 from l m r
+      → Walked (all-changes frame formulas effects e n) frame formulas effects at before after s2 from l m r
   all-walked r v n same x y = rw (sym same) (record { reaches = x; recorded = λ _. y })
 
 -- The loop's invariant: the changes of the variables below v are built and recorded.
-pub record Walking (frame : Frame) (formulas effects : List ℕ) (e : ℕ) (at : Size) (before mid : Store) (s1 s2 : List ℕ) (from : ℕ) (l m : List ℕ) (here : Size) (k v : ℕ) : Type 0 where
+pub record Walking (frame : Frame) (formulas effects : List ℕ) (e : ℕ) (at : Size) (before mid : Store) (s2 : List ℕ) (from : ℕ) (l m : List ℕ) (here : Size) (k v : ℕ) : Type 0 where
   pub below : v ≤ frame .variables
-  pub reaches : Reaches (all-changes frame formulas effects e v) frame formulas at before mid s1 s2 false here
+  pub reaches : Reaches (all-changes frame formulas effects e v) frame formulas effects at before mid s2 false here
   pub recorded : Recorded (all-changes frame formulas effects e v (held at before) .value) from l m k
   pub few : k ≤ from + v
 
@@ -158,10 +156,10 @@ module _ {frame : Frame} {formulas effects notes : List ℕ} {e : ℕ} {at : Siz
   -- on to the next variable of which an atom is named
   walking-on :
       {mid : Store} {s2 : List ℕ} {from : ℕ} {l m : List ℕ} {here : Size} {k v next : ℕ} {notes' : List ℕ} {t : St}
-      → Walking frame formulas effects e at before mid s1 s2 from l m here k v
+      → Walking frame formulas effects e at before mid s2 from l m here k v
       → Noted frame formulas effects notes' t
       → NextTouched frame notes' e v next
-      → Walking frame formulas effects e at before mid s1 s2 from l m here k next
+      → Walking frame formulas effects e at before mid s2 from l m here k next
   walking-on {v = v} {next = next} w noted n =
       let same =
       stretch-passed frame formulas effects e v next (n .above)
@@ -177,7 +175,7 @@ module _ {frame : Frame} {formulas effects notes : List ℕ} {e : ℕ} {at : Siz
   pub walking-begins :
       {from : ℕ} {l : List ℕ} {next : ℕ}
       → NextTouched frame notes e 0 next
-      → Walking frame formulas effects e at before before s1 s1 from l l at from next
+      → Walking frame formulas effects e at before before s1 from l l at from next
   walking-begins {from} {l} n =
       walking-on
       (record {
@@ -188,7 +186,7 @@ module _ {frame : Frame} {formulas effects notes : List ℕ} {e : ℕ} {at : Siz
       })
       (a .noted) n
 
-  module _ {mid : Store} {s2 : List ℕ} {from : ℕ} {l m : List ℕ} {here : Size} {k v : ℕ} (w : Walking frame formulas effects e at before mid s1 s2 from l m here k v) where
+  module _ {mid : Store} {s2 : List ℕ} {from : ℕ} {l m : List ℕ} {here : Size} {k v : ℕ} (w : Walking frame formulas effects e at before mid s2 from l m here k v) where
     -- what the change of variable v asks, whose bits say what is named, and what recording it asks
     pub walking-asks :
         {notes' : List ℕ} {sets clears : Bool}
@@ -215,13 +213,13 @@ module _ {frame : Frame} {formulas effects notes : List ℕ} {e : ℕ} {at : Siz
           limit = omega (arith, o .limit, w .few, w .below, a .stands .ready .variables);
         }
 
-    module _ {after : Store} {s3 : List ℕ} (c : Change) (y : Makes (changes-of (frame .variables) (effect-tree frame formulas effects e) v) frame formulas here mid after s2 s3 (c .full) (size-after c) (made v c)) where
+    module _ {after : Store} {s3 : List ℕ} (c : Change) (y : Makes (changes-of (frame .variables) (effect-tree frame formulas effects e) v) frame formulas effects here mid after s3 (c .full) (size-after c) (made v c)) where
       pub walking-stops :
           {n : List ℕ} {r : Tally}
           → v < frame .variables
           → c .full ≡ true
           → r .full ≡ true
-          → Walked (all-changes frame formulas effects e (frame .variables)) frame formulas at before after s1 s3 from l n r
+          → Walked (all-changes frame formulas effects e (frame .variables)) frame formulas effects at before after s3 from l n r
       walking-stops h q full =
           record {
             reaches =
@@ -237,7 +235,7 @@ module _ {frame : Frame} {formulas effects notes : List ℕ} {e : ℕ} {at : Siz
           → Recorded (made v c ∷ []) k m n to
           → Noted frame formulas effects notes' (held (size-after c) after)
           → NextTouched frame notes' e (v + 1) next
-          → Walking frame formulas effects e at before after s1 s3 from l n (size-after c) to next
+          → Walking frame formulas effects e at before after s3 from l n (size-after c) to next
       walking-more q z noted n =
           walking-on
           (record {
@@ -252,7 +250,7 @@ module _ {frame : Frame} {formulas effects notes : List ℕ} {e : ℕ} {at : Siz
         {r : Tally}
         → frame .variables ≤ v
         → r ≡ record { rows = here .rows; twins = here .twins; row = 0; records = k; full = false }
-        → Walked (all-changes frame formulas effects e (frame .variables)) frame formulas at before mid s1 s2 from l m r
+        → Walked (all-changes frame formulas effects e (frame .variables)) frame formulas effects at before mid s2 from l m r
     walking-ends h is =
         rw is
         (all-walked frame formulas effects e _ v (frame .variables) (omega (arith, w .below)) (w .reaches) (w .recorded))
@@ -261,7 +259,7 @@ module _ {frame : Frame} {formulas effects notes : List ℕ} {e : ℕ} {at : Siz
 module _ (frame : Frame) (formulas effects : List ℕ) (p e : ℕ) {at : Size} {before mid : Store} {s1 s2 : List ℕ} {f : Step} (x : Images (image-at frame formulas plain p) frame formulas at before mid s1 s2 f) where
   precondition-over :
       f .full ≡ true
-      → Reaches (operator-built frame formulas effects p e) frame formulas at before mid s1 s2 true (size-of f)
+      → Reaches (operator-built frame formulas effects p e) frame formulas effects at before mid s2 true (size-of f)
   unfolding operator-built all-changes bind
   precondition-over q =
       let g = image-at frame formulas plain p (held at before) in
@@ -273,14 +271,13 @@ module _ (frame : Frame) (formulas effects : List ℕ) (p e : ℕ) {at : Size} {
             (steady-each (frame .variables)
             (λ k. steady-changes (frame .variables) (effect-tree frame formulas effects e) k) .grow (g .st))
             w);
-        rest = x .rest;
       }
 
   pub precondition-full :
       {from : ℕ} {l m : List ℕ} {r : Tally}
       → f .full ≡ true
       → r ≡ record { rows = f .rows; twins = f .twins; row = 0; records = from; full = true }
-      → OperatorWalked frame formulas effects p e at before mid s1 s2 from l m r
+      → OperatorWalked frame formulas effects p e at before mid s2 from l m r
   precondition-full q same =
       rw same
       (record {
@@ -291,8 +288,8 @@ module _ (frame : Frame) (formulas effects : List ℕ) (p e : ℕ) {at : Size} {
   operator-done :
       {after : Store} {s3 : List ℕ} {full : Bool} {next : Size}
       → f .full ≡ false
-      → Reaches (all-changes frame formulas effects e (frame .variables)) frame formulas (size-of f) mid after s2 s3 full next
-      → Reaches (operator-built frame formulas effects p e) frame formulas at before after s1 s3 full next
+      → Reaches (all-changes frame formulas effects e (frame .variables)) frame formulas effects (size-of f) mid after s3 full next
+      → Reaches (operator-built frame formulas effects p e) frame formulas effects at before after s3 full next
   unfolding operator-built bind
   operator-done q y =
       let step : St → St = λ t. all-changes frame formulas effects e (frame .variables) t .st in
@@ -300,9 +297,8 @@ module _ (frame : Frame) (formulas effects : List ℕ) (p e : ℕ) {at : Size} {
       record {
         done = λ z.
             let d = y .done z in
-            record { state = same ∙ d .state; ready = d .ready; memo = d .memo };
+            record { state = same ∙ d .state; ready = d .ready; memo = d .memo; effect-memo = d .effect-memo };
         over = λ z w. y .over z (rw same at w);
-        rest = λ j h. y .rest j h ∙ x .rest j h;
       }
 
 -- what the image of the precondition asks
@@ -327,10 +323,11 @@ pub stands-behind :
     → length s2 ≡ length s1
     → StandsAt frame formulas effects notes (size-of f) after s2 e
 stands-behind {frame} {formulas} {p = p} a x q long =
-    stands-at-next (a .stands) (x, leaves-step (steady-image-at frame formulas plain p) (a .stands .noted) (x .builds)) q long
+    stands-at-next (a .stands)
+    (conditions-of-images (steady-image-at frame formulas plain p) (a .stands .noted) (a .stands .stands .effect-memo) x) q long
 
 -- Walked: the precondition, then all changes.
-module _ (frame : Frame) (formulas effects : List ℕ) (p e : ℕ) {at : Size} {before mid after : Store} {s1 s2 s3 : List ℕ} {f : Step} {from : ℕ} {l m : List ℕ} {w : Tally} (x : Images (image-at frame formulas plain p) frame formulas at before mid s1 s2 f) (q : f .full ≡ false) (y : Walked (all-changes frame formulas effects e (frame .variables)) frame formulas (size-of f) mid after s2 s3 from l m w) where
+module _ (frame : Frame) (formulas effects : List ℕ) (p e : ℕ) {at : Size} {before mid after : Store} {s1 s2 s3 : List ℕ} {f : Step} {from : ℕ} {l m : List ℕ} {w : Tally} (x : Images (image-at frame formulas plain p) frame formulas at before mid s1 s2 f) (q : f .full ≡ false) (y : Walked (all-changes frame formulas effects e (frame .variables)) frame formulas effects (size-of f) mid after s3 from l m w) where
   value-is :
       operator-built frame formulas effects p e (held at before) .value
       ≡ all-changes frame formulas effects e (frame .variables) (held (size-of f) mid) .value
@@ -340,7 +337,7 @@ module _ (frame : Frame) (formulas effects : List ℕ) (p e : ℕ) {at : Size} {
   pub operator-walked :
       {r : Tally}
       → r ≡ record { rows = w .rows; twins = w .twins; row = f .row; records = w .records; full = w .full }
-      → OperatorWalked frame formulas effects p e at before after s1 s3 from l m r
+      → OperatorWalked frame formulas effects p e at before after s3 from l m r
   operator-walked is =
       rw is
       (record {

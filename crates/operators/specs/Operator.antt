@@ -55,13 +55,13 @@ abbrev pub size-behind : Tally → Size
 size-behind r = record { rows = r .rows; twins = r .twins }
 
 -- A step whose value is changes: it reaches its state, and the changes are recorded.
-pub record Walked (m : Build (List Changes)) (frame : Frame) (formulas : List ℕ) (at : Size) (before after : Store) (s1 s2 : List ℕ) (from : ℕ) (records records' : List ℕ) (r : Tally) : Type 0 where
-  pub reaches : Reaches m frame formulas at before after s1 s2 (r .full) (size-behind r)
+pub record Walked (m : Build (List Changes)) (frame : Frame) (formulas effects : List ℕ) (at : Size) (before after : Store) (scratch : List ℕ) (from : ℕ) (records records' : List ℕ) (r : Tally) : Type 0 where
+  pub reaches : Reaches m frame formulas effects at before after scratch (r .full) (size-behind r)
   pub recorded : r .full ≡ false → Recorded (m (held at before) .value) from records records' (r .records)
 
 -- An operator: and the row of its precondition.
-pub record OperatorWalked (frame : Frame) (formulas effects : List ℕ) (p e : ℕ) (at : Size) (before after : Store) (s1 s2 : List ℕ) (from : ℕ) (records records' : List ℕ) (r : Tally) : Type 0 where
-  pub walked : Walked (operator-built frame formulas effects p e) frame formulas at before after s1 s2 from records records' r
+pub record OperatorWalked (frame : Frame) (formulas effects : List ℕ) (p e : ℕ) (at : Size) (before after : Store) (scratch : List ℕ) (from : ℕ) (records records' : List ℕ) (r : Tally) : Type 0 where
+  pub walked : Walked (operator-built frame formulas effects p e) frame formulas effects at before after scratch from records records' r
   pub precondition : r .full ≡ false → image-at frame formulas plain p (held at before) .value ≡ r .row
 
 -- operator o: the first two words of its row are its precondition and its effect

@@ -25,7 +25,7 @@ pub fn build_operator(
     records: &mut [u16],
 ) -> Tally
     requires { ⌜ BuildsOperator frame (now formulas) (now effects) (now notes) at (store (now table) (now originals)) (now scratch) p e × Opens from (now records) ⌝ }
-    ensures { λ r. ⌜ OperatorWalked frame (now (formulas .entry)) (now (effects .entry)) p e at (store (now (table .entry)) (now (originals .entry))) (store (now (table .exit)) (now (originals .exit))) (now (scratch .entry)) (now (scratch .exit)) from (now (records .entry)) (now (records .exit)) r × Leaves (r .full) frame (now (formulas .entry)) (now (effects .entry)) (now (notes .exit)) (size-behind r) (store (now (table .exit)) (now (originals .exit))) ⌝ }
+    ensures { λ r. ⌜ OperatorWalked frame (now (formulas .entry)) (now (effects .entry)) p e at (store (now (table .entry)) (now (originals .entry))) (store (now (table .exit)) (now (originals .exit))) (now (scratch .exit)) from (now (records .entry)) (now (records .exit)) r × Leaves (r .full) frame (now (formulas .entry)) (now (effects .entry)) (now (notes .exit)) (size-behind r) (store (now (table .exit)) (now (originals .exit))) ⌝ }
 {
     let f = image(formulas, p, frame, at, table, originals, scratch);
     if f.full {

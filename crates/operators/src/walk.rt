@@ -65,7 +65,7 @@ pub fn build_changes(
     records: &mut [u16],
 ) -> Tally
     requires { ⌜ StandsAt frame (now formulas) (now effects) (now notes) at (store (now table) (now originals)) (now scratch) e × Opens from (now records) ⌝ }
-    ensures { λ r. ⌜ Walked (all-changes frame (now (formulas .entry)) (now (effects .entry)) e (frame .variables)) frame (now (formulas .entry)) at (store (now (table .entry)) (now (originals .entry))) (store (now (table .exit)) (now (originals .exit))) (now (scratch .entry)) (now (scratch .exit)) from (now (records .entry)) (now (records .exit)) r × Leaves (r .full) frame (now (formulas .entry)) (now (effects .entry)) (now (notes .exit)) (size-behind r) (store (now (table .exit)) (now (originals .exit))) ⌝ }
+    ensures { λ r. ⌜ Walked (all-changes frame (now (formulas .entry)) (now (effects .entry)) e (frame .variables)) frame (now (formulas .entry)) (now (effects .entry)) at (store (now (table .entry)) (now (originals .entry))) (store (now (table .exit)) (now (originals .exit))) (now (scratch .exit)) from (now (records .entry)) (now (records .exit)) r × Leaves (r .full) frame (now (formulas .entry)) (now (effects .entry)) (now (notes .exit)) (size-behind r) (store (now (table .exit)) (now (originals .exit))) ⌝ }
 {
     let n = frame.variables;
     let mut rows = at.rows;

@@ -13,27 +13,24 @@ use Rattle.conditions.proofs.cycle.+above+below+both+raise.Lts-both as 
 use Rattle.conditions.proofs.cycle.raise.Reads as raise
 use Rattle.conditions.proofs.cycle.raise.Kinds as raise-kinds
 use Rattle.conditions.proofs.cycle.+above+below+both+raise.Lts-raise as raise-lts
+use Rattle.conditions.proofs.joined.joined.Reads as joined-reads
 use Rattle.conditions.proofs.kept.keep.Reads as keep-reads
 use Rattle.conditions.proofs.path.descend.Reads as descend-reads
 use Rattle.conditions.proofs.seen.seen.Reads as seen-reads
 use Rattle.conditions.proofs.under.under.Reads as under-reads
-use Rattle.atom_sets.proofs.lacks.Reads as lacks-reads
-use Rattle.conditions.proofs.joined.joined.Reads as joined-reads
 use Rattle.formula_builder.proofs.standing.Reads as standing-reads
 use Rattle.formula_builder.proofs.read_row.Reads as read-row-reads
-use Rattle.images.proofs.note.Reads as note-reads
 use Rattle.conditions.proofs.cycle.+above+below+both+raise.{statement}
 use Rattle.conditions.proofs.cycle.+above+below+both+raise.Tie.{close}
 use borrow.Author.Needs.{needs}
 use Prim.Native.Nat.{_+_, _-_, _*_}
 use native.Mathlib.Omega.{arith}
-use mathlib.Core.Path.{_≡_, refl, sym, _∙_}
+use mathlib.Core.Path.{_≡_, refl, _∙_}
 use lib.ListN.{length}
 use Rattle.formula_builder.specs.Held.{store, size-of}
-use Rattle.images.proofs.Cases.{notes-ready}
 use Rattle.conditions.specs.Paths.{Rising}
-use Rattle.conditions.proofs.Notes.{looks, small-row}
-use Rattle.conditions.proofs.Cases.{right-in-set, right-lacks, climbs-right, known-join-asks, right-known, right-full, right-join-asks, right-done, right-lower, right-asks, climbs-both, under-asks, climbs-under, raised}
+use Rattle.conditions.proofs.Notes.{small-row}
+use Rattle.conditions.proofs.Cases.{known-join-asks, right-known, right-full, right-join-asks, right-done, asks-on, climbs-on, kept-asks, pass-small, raised-pass, raised, right-lower, right-asks, climbs-both, under-asks, climbs-under}
 use Rattle.conditions.proofs.Descents.{path-read}
 use Rattle.conditions.proofs.Ascents.{asks-seen, asks-descent, asks-below, rising-none, rising-long, rising-all, rising-room, rising-falls, rising-asks, rising-more, rising-full}
 
@@ -73,17 +70,14 @@ raise-at t = and 6 raise-kinds.ps (is 6 raise-kinds.ps μ-raise t) raise.Pre
 abbrev raise-below : ℕ → In 6 raise-kinds.ps
 raise-below t = and 6 raise-kinds.ps (falls 6 raise-kinds.ps _<_ μ-raise t) raise.Pre
 
-above-returns : (t : ℕ) → above-lts.Need-returns (read-row-reads.Asked, read-row-reads.Learnt, both-below t, both.Post, under-reads.Asked, under-reads.Learnt) (above-at t) above.Post
-above-returns t c = climbs-right (c .before .before .before .before .before .before .before .pre .1) (c .if1 .taken)
-
 above-read-row-requires : (t : ℕ) → above-lts.Need-read-row-requires (read-row-reads.Asked, read-row-reads.Learnt, both-below t, both.Post, under-reads.Asked, under-reads.Learnt) (above-at t) above.Post
-above-read-row-requires t c κs = omega (arith, c .before .before .before .before .before .before .before .pre .1 .below .asks .effect-source .words, c .before .before .before .before .before .before .before .pre .1 .below .asks .effect)
+above-read-row-requires t c κs = omega (arith, c .before .before .before .before .before .before .pre .1 .below .asks .effect-source .words, c .before .before .before .before .before .before .pre .1 .below .asks .effect)
 
 above-cast-d : (t : ℕ) → above-lts.Need-cast-d (read-row-reads.Asked, read-row-reads.Learnt, both-below t, both.Post, under-reads.Asked, under-reads.Learnt) (above-at t) above.Post
 above-cast-d t c = search needs
 
 above-both-requires : (t : ℕ) → above-lts.Need-both-requires (read-row-reads.Asked, read-row-reads.Learnt, both-below t, both.Post, under-reads.Asked, under-reads.Learnt) (above-at t) above.Post
-above-both-requires t c κs = (omega (arith, c .before .before .before .before .before .before .before .before .before .before .before .before .before .before .before .pre .0, right-lower (c .before .before .before .before .before .before .before .before .before .before .before .before .before .before .before .pre .1) (c .before .before .before .before .before .before .before .before .if1 .left) (c .before .before .before .before .before .before .before .read-row .result) (c .before .before .before .before .before .before .before .read-row .ensures) (c .before .before .before .before .before .if2 .taken)), right-asks (c .before .before .before .before .before .before .before .before .before .before .before .before .before .before .before .pre .1) (c .before .before .before .before .before .before .before .before .if1 .left) (c .before .before .before .before .before .before .before .read-row .result) (c .before .before .before .before .before .before .before .read-row .ensures) (c .before .before .before .before .before .if2 .taken))
+above-both-requires t c κs = (omega (arith, c .before .before .before .before .before .before .before .before .before .before .before .before .before .before .pre .0, right-lower (c .before .before .before .before .before .before .before .before .before .before .before .before .before .before .pre .1) (c .before .before .before .before .before .before .before .read-row .result) (c .before .before .before .before .before .before .before .read-row .ensures) (c .before .before .before .before .before .if1 .taken)), right-asks (c .before .before .before .before .before .before .before .before .before .before .before .before .before .before .pre .1) (c .before .before .before .before .before .before .before .read-row .result) (c .before .before .before .before .before .before .before .read-row .ensures) (c .before .before .before .before .before .if1 .taken))
 
 above-same-length : (t : ℕ) → above-lts.Need-same-length (read-row-reads.Asked, read-row-reads.Learnt, both-below t, both.Post, under-reads.Asked, under-reads.Learnt) (above-at t) above.Post
 above-same-length t c = search needs
@@ -97,11 +91,11 @@ above-same-length-3 t c = search needs
 above-same-length-4 : (t : ℕ) → above-lts.Need-same-length-4 (read-row-reads.Asked, read-row-reads.Learnt, both-below t, both.Post, under-reads.Asked, under-reads.Learnt) (above-at t) above.Post
 above-same-length-4 t c = search needs
 
-above-returns-2 : (t : ℕ) → above-lts.Need-returns-2 (read-row-reads.Asked, read-row-reads.Learnt, both-below t, both.Post, under-reads.Asked, under-reads.Learnt) (above-at t) above.Post
-above-returns-2 t c = climbs-both (c .before .before .before .before .before .before .before .before .before .before .before .before .before .before .before .before .before .before .before .before .before .before .before .before .pre .1) (c .before .before .before .before .before .before .before .before .before .before .before .before .before .before .before .before .before .if1 .left) (c .before .before .before .before .before .before .before .before .before .before .before .before .before .before .before .before .read-row .result) (c .before .before .before .before .before .before .before .before .before .before .before .before .before .before .before .before .read-row .ensures) (c .before .before .before .before .before .before .before .before .before .before .before .before .before .before .if2 .taken) (c .before .before .before .before .before .before .before .before .both .ensures)
+above-returns : (t : ℕ) → above-lts.Need-returns (read-row-reads.Asked, read-row-reads.Learnt, both-below t, both.Post, under-reads.Asked, under-reads.Learnt) (above-at t) above.Post
+above-returns t c = climbs-both (c .before .before .before .before .before .before .before .before .before .before .before .before .before .before .before .before .before .before .before .before .before .before .before .pre .1) (c .before .before .before .before .before .before .before .before .before .before .before .before .before .before .before .before .read-row .result) (c .before .before .before .before .before .before .before .before .before .before .before .before .before .before .before .before .read-row .ensures) (c .before .before .before .before .before .before .before .before .before .before .before .before .before .before .if1 .taken) (c .before .before .before .before .before .before .before .before .both .ensures)
 
 above-under-requires : (t : ℕ) → above-lts.Need-under-requires (read-row-reads.Asked, read-row-reads.Learnt, both-below t, both.Post, under-reads.Asked, under-reads.Learnt) (above-at t) above.Post
-above-under-requires t c κs = under-asks (c .before .before .before .before .before .before .before .before .before .before .before .before .before .before .pre .1) (c .before .before .before .before .before .before .before .if1 .left) (c .before .before .before .before .before .before .read-row .result) (c .before .before .before .before .before .before .read-row .ensures) (c .before .before .before .before .if2 .left)
+above-under-requires t c κs = under-asks (c .before .before .before .before .before .before .before .before .before .before .before .before .before .pre .1) (c .before .before .before .before .before .before .read-row .result) (c .before .before .before .before .before .before .read-row .ensures) (c .before .before .before .before .if1 .left)
 
 above-same-length-5 : (t : ℕ) → above-lts.Need-same-length-5 (read-row-reads.Asked, read-row-reads.Learnt, both-below t, both.Post, under-reads.Asked, under-reads.Learnt) (above-at t) above.Post
 above-same-length-5 t c = search needs
@@ -115,15 +109,16 @@ above-same-length-7 t c = search needs
 above-same-length-8 : (t : ℕ) → above-lts.Need-same-length-8 (read-row-reads.Asked, read-row-reads.Learnt, both-below t, both.Post, under-reads.Asked, under-reads.Learnt) (above-at t) above.Post
 above-same-length-8 t c = search needs
 
-above-returns-3 : (t : ℕ) → above-lts.Need-returns-3 (read-row-reads.Asked, read-row-reads.Learnt, both-below t, both.Post, under-reads.Asked, under-reads.Learnt) (above-at t) above.Post
-above-returns-3 t c = climbs-under (c .before .before .before .before .before .before .before .before .before .before .before .before .before .before .before .before .before .before .before .before .before .before .before .pre .1) (c .before .before .before .before .before .before .before .before .before .before .before .before .before .before .before .before .if1 .left) (c .before .before .before .before .before .before .before .before .before .before .before .before .before .before .before .read-row .result) (c .before .before .before .before .before .before .before .before .before .before .before .before .before .before .before .read-row .ensures) (c .before .before .before .before .before .before .before .before .before .before .before .before .before .if2 .left) (c .before .before .before .before .before .before .before .before .under .ensures)
+above-returns-2 : (t : ℕ) → above-lts.Need-returns-2 (read-row-reads.Asked, read-row-reads.Learnt, both-below t, both.Post, under-reads.Asked, under-reads.Learnt) (above-at t) above.Post
+above-returns-2 t c = climbs-under (c .before .before .before .before .before .before .before .before .before .before .before .before .before .before .before .before .before .before .before .before .before .before .pre .1) (c .before .before .before .before .before .before .before .before .before .before .before .before .before .before .before .read-row .result) (c .before .before .before .before .before .before .before .before .before .before .before .before .before .before .before .read-row .ensures) (c .before .before .before .before .before .before .before .before .before .before .before .before .before .if1 .left) (c .before .before .before .before .before .before .before .before .under .ensures)
 
 abbrev below-Inv-loop : below-lts.InvT-loop
 below-Inv-loop formulas effects notes₀ e from t frame table₀ originals₀ scratch₀ base depth₀ s₀ notes table originals scratch depth s =
-    (base ≡ length notes - frame .effects) × (length table ≡ length table₀) × (length originals ≡ length originals₀) × (length scratch ≡ length scratch₀) × Rising frame formulas effects notes₀ notes t e from depth (size-of s₀) (store table₀ originals₀) (store table originals) scratch₀ scratch s
+    (base ≡ length notes - frame .effects) × (length table ≡ length table₀) × (length originals ≡ length originals₀) × (length scratch ≡ length scratch₀) × Rising frame formulas effects notes₀ notes t e from depth (size-of s₀) (store table₀ originals₀) (store table originals) scratch s
 
 abbrev below-μ-loop : below-lts.MeasureT-loop
-below-μ-loop formulas effects notes₀ e from t frame table₀ originals₀ scratch₀ base depth₀ s₀ notes table originals scratch depth s = depth
+below-μ-loop formulas effects notes₀ e from t frame table₀ originals₀ scratch₀ base depth₀ s₀ notes table originals scratch depth s =
+    depth
 
 below-descend-requires : (t : ℕ) → below-lts.Need-descend-requires (descend-reads.Asked, descend-reads.Learnt, standing-reads.Asked, standing-reads.Learnt, raise-below t, raise.Post) (below-at t) below.Post below-Inv-loop below-μ-loop
 below-descend-requires t c κs = asks-descent (c .before .before .before .before .before .before .before .before .pre .1)
@@ -194,110 +189,122 @@ below-same-length-8 t c = c .before .loop .inv .3
 below-returns-2 : (t : ℕ) → below-lts.Need-returns-2 (descend-reads.Asked, descend-reads.Learnt, standing-reads.Asked, standing-reads.Learnt, raise-below t, raise.Post) (below-at t) below.Post below-Inv-loop below-μ-loop
 below-returns-2 t c = rising-all (c .before .before .before .before .before .before .before .before .before .before .before .before .before .before .before .before .pre .1) (c .before .before .before .before .before .before .before .descend .ensures .descending .stays) (rw (c .before .before .standing .ensures) at (c .before .loop .inv .4)) (omega (arith, c .loop-test .left))
 
-both-cast-lacks : (t : ℕ) → both-lts.Need-cast-lacks (lacks-reads.Asked, lacks-reads.Learnt, seen-reads.Asked, seen-reads.Learnt, joined-reads.Asked, joined-reads.Learnt, below-below t, below.Post) (both-at t) both.Post
-both-cast-lacks t c = search needs
+both-seen-requires : (t : ℕ) → both-lts.Need-seen-requires (seen-reads.Asked, seen-reads.Learnt, joined-reads.Asked, joined-reads.Learnt, below-below t, below.Post) (both-at t) both.Post
+both-seen-requires t c κs = asks-seen (c .before .before .before .before .before .before .before .before .pre .1 .asks)
 
-both-lacks-requires : (t : ℕ) → both-lts.Need-lacks-requires (lacks-reads.Asked, lacks-reads.Learnt, seen-reads.Asked, seen-reads.Learnt, joined-reads.Asked, joined-reads.Learnt, below-below t, below.Post) (both-at t) both.Post
-both-lacks-requires t c κs = (right-in-set (c .before .before .before .before .before .before .before .before .pre .1), c .before .before .before .before .before .before .before .before .pre .1 .asks .noted .sets .words)
-
-both-same-length : (t : ℕ) → both-lts.Need-same-length (lacks-reads.Asked, lacks-reads.Learnt, seen-reads.Asked, seen-reads.Learnt, joined-reads.Asked, joined-reads.Learnt, below-below t, below.Post) (both-at t) both.Post
-both-same-length t c = search needs
-
-both-returns : (t : ℕ) → both-lts.Need-returns (lacks-reads.Asked, lacks-reads.Learnt, seen-reads.Asked, seen-reads.Learnt, joined-reads.Asked, joined-reads.Learnt, below-below t, below.Post) (both-at t) both.Post
-both-returns t c = right-lacks (c .before .before .before .before .before .before .before .before .before .before .pre .1) (sym (c .if1 .taken) ∙ c .before .lacks .ensures)
-
-both-seen-requires : (t : ℕ) → both-lts.Need-seen-requires (lacks-reads.Asked, lacks-reads.Learnt, seen-reads.Asked, seen-reads.Learnt, joined-reads.Asked, joined-reads.Learnt, below-below t, below.Post) (both-at t) both.Post
-both-seen-requires t c κs = asks-seen (c .before .before .before .before .before .before .before .before .before .before .before .before .pre .1 .asks)
-
-both-sub-joined : (t : ℕ) → both-lts.Need-sub-joined (lacks-reads.Asked, lacks-reads.Learnt, seen-reads.Asked, seen-reads.Learnt, joined-reads.Asked, joined-reads.Learnt, below-below t, below.Post) (both-at t) both.Post
+both-sub-joined : (t : ℕ) → both-lts.Need-sub-joined (seen-reads.Asked, seen-reads.Learnt, joined-reads.Asked, joined-reads.Learnt, below-below t, below.Post) (both-at t) both.Post
 both-sub-joined t c = search needs
 
-both-joined-requires : (t : ℕ) → both-lts.Need-joined-requires (lacks-reads.Asked, lacks-reads.Learnt, seen-reads.Asked, seen-reads.Learnt, joined-reads.Asked, joined-reads.Learnt, below-below t, below.Post) (both-at t) both.Post
-both-joined-requires t c κs = known-join-asks (c .before .before .before .before .before .before .before .before .before .before .before .before .before .before .before .before .before .pre .1) (c .before .before .before .before .seen .ensures .known _ _ _ (c .before .before .before .before .before .before .before .before .before .before .before .before .before .before .before .before .before .pre .1 .asks) (c .before .before .before .if2 .taken))
+both-joined-requires : (t : ℕ) → both-lts.Need-joined-requires (seen-reads.Asked, seen-reads.Learnt, joined-reads.Asked, joined-reads.Learnt, below-below t, below.Post) (both-at t) both.Post
+both-joined-requires t c κs = known-join-asks (c .before .before .before .before .before .before .before .before .before .before .before .before .before .pre .1) (c .before .before .before .before .seen .ensures .known _ _ _ (c .before .before .before .before .before .before .before .before .before .before .before .before .before .pre .1 .asks) (c .before .before .before .if1 .taken))
 
-both-same-length-2 : (t : ℕ) → both-lts.Need-same-length-2 (lacks-reads.Asked, lacks-reads.Learnt, seen-reads.Asked, seen-reads.Learnt, joined-reads.Asked, joined-reads.Learnt, below-below t, below.Post) (both-at t) both.Post
+both-same-length : (t : ℕ) → both-lts.Need-same-length (seen-reads.Asked, seen-reads.Learnt, joined-reads.Asked, joined-reads.Learnt, below-below t, below.Post) (both-at t) both.Post
+both-same-length t c = search needs
+
+both-same-length-2 : (t : ℕ) → both-lts.Need-same-length-2 (seen-reads.Asked, seen-reads.Learnt, joined-reads.Asked, joined-reads.Learnt, below-below t, below.Post) (both-at t) both.Post
 both-same-length-2 t c = search needs
 
-both-same-length-3 : (t : ℕ) → both-lts.Need-same-length-3 (lacks-reads.Asked, lacks-reads.Learnt, seen-reads.Asked, seen-reads.Learnt, joined-reads.Asked, joined-reads.Learnt, below-below t, below.Post) (both-at t) both.Post
+both-same-length-3 : (t : ℕ) → both-lts.Need-same-length-3 (seen-reads.Asked, seen-reads.Learnt, joined-reads.Asked, joined-reads.Learnt, below-below t, below.Post) (both-at t) both.Post
 both-same-length-3 t c = search needs
 
-both-same-length-4 : (t : ℕ) → both-lts.Need-same-length-4 (lacks-reads.Asked, lacks-reads.Learnt, seen-reads.Asked, seen-reads.Learnt, joined-reads.Asked, joined-reads.Learnt, below-below t, below.Post) (both-at t) both.Post
+both-returns : (t : ℕ) → both-lts.Need-returns (seen-reads.Asked, seen-reads.Learnt, joined-reads.Asked, joined-reads.Learnt, below-below t, below.Post) (both-at t) both.Post
+both-returns t c = right-known (c .before .before .before .before .before .before .before .before .before .before .before .before .before .before .before .before .before .before .pre .1) (c .before .before .before .before .before .before .before .before .before .seen .ensures .known _ _ _ (c .before .before .before .before .before .before .before .before .before .before .before .before .before .before .before .before .before .before .pre .1 .asks) (c .before .before .before .before .before .before .before .before .if1 .taken)) (c .before .before .before .before .joined .ensures _)
+
+both-below-requires : (t : ℕ) → both-lts.Need-below-requires (seen-reads.Asked, seen-reads.Learnt, joined-reads.Asked, joined-reads.Learnt, below-below t, below.Post) (both-at t) both.Post
+both-below-requires t c κs = (omega (arith, c .before .before .before .before .before .before .before .before .before .before .before .before .before .before .pre .0), asks-below _ (c .before .before .before .before .before .before .before .before .before .before .before .before .before .before .pre .1 .asks) (c .before .before .before .before .before .seen .ensures) (omega (arith, c .before .before .before .before .if1 .left)) (c .before .before .before .before .before .before .before .before .before .before .before .before .before .before .pre .1 .room))
+
+both-same-length-4 : (t : ℕ) → both-lts.Need-same-length-4 (seen-reads.Asked, seen-reads.Learnt, joined-reads.Asked, joined-reads.Learnt, below-below t, below.Post) (both-at t) both.Post
 both-same-length-4 t c = search needs
 
-both-returns-2 : (t : ℕ) → both-lts.Need-returns-2 (lacks-reads.Asked, lacks-reads.Learnt, seen-reads.Asked, seen-reads.Learnt, joined-reads.Asked, joined-reads.Learnt, below-below t, below.Post) (both-at t) both.Post
-both-returns-2 t c = right-known (c .before .before .before .before .before .before .before .before .before .before .before .before .before .before .before .before .before .before .before .before .before .before .pre .1) (c .before .before .before .before .before .before .before .before .before .seen .ensures .known _ _ _ (c .before .before .before .before .before .before .before .before .before .before .before .before .before .before .before .before .before .before .before .before .before .before .pre .1 .asks) (c .before .before .before .before .before .before .before .before .if2 .taken)) (c .before .before .before .before .joined .ensures _)
-
-both-below-requires : (t : ℕ) → both-lts.Need-below-requires (lacks-reads.Asked, lacks-reads.Learnt, seen-reads.Asked, seen-reads.Learnt, joined-reads.Asked, joined-reads.Learnt, below-below t, below.Post) (both-at t) both.Post
-both-below-requires t c κs = (omega (arith, c .before .before .before .before .before .before .before .before .before .before .before .before .before .before .before .before .before .before .pre .0), asks-below _ (c .before .before .before .before .before .before .before .before .before .before .before .before .before .before .before .before .before .before .pre .1 .asks) (c .before .before .before .before .before .seen .ensures) (omega (arith, c .before .before .before .before .if2 .left)) (c .before .before .before .before .before .before .before .before .before .before .before .before .before .before .before .before .before .before .pre .1 .room))
-
-both-same-length-5 : (t : ℕ) → both-lts.Need-same-length-5 (lacks-reads.Asked, lacks-reads.Learnt, seen-reads.Asked, seen-reads.Learnt, joined-reads.Asked, joined-reads.Learnt, below-below t, below.Post) (both-at t) both.Post
+both-same-length-5 : (t : ℕ) → both-lts.Need-same-length-5 (seen-reads.Asked, seen-reads.Learnt, joined-reads.Asked, joined-reads.Learnt, below-below t, below.Post) (both-at t) both.Post
 both-same-length-5 t c = search needs
 
-both-same-length-6 : (t : ℕ) → both-lts.Need-same-length-6 (lacks-reads.Asked, lacks-reads.Learnt, seen-reads.Asked, seen-reads.Learnt, joined-reads.Asked, joined-reads.Learnt, below-below t, below.Post) (both-at t) both.Post
+both-same-length-6 : (t : ℕ) → both-lts.Need-same-length-6 (seen-reads.Asked, seen-reads.Learnt, joined-reads.Asked, joined-reads.Learnt, below-below t, below.Post) (both-at t) both.Post
 both-same-length-6 t c = search needs
 
-both-same-length-7 : (t : ℕ) → both-lts.Need-same-length-7 (lacks-reads.Asked, lacks-reads.Learnt, seen-reads.Asked, seen-reads.Learnt, joined-reads.Asked, joined-reads.Learnt, below-below t, below.Post) (both-at t) both.Post
+both-same-length-7 : (t : ℕ) → both-lts.Need-same-length-7 (seen-reads.Asked, seen-reads.Learnt, joined-reads.Asked, joined-reads.Learnt, below-below t, below.Post) (both-at t) both.Post
 both-same-length-7 t c = search needs
 
-both-same-length-8 : (t : ℕ) → both-lts.Need-same-length-8 (lacks-reads.Asked, lacks-reads.Learnt, seen-reads.Asked, seen-reads.Learnt, joined-reads.Asked, joined-reads.Learnt, below-below t, below.Post) (both-at t) both.Post
-both-same-length-8 t c = search needs
+both-returns-2 : (t : ℕ) → both-lts.Need-returns-2 (seen-reads.Asked, seen-reads.Learnt, joined-reads.Asked, joined-reads.Learnt, below-below t, below.Post) (both-at t) both.Post
+both-returns-2 t c = right-full (c .before .before .before .before .before .before .before .before .before .before .before .before .before .before .before .before .before .before .before .before .before .before .before .before .pre .1) (c .before .before .before .before .before .before .before .before .before .below .ensures) (c .if2 .taken)
 
-both-returns-3 : (t : ℕ) → both-lts.Need-returns-3 (lacks-reads.Asked, lacks-reads.Learnt, seen-reads.Asked, seen-reads.Learnt, joined-reads.Asked, joined-reads.Learnt, below-below t, below.Post) (both-at t) both.Post
-both-returns-3 t c = right-full (c .before .before .before .before .before .before .before .before .before .before .before .before .before .before .before .before .before .before .before .before .before .before .before .before .before .before .before .before .pre .1) (c .before .before .before .before .before .before .before .before .before .below .ensures) (c .if3 .taken)
+both-joined-requires-2 : (t : ℕ) → both-lts.Need-joined-requires-2 (seen-reads.Asked, seen-reads.Learnt, joined-reads.Asked, joined-reads.Learnt, below-below t, below.Post) (both-at t) both.Post
+both-joined-requires-2 t c κs = right-join-asks (c .before .before .before .before .before .before .before .before .before .before .before .before .before .before .before .before .before .before .before .before .before .before .before .before .before .before .before .pre .1) (c .before .before .before .before .before .before .before .before .before .before .before .before .below .ensures) (c .before .before .before .if2 .left)
 
-both-joined-requires-2 : (t : ℕ) → both-lts.Need-joined-requires-2 (lacks-reads.Asked, lacks-reads.Learnt, seen-reads.Asked, seen-reads.Learnt, joined-reads.Asked, joined-reads.Learnt, below-below t, below.Post) (both-at t) both.Post
-both-joined-requires-2 t c κs = right-join-asks (c .before .before .before .before .before .before .before .before .before .before .before .before .before .before .before .before .before .before .before .before .before .before .before .before .before .before .before .before .before .before .before .pre .1) (c .before .before .before .before .before .before .before .before .before .before .before .before .below .ensures) (c .before .before .before .if3 .left)
+both-same-length-8 : (t : ℕ) → both-lts.Need-same-length-8 (seen-reads.Asked, seen-reads.Learnt, joined-reads.Asked, joined-reads.Learnt, below-below t, below.Post) (both-at t) both.Post
+both-same-length-8 t c = c .before .before .before .before .joined2 .kept .0 ∙ c .before .before .before .before .before .before .before .before .before .before .before .before .before .before .before .before .before .below .kept .1 .1 .0
 
-both-same-length-9 : (t : ℕ) → both-lts.Need-same-length-9 (lacks-reads.Asked, lacks-reads.Learnt, seen-reads.Asked, seen-reads.Learnt, joined-reads.Asked, joined-reads.Learnt, below-below t, below.Post) (both-at t) both.Post
-both-same-length-9 t c = c .before .before .before .before .joined2 .kept .0 ∙ c .before .before .before .before .before .before .before .before .before .before .before .before .before .before .before .before .before .below .kept .1 .1 .0
+both-same-length-9 : (t : ℕ) → both-lts.Need-same-length-9 (seen-reads.Asked, seen-reads.Learnt, joined-reads.Asked, joined-reads.Learnt, below-below t, below.Post) (both-at t) both.Post
+both-same-length-9 t c = c .before .before .before .before .joined2 .kept .1 .1 .1 .1 .1 .1 .1 .1 .0 ∙ c .before .before .before .before .before .before .before .before .before .before .before .before .before .before .before .before .before .below .kept .1 .1 .1 .1 .1 .1 .1 .1 .0
 
-both-same-length-10 : (t : ℕ) → both-lts.Need-same-length-10 (lacks-reads.Asked, lacks-reads.Learnt, seen-reads.Asked, seen-reads.Learnt, joined-reads.Asked, joined-reads.Learnt, below-below t, below.Post) (both-at t) both.Post
-both-same-length-10 t c = c .before .before .before .before .joined2 .kept .1 .1 .1 .1 .1 .1 .1 .1 .0 ∙ c .before .before .before .before .before .before .before .before .before .before .before .before .before .before .before .before .before .below .kept .1 .1 .1 .1 .1 .1 .1 .1 .0
+both-same-length-10 : (t : ℕ) → both-lts.Need-same-length-10 (seen-reads.Asked, seen-reads.Learnt, joined-reads.Asked, joined-reads.Learnt, below-below t, below.Post) (both-at t) both.Post
+both-same-length-10 t c = c .before .before .before .before .before .before .before .before .before .before .before .before .before .before .before .before .before .below .kept .1 .1 .1 .1 .1 .1 .1 .1 .1 .0
 
-both-same-length-11 : (t : ℕ) → both-lts.Need-same-length-11 (lacks-reads.Asked, lacks-reads.Learnt, seen-reads.Asked, seen-reads.Learnt, joined-reads.Asked, joined-reads.Learnt, below-below t, below.Post) (both-at t) both.Post
-both-same-length-11 t c = c .before .before .before .before .before .before .before .before .before .before .before .before .before .before .before .before .before .below .kept .1 .1 .1 .1 .1 .1 .1 .1 .1 .0
+both-same-length-11 : (t : ℕ) → both-lts.Need-same-length-11 (seen-reads.Asked, seen-reads.Learnt, joined-reads.Asked, joined-reads.Learnt, below-below t, below.Post) (both-at t) both.Post
+both-same-length-11 t c = c .before .before .before .before .before .before .before .before .before .before .before .before .before .before .before .before .before .below .kept .1 .1 .1 .1 .1 .1 .1 .1 .1 .1 .0
 
-both-same-length-12 : (t : ℕ) → both-lts.Need-same-length-12 (lacks-reads.Asked, lacks-reads.Learnt, seen-reads.Asked, seen-reads.Learnt, joined-reads.Asked, joined-reads.Learnt, below-below t, below.Post) (both-at t) both.Post
-both-same-length-12 t c = c .before .before .before .before .before .before .before .before .before .before .before .before .before .before .before .before .before .below .kept .1 .1 .1 .1 .1 .1 .1 .1 .1 .1 .0
+both-returns-3 : (t : ℕ) → both-lts.Need-returns-3 (seen-reads.Asked, seen-reads.Learnt, joined-reads.Asked, joined-reads.Learnt, below-below t, below.Post) (both-at t) both.Post
+both-returns-3 t c = right-done (c .before .before .before .before .before .before .before .before .before .before .before .before .before .before .before .before .before .before .before .before .before .before .before .before .before .before .before .before .before .before .before .before .pre .1) (c .before .before .before .before .before .before .before .before .before .before .before .before .before .before .before .before .before .below .ensures) (c .before .before .before .before .before .before .before .before .if2 .left) (c .before .before .before .before .joined2 .ensures _)
 
-both-returns-4 : (t : ℕ) → both-lts.Need-returns-4 (lacks-reads.Asked, lacks-reads.Learnt, seen-reads.Asked, seen-reads.Learnt, joined-reads.Asked, joined-reads.Learnt, below-below t, below.Post) (both-at t) both.Post
-both-returns-4 t c = right-done (c .before .before .before .before .before .before .before .before .before .before .before .before .before .before .before .before .before .before .before .before .before .before .before .before .before .before .before .before .before .before .before .before .before .before .before .before .pre .1) (c .before .before .before .before .before .before .before .before .before .before .before .before .before .before .before .before .before .below .ensures) (c .before .before .before .before .before .before .before .before .if3 .left) (c .before .before .before .before .joined2 .ensures _)
+raise-keep-requires : (t : ℕ) → raise-lts.Need-keep-requires (keep-reads.Asked, keep-reads.Learnt, above-below t, above.Post) (raise-at t) raise.Post
+raise-keep-requires t c κs = (kept-asks (c .before .before .before .before .before .before .before .before .before .pre .1) refl refl, pass-small (c .before .before .before .before .before .before .before .before .before .pre .1))
 
-raise-above-requires : (t : ℕ) → raise-lts.Need-above-requires (above-below t, above.Post, note-reads.Asked, note-reads.Learnt, keep-reads.Asked, keep-reads.Learnt) (raise-at t) raise.Post
-raise-above-requires t c κs = (omega (arith, c .before .before .before .before .before .before .before .before .before .before .pre .0), c .before .before .before .before .before .before .before .before .before .before .pre .1)
+raise-same-length : (t : ℕ) → raise-lts.Need-same-length (keep-reads.Asked, keep-reads.Learnt, above-below t, above.Post) (raise-at t) raise.Post
+raise-same-length t c = c .before .before .before .before .keep .kept .0
 
-raise-mul-note : (t : ℕ) → raise-lts.Need-mul-note (above-below t, above.Post, note-reads.Asked, note-reads.Learnt, keep-reads.Asked, keep-reads.Learnt) (raise-at t) raise.Post
-raise-mul-note t c = omega (arith, c .before .before .before .before .before .before .before .before .before .before .before .before .before .before .before .before .before .before .before .before .before .pre .1 .below .asks .source .limit)
+raise-same-length-2 : (t : ℕ) → raise-lts.Need-same-length-2 (keep-reads.Asked, keep-reads.Learnt, above-below t, above.Post) (raise-at t) raise.Post
+raise-same-length-2 t c = c .before .before .before .before .keep .kept .1 .0
 
-raise-add-note : (t : ℕ) → raise-lts.Need-add-note (above-below t, above.Post, note-reads.Asked, note-reads.Learnt, keep-reads.Asked, keep-reads.Learnt) (raise-at t) raise.Post
-raise-add-note t c = omega (arith, c .before .before .before .before .before .before .before .before .before .before .before .before .before .before .before .before .before .before .before .before .before .pre .1 .below .asks .source .limit, c .before .before .before .before .before .before .before .before .before .before .before .before .before .before .before .before .before .before .before .before .before .pre .1 .below .asks .effect, c .before .before .before .before .before .before .before .before .before .before .before .before .before .before .before .before .before .before .before .before .before .pre .1 .below .asks .effect-source .limit)
+raise-returns : (t : ℕ) → raise-lts.Need-returns (keep-reads.Asked, keep-reads.Learnt, above-below t, above.Post) (raise-at t) raise.Post
+raise-returns t c = raised-pass (c .before .before .before .before .before .before .before .before .before .before .before .before .before .before .pre .1) (c .before .before .before .before .before .before .before .if1 .taken) (c .before .before .before .before .keep .ensures)
 
-raise-note-requires : (t : ℕ) → raise-lts.Need-note-requires (above-below t, above.Post, note-reads.Asked, note-reads.Learnt, keep-reads.Asked, keep-reads.Learnt) (raise-at t) raise.Post
-raise-note-requires t c κs = notes-ready _ (2 * c .before .before .before .before .before .before .before .before .before .before .before .before .before .before .before .before .before .before .before .before .before .args .frame .formulas + c .before .before .before .before .before .before .before .before .before .before .before .before .before .before .before .before .before .before .before .before .before .args .e) (c .before .before .before .before .before .before .before .before .before .before .above .ensures .conditions .builds) (omega (arith, c .before .before .before .before .before .before .before .before .before .before .above .kept .1 .1 .1 .1 .1 .1 .1 .1 .1 .1 .1 .0, c .before .before .before .before .before .before .before .before .before .before .before .before .before .before .before .before .before .before .before .before .before .pre .1 .below .asks .effect-source .memo, c .before .before .before .before .before .before .before .before .before .before .before .before .before .before .before .before .before .before .before .before .before .pre .1 .below .asks .effect))
+raise-above-requires : (t : ℕ) → raise-lts.Need-above-requires (keep-reads.Asked, keep-reads.Learnt, above-below t, above.Post) (raise-at t) raise.Post
+raise-above-requires t c κs = (omega (arith, c .before .before .before .before .before .before .before .before .before .before .before .pre .0), asks-on (c .before .before .before .before .before .before .before .before .before .before .before .pre .1) (c .before .before .before .before .if1 .left))
 
-raise-keep-requires : (t : ℕ) → raise-lts.Need-keep-requires (above-below t, above.Post, note-reads.Asked, note-reads.Learnt, keep-reads.Asked, keep-reads.Learnt) (raise-at t) raise.Post
-raise-keep-requires t c κs = (looks (c .before .before .before .before .before .before .before .before .before .before .before .before .before .before .before .before .before .before .before .before .before .before .before .before .before .pre .1 .below .asks) (c .before .before .before .before .before .before .before .before .before .before .before .before .before .before .above .kept .1 .1 .0), small-row (c .before .before .before .before .before .before .before .before .before .before .before .before .before .before .above .ensures .conditions .builds))
+raise-same-length-3 : (t : ℕ) → raise-lts.Need-same-length-3 (keep-reads.Asked, keep-reads.Learnt, above-below t, above.Post) (raise-at t) raise.Post
+raise-same-length-3 t c = c .before .before .before .before .before .before .before .before .before .above .kept .1 .1 .0
 
-raise-same-length : (t : ℕ) → raise-lts.Need-same-length (above-below t, above.Post, note-reads.Asked, note-reads.Learnt, keep-reads.Asked, keep-reads.Learnt) (raise-at t) raise.Post
-raise-same-length t c = c .before .before .keep .kept .0 ∙ c .before .before .before .before .before .before .before .before .before .before .before .before .before .before .before .before .before .above .kept .1 .1 .0
+raise-same-length-4 : (t : ℕ) → raise-lts.Need-same-length-4 (keep-reads.Asked, keep-reads.Learnt, above-below t, above.Post) (raise-at t) raise.Post
+raise-same-length-4 t c = c .before .before .before .before .before .before .before .before .before .above .kept .1 .1 .1 .1 .1 .1 .1 .1 .0
 
-raise-same-length-2 : (t : ℕ) → raise-lts.Need-same-length-2 (above-below t, above.Post, note-reads.Asked, note-reads.Learnt, keep-reads.Asked, keep-reads.Learnt) (raise-at t) raise.Post
-raise-same-length-2 t c = c .before .before .before .before .before .before .before .before .before .before .before .before .before .before .before .before .before .above .kept .1 .1 .1 .1 .1 .1 .1 .1 .1 .0
+raise-same-length-5 : (t : ℕ) → raise-lts.Need-same-length-5 (keep-reads.Asked, keep-reads.Learnt, above-below t, above.Post) (raise-at t) raise.Post
+raise-same-length-5 t c = c .before .before .before .before .before .before .before .before .before .above .kept .1 .1 .1 .1 .1 .1 .1 .1 .1 .0
 
-raise-same-length-3 : (t : ℕ) → raise-lts.Need-same-length-3 (above-below t, above.Post, note-reads.Asked, note-reads.Learnt, keep-reads.Asked, keep-reads.Learnt) (raise-at t) raise.Post
-raise-same-length-3 t c = c .before .before .before .before .before .before .before .before .before .before .before .before .before .before .before .before .before .above .kept .1 .1 .1 .1 .1 .1 .1 .1 .1 .1 .0
+raise-same-length-6 : (t : ℕ) → raise-lts.Need-same-length-6 (keep-reads.Asked, keep-reads.Learnt, above-below t, above.Post) (raise-at t) raise.Post
+raise-same-length-6 t c = c .before .before .before .before .before .before .before .before .before .above .kept .1 .1 .1 .1 .1 .1 .1 .1 .1 .1 .0
 
-raise-same-length-4 : (t : ℕ) → raise-lts.Need-same-length-4 (above-below t, above.Post, note-reads.Asked, note-reads.Learnt, keep-reads.Asked, keep-reads.Learnt) (raise-at t) raise.Post
-raise-same-length-4 t c = c .before .before .before .before .before .before .note .kept .0 ∙ c .before .before .before .before .before .before .before .before .before .before .before .before .before .before .before .before .before .above .kept .1 .1 .1 .1 .1 .1 .1 .1 .1 .1 .1 .0
+raise-returns-2 : (t : ℕ) → raise-lts.Need-returns-2 (keep-reads.Asked, keep-reads.Learnt, above-below t, above.Post) (raise-at t) raise.Post
+raise-returns-2 t c = climbs-on (c .before .before .before .before .before .before .before .before .before .before .before .before .before .before .before .before .before .before .before .before .before .pre .1) (c .before .before .before .before .before .before .before .before .before .before .before .before .before .before .if1 .left) (c .before .before .before .before .before .before .before .before .before .above .ensures)
 
-raise-returns : (t : ℕ) → raise-lts.Need-returns (above-below t, above.Post, note-reads.Asked, note-reads.Learnt, keep-reads.Asked, keep-reads.Learnt) (raise-at t) raise.Post
-raise-returns t c = rw (c .before .before .before .before .before .before .note .ensures) (raised (c .before .before .before .before .before .before .before .before .before .before .before .before .before .before .before .before .before .before .before .before .before .before .before .before .before .before .before .before .pre .1) (c .before .before .before .before .before .before .before .before .before .before .before .before .before .before .before .before .before .above .ensures) (c .before .before .before .before .before .before .before .before .before .before .before .before .before .before .before .before .before .above .kept .1 .1 .1 .1 .1 .1 .1 .1 .1 .1 .1 .0) (c .before .before .keep .ensures))
+raise-keep-requires-2 : (t : ℕ) → raise-lts.Need-keep-requires-2 (keep-reads.Asked, keep-reads.Learnt, above-below t, above.Post) (raise-at t) raise.Post
+raise-keep-requires-2 t c κs = (kept-asks (c .before .before .before .before .before .before .before .before .before .before .before .before .before .before .before .before .before .before .before .before .before .before .before .pre .1) (c .before .before .before .before .before .before .before .before .before .before .before .above .kept .1 .1 .0) (c .before .before .before .before .before .before .before .before .before .before .before .above .kept .1 .1 .1 .1 .1 .1 .1 .1 .1 .1 .0), small-row (c .before .before .before .before .before .before .before .before .before .before .before .above .ensures .conditions .builds) (c .before .before .if2 .left))
+
+raise-same-length-7 : (t : ℕ) → raise-lts.Need-same-length-7 (keep-reads.Asked, keep-reads.Learnt, above-below t, above.Post) (raise-at t) raise.Post
+raise-same-length-7 t c = c .before .before .before .before .keep2 .kept .0 ∙ c .before .before .before .before .before .before .before .before .before .before .before .before .before .before .before .before .above .kept .1 .1 .0
+
+raise-same-length-8 : (t : ℕ) → raise-lts.Need-same-length-8 (keep-reads.Asked, keep-reads.Learnt, above-below t, above.Post) (raise-at t) raise.Post
+raise-same-length-8 t c = c .before .before .before .before .before .before .before .before .before .before .before .before .before .before .before .before .above .kept .1 .1 .1 .1 .1 .1 .1 .1 .0
+
+raise-same-length-9 : (t : ℕ) → raise-lts.Need-same-length-9 (keep-reads.Asked, keep-reads.Learnt, above-below t, above.Post) (raise-at t) raise.Post
+raise-same-length-9 t c = c .before .before .before .before .before .before .before .before .before .before .before .before .before .before .before .before .above .kept .1 .1 .1 .1 .1 .1 .1 .1 .1 .0
+
+raise-same-length-10 : (t : ℕ) → raise-lts.Need-same-length-10 (keep-reads.Asked, keep-reads.Learnt, above-below t, above.Post) (raise-at t) raise.Post
+raise-same-length-10 t c = c .before .before .before .before .keep2 .kept .1 .0 ∙ c .before .before .before .before .before .before .before .before .before .before .before .before .before .before .before .before .above .kept .1 .1 .1 .1 .1 .1 .1 .1 .1 .1 .0
+
+raise-returns-3 : (t : ℕ) → raise-lts.Need-returns-3 (keep-reads.Asked, keep-reads.Learnt, above-below t, above.Post) (raise-at t) raise.Post
+raise-returns-3 t c = raised (c .before .before .before .before .before .before .before .before .before .before .before .before .before .before .before .before .before .before .before .before .before .before .before .before .before .before .before .before .pre .1) (climbs-on (c .before .before .before .before .before .before .before .before .before .before .before .before .before .before .before .before .before .before .before .before .before .before .before .before .before .before .before .before .pre .1) (c .before .before .before .before .before .before .before .before .before .before .before .before .before .before .before .before .before .before .before .before .before .if1 .left) (c .before .before .before .before .before .before .before .before .before .before .before .before .before .before .before .before .above .ensures)) (c .before .before .before .before .keep2 .ensures)
 
 pub +above+below+both+raise-spec : {M : Type 1} → statement M
-+above+below+both+raise-spec = close μ-above μ-below μ-both μ-raise (λ t. above-lts.spec (read-row-reads.Asked, read-row-reads.Learnt, both-below t, both.Post, under-reads.Asked, under-reads.Learnt)
++above+below+both+raise-spec = close μ-above μ-below μ-both μ-raise (λ t. above-lts.spec (
+  read-row-reads.Asked,
+  read-row-reads.Learnt,
+  both-below t,
+  both.Post,
+  under-reads.Asked,
+  under-reads.Learnt,
+)
     (above-at t)
     above.Post
-    (above-returns t)
     (above-read-row-requires t)
     (above-cast-d t)
     (above-both-requires t)
@@ -305,13 +312,13 @@ pub +above+below+both+raise-spec : {M : Type 1} → statement M
     (above-same-length-2 t)
     (above-same-length-3 t)
     (above-same-length-4 t)
-    (above-returns-2 t)
+    (above-returns t)
     (above-under-requires t)
     (above-same-length-5 t)
     (above-same-length-6 t)
     (above-same-length-7 t)
     (above-same-length-8 t)
-    (above-returns-3 t))
+    (above-returns-2 t))
     (λ t. below-lts.spec (
       descend-reads.Asked,
       descend-reads.Learnt,
@@ -348,8 +355,6 @@ pub +above+below+both+raise-spec : {M : Type 1} → statement M
     (below-same-length-8 t)
     (below-returns-2 t))
     (λ t. both-lts.spec (
-      lacks-reads.Asked,
-      lacks-reads.Learnt,
       seen-reads.Asked,
       seen-reads.Learnt,
       joined-reads.Asked,
@@ -359,46 +364,42 @@ pub +above+below+both+raise-spec : {M : Type 1} → statement M
     )
     (both-at t)
     both.Post
-    (both-cast-lacks t)
-    (both-lacks-requires t)
-    (both-same-length t)
-    (both-returns t)
     (both-seen-requires t)
     (both-sub-joined t)
     (both-joined-requires t)
+    (both-same-length t)
     (both-same-length-2 t)
     (both-same-length-3 t)
-    (both-same-length-4 t)
-    (both-returns-2 t)
+    (both-returns t)
     (both-below-requires t)
+    (both-same-length-4 t)
     (both-same-length-5 t)
     (both-same-length-6 t)
     (both-same-length-7 t)
-    (both-same-length-8 t)
-    (both-returns-3 t)
+    (both-returns-2 t)
     (both-joined-requires-2 t)
+    (both-same-length-8 t)
     (both-same-length-9 t)
     (both-same-length-10 t)
     (both-same-length-11 t)
-    (both-same-length-12 t)
-    (both-returns-4 t))
-    λ t. raise-lts.spec (
-      above-below t,
-      above.Post,
-      note-reads.Asked,
-      note-reads.Learnt,
-      keep-reads.Asked,
-      keep-reads.Learnt,
-    )
+    (both-returns-3 t))
+    λ t. raise-lts.spec
+    (keep-reads.Asked, keep-reads.Learnt, above-below t, above.Post)
     (raise-at t)
     raise.Post
-    (raise-above-requires t)
-    (raise-mul-note t)
-    (raise-add-note t)
-    (raise-note-requires t)
     (raise-keep-requires t)
     (raise-same-length t)
     (raise-same-length-2 t)
+    (raise-returns t)
+    (raise-above-requires t)
     (raise-same-length-3 t)
     (raise-same-length-4 t)
-    (raise-returns t)
+    (raise-same-length-5 t)
+    (raise-same-length-6 t)
+    (raise-returns-2 t)
+    (raise-keep-requires-2 t)
+    (raise-same-length-7 t)
+    (raise-same-length-8 t)
+    (raise-same-length-9 t)
+    (raise-same-length-10 t)
+    (raise-returns-3 t)

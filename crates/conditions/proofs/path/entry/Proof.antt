@@ -3,27 +3,19 @@ use Rattle.conditions.proofs.path.entry.Statement.{statement}
 use Rattle.conditions.proofs.path.entry.Tie as tie
 use Rattle.conditions.proofs.path.entry.Reads as reads
 use Rattle.conditions.proofs.path.entry.Lts as lts
-use Rattle.conditions.proofs.Descents.{entry-turned, entry-plain}
+use Rattle.conditions.proofs.Descents.{entry-written}
 
--- src/path.rt:46:17
-add-result : tie.Need-add-result
-add-result c = search needs
-
--- src/path.rt:46:16
 cast-result : tie.Need-cast-result
 cast-result c = search needs
 
--- src/path.rt:46:9
+mul-result : tie.Need-mul-result
+mul-result c = search needs
+
+add-result : tie.Need-add-result
+add-result c = search needs
+
 returns : tie.Need-returns
-returns c = rw (c .if1 .taken) (entry-turned (c .before .args .i) (c .before .pre))
-
--- src/path.rt:48:5
-cast-result-2 : tie.Need-cast-result-2
-cast-result-2 c = search needs
-
--- src/path.rt:41:1
-returns-2 : tie.Need-returns-2
-returns-2 c = rw (c .if1 .left) (entry-plain (c .before .args .i) (c .before .pre))
+returns c = entry-written (c .args .i) (c .args .n) (c .pre .0) (c .pre .1)
 
 pub entry-spec : {M : Type 1} → statement M
-entry-spec = tie.close (tie.spec add-result cast-result returns cast-result-2 returns-2)
+entry-spec = tie.close (tie.spec cast-result mul-result add-result returns)

@@ -17,7 +17,7 @@ use Rattle.changes.proofs.Standing.{leaves-same, leaves-full}
 
 abbrev Inv-loop : tie.InvT-loop
 Inv-loop formulas effects notes₀ e frame table₀ originals₀ scratch₀ from records₀ n rows₀ twins₀ k₀ v₀ notes table originals scratch records rows twins k v =
-    (length notes ≡ length notes₀) × (length table ≡ length table₀) × (length originals ≡ length originals₀) × (length scratch ≡ length scratch₀) × (length records ≡ length records₀) × Walking frame formulas effects e (record { rows = rows₀; twins = twins₀ }) (store table₀ originals₀) (store table originals) scratch₀ scratch from records₀ records (record { rows = rows; twins = twins }) k v × Noted frame formulas effects notes (held (record { rows = rows; twins = twins }) (store table originals))
+    (length notes ≡ length notes₀) × (length table ≡ length table₀) × (length originals ≡ length originals₀) × (length scratch ≡ length scratch₀) × (length records ≡ length records₀) × Walking frame formulas effects e (record { rows = rows₀; twins = twins₀ }) (store table₀ originals₀) (store table originals) scratch from records₀ records (record { rows = rows; twins = twins }) k v × Noted frame formulas effects notes (held (record { rows = rows; twins = twins }) (store table originals))
 
 abbrev μ-loop : tie.MeasureT-loop
 μ-loop formulas effects notes₀ e frame table₀ originals₀ scratch₀ from records₀ n rows₀ twins₀ k₀ v₀ notes table originals scratch records rows twins k v =

@@ -1,0 +1,48 @@
+// The condition of an effect for an atom that it may name.
+use conditions::Target;
+use conditions::condition;
+use formula_builder::Frame;
+use formula_builder::Size;
+use formula_builder::Step;
+use formula_builder::falsity;
+use formula_builder::standing;
+ghost use mathlib.Core.Path.{_≡_};
+ghost use mathlib.Core.Bool.{false};
+ghost use Prim.Native.Nat.{_<_};
+ghost use Rattle.formula_builder.specs.Held.{store};
+ghost use Rattle.conditions.specs.Conditions.{condition-at, Unnamed, Conditions};
+ghost use Rattle.changes.specs.Stands.{StandsAt};
+
+// The condition of effect e, which is visited only if it names the target's atom; else nothing is built.
+pub fn condition_if(
+    formulas: &[u16],
+    effects: &[u16],
+    notes: &mut [u16],
+    e: usize,
+    t: Target,
+    named: bool,
+    frame: Frame,
+    at: Size,
+    table: &mut [u16],
+    originals: &mut [u16],
+    scratch: &mut [u16],
+) -> Step
+    requires { ⌜ StandsAt frame (now formulas) (now effects) (now notes) at (store (now table) (now originals)) (now scratch) e × (t .variable < frame .variables) × (named ≡ false → Unnamed frame (now formulas) (now effects) (t .clear) (t .variable) e) ⌝ }
+    ensures { λ r. ⌜ Conditions (condition-at frame (now (formulas .entry)) (now (effects .entry)) t e) frame (now (formulas .entry)) (now (effects .entry)) (now (notes .exit)) at (store (now (table .entry)) (now (originals .entry))) (store (now (table .exit)) (now (originals .exit))) (now (scratch .exit)) r ⌝ }
+{
+    if named {
+        return condition(
+            formulas,
+            effects,
+            notes,
+            e,
+            t,
+            frame,
+            at,
+            table,
+            originals,
+            scratch,
+        );
+    }
+    standing(at, falsity(t.negated))
+}
