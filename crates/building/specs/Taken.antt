@@ -34,7 +34,7 @@ pub record Fresh (frame : Frame) (table : List ℕ) : Type 0 where
 -- What the start has stands in the table, whatever stands among the twins.
 pub record Started (frame : Frame) (table : List ℕ) (p : Progress) : Type 0 where
   pub state : (originals : List ℕ) → start ≡ held (size-at p) (store table originals)
-  pub rows : RowsReady frame (p .rows) table
+  pub rows : RowsReady (frame .rows) (p .rows) table
   pub two : 2 ≤ p .rows
   pub twins : p .twins ≡ 0
 

@@ -16,8 +16,8 @@ use Rattle.task.specs.Semantics.{Effect, sets, clears}
 use Rattle.formula_builder.specs.declared.Frame.{Frame}
 use Rattle.formula_builder.specs.declared.Size.{Size}
 use Rattle.formula_builder.specs.declared.Step.{Step}
-use Rattle.formula_builder.specs.Held.{Store, held, size-of, side, done-step, JoinReady, Builds}
-use Rattle.formula_builder.proofs.Steps.{builds-give, falsity-small, within-before}
+use Rattle.formula_builder.specs.Held.{Store, held, size-of, side, stepped, JoinReady, Builds}
+use Rattle.formula_builder.proofs.Steps.{builds-stands, falsity-small, within-before}
 use Rattle.images.specs.Images.{Memo, Images}
 use Rattle.images.proofs.Memos.{done-grows}
 use Rattle.conditions.specs.declared.Target.{Target}
@@ -48,16 +48,16 @@ given-row :
     {frame : Frame} {formulas effects notes : List ℕ} {at : Size} {s : Store} {scratch : List ℕ} {e : ℕ} (x : ℕ)
     → StandsAt frame formulas effects notes at s scratch e
     → x < at .rows
-    → Conditions (give x) frame formulas effects notes at s s scratch (done-step at x)
+    → Conditions (give x) frame formulas effects notes at s s scratch (stepped (at .rows) (at .twins) x)
 given-row x a h =
-    conditions-leaf (steady-give x) (a .noted) (a .stands .memo) (a .stands .effect-memo) (builds-give x (a .stands .ready) h)
+    conditions-leaf (steady-give x) (a .noted) (a .stands .memo) (a .stands .effect-memo) (builds-stands x (a .stands .ready) h)
 
 -- the condition of an atom that the effect does not name
 pub condition-unnamed :
     {frame : Frame} {formulas effects notes : List ℕ} {at : Size} {s : Store} {scratch : List ℕ} {e : ℕ} (t : Target)
     → StandsAt frame formulas effects notes at s scratch e
     → Unnamed frame formulas effects (t .clear) (t .variable) e
-    → Conditions (condition-at frame formulas effects t e) frame formulas effects notes at s s scratch (done-step at (falsity (side (t .negated))))
+    → Conditions (condition-at frame formulas effects t e) frame formulas effects notes at s s scratch (stepped (at .rows) (at .twins) (falsity (side (t .negated))))
 condition-unnamed t a u =
     conditions-as (u .idle t refl refl)
     (given-row (falsity (side (t .negated))) a (omega (arith, falsity-small (side (t .negated)), a .stands .ready .two)))
@@ -201,19 +201,19 @@ module _ {notes : List ℕ} (frame : Frame) (formulas effects : List ℕ) (at : 
 
   stays :
       deletes-of (frame .variables) tree v a d ≡ give d
-      → Conditions (deletes-of (frame .variables) tree v a d) frame formulas effects notes at before before scratch (done-step at d)
+      → Conditions (deletes-of (frame .variables) tree v a d) frame formulas effects notes at before before scratch (stepped (at .rows) (at .twins) d)
   stays q = conditions-as q (given-row d (s .stands) (s .row))
 
   pub never-set :
       a ≡ 0
-      → Conditions (deletes-of (frame .variables) (effect-tree frame formulas effects e) v a d) frame formulas effects notes at before before scratch (done-step at d)
+      → Conditions (deletes-of (frame .variables) (effect-tree frame formulas effects e) v a d) frame formulas effects notes at before before scratch (stepped (at .rows) (at .twins) d)
   unfolding deletes-of tree
   never-set h = stays (rw (eq-eqb a 0 h))
 
   pub never-cleared :
       (a ≡ 0 → ⊥)
       → d ≡ 0
-      → Conditions (deletes-of (frame .variables) (effect-tree frame formulas effects e) v a d) frame formulas effects notes at before before scratch (done-step at d)
+      → Conditions (deletes-of (frame .variables) (effect-tree frame formulas effects e) v a d) frame formulas effects notes at before before scratch (stepped (at .rows) (at .twins) d)
   unfolding deletes-of tree
   never-cleared g h = stays (rw (ne-eqb a 0 g, eq-eqb d 0 h))
 
@@ -230,7 +230,7 @@ module _ {notes : List ℕ} (frame : Frame) (formulas effects : List ℕ) (at : 
     unfolding tree
     negated-full q = conditions-as freed (conditions-stop (λ c. join plain d c) (λ c. steady-join plain d c) x q)
 
-    pub negated-join-asks : n .full ≡ false → JoinReady frame (size-of n) (after .table) d (n .row)
+    pub negated-join-asks : n .full ≡ false → JoinReady (frame .rows) (n .rows) (after .table) d (n .row)
     negated-join-asks q =
         let k = x .builds .done q in
         record {

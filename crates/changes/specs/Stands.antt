@@ -52,9 +52,6 @@ pub record Makes {A : Type 0} (m : Build A) (frame : Frame) (formulas effects : 
   pub reaches : Reaches m frame formulas effects at before after scratch full next
   pub value : full ≡ false → m (held at before) .value ≡ x
 
-abbrev pub size-after : Change → Size
-size-after c = record { rows = c .rows; twins = c .twins }
-
 -- the change of variable v
 abbrev pub made : ℕ → Change → Changes
 made v c = record { variable = v; adds = c .adds; deletes = c .deletes }

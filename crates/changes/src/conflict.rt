@@ -2,12 +2,9 @@
 use conditions::Target;
 use conditions::condition;
 use formula_builder::Frame;
-use formula_builder::Size;
-use formula_builder::Step;
 use formula_builder::join;
-use formula_builder::standing;
 ghost use Rattle.normal_form.specs.Operators.{deletes-of};
-ghost use Rattle.formula_builder.specs.Held.{store};
+ghost use Rattle.formula_builder.specs.Held.{store, sized, stepped};
 ghost use Rattle.conditions.specs.Conditions.{effect-tree, Conditions};
 ghost use Rattle.changes.specs.Stands.{Deletes};
 
@@ -21,19 +18,20 @@ pub fn deletes(
     a: u16,
     d: u16,
     frame: Frame,
-    at: Size,
+    rows: &mut usize,
+    twins: &mut usize,
     table: &mut [u16],
     originals: &mut [u16],
     scratch: &mut [u16],
-) -> Step
-    requires { ⌜ Deletes frame (now formulas) (now effects) (now notes) at (store (now table) (now originals)) (now scratch) e v d ⌝ }
-    ensures { λ r. ⌜ Conditions (deletes-of (frame .variables) (effect-tree frame (now (formulas .entry)) (now (effects .entry)) e) v a d) frame (now (formulas .entry)) (now (effects .entry)) (now (notes .exit)) at (store (now (table .entry)) (now (originals .entry))) (store (now (table .exit)) (now (originals .exit))) (now (scratch .exit)) r ⌝ }
+) -> u16
+    requires { ⌜ Deletes frame (now formulas) (now effects) (now notes) (sized (now rows) (now twins)) (store (now table) (now originals)) (now scratch) e v d ⌝ }
+    ensures { λ r. ⌜ Conditions (deletes-of (frame .variables) (effect-tree frame (now (formulas .entry)) (now (effects .entry)) e) v a d) frame (now (formulas .entry)) (now (effects .entry)) (now (notes .exit)) (sized (now (rows .entry)) (now (twins .entry))) (store (now (table .entry)) (now (originals .entry))) (store (now (table .exit)) (now (originals .exit))) (now (scratch .exit)) (stepped (now (rows .exit)) (now (twins .exit)) r) ⌝ }
 {
     if a == 0 {
-        return standing(at, d);
+        return d;
     }
     if d == 0 {
-        return standing(at, d);
+        return d;
     }
     let t = Target {
         clear: false,
@@ -47,23 +45,14 @@ pub fn deletes(
         e,
         t,
         frame,
-        at,
+        rows,
+        twins,
         table,
         originals,
         scratch,
     );
-    if n.full {
+    if n == 65535 {
         return n;
     }
-    join(
-        table,
-        frame,
-        Size {
-            rows: n.rows,
-            twins: n.twins,
-        },
-        false,
-        d,
-        n.row,
-    )
+    join(rows, table, frame.rows, false, d, n)
 }

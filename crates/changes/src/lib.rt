@@ -7,8 +7,6 @@ pub use variable::change_of;
 
 // The size after a step, and the rows under which a variable is set and cleared, never both; or that there was no room.
 pub struct Change {
-    pub rows: usize,
-    pub twins: usize,
     pub adds: u16,
     pub deletes: u16,
     pub full: bool,

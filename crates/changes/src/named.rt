@@ -2,14 +2,11 @@
 use conditions::Target;
 use conditions::condition;
 use formula_builder::Frame;
-use formula_builder::Size;
-use formula_builder::Step;
 use formula_builder::falsity;
-use formula_builder::standing;
 ghost use mathlib.Core.Path.{_≡_};
 ghost use mathlib.Core.Bool.{false};
 ghost use Prim.Native.Nat.{_<_};
-ghost use Rattle.formula_builder.specs.Held.{store};
+ghost use Rattle.formula_builder.specs.Held.{store, sized, stepped};
 ghost use Rattle.conditions.specs.Conditions.{condition-at, Unnamed, Conditions};
 ghost use Rattle.changes.specs.Stands.{StandsAt};
 
@@ -22,13 +19,14 @@ pub fn condition_if(
     t: Target,
     named: bool,
     frame: Frame,
-    at: Size,
+    rows: &mut usize,
+    twins: &mut usize,
     table: &mut [u16],
     originals: &mut [u16],
     scratch: &mut [u16],
-) -> Step
-    requires { ⌜ StandsAt frame (now formulas) (now effects) (now notes) at (store (now table) (now originals)) (now scratch) e × (t .variable < frame .variables) × (named ≡ false → Unnamed frame (now formulas) (now effects) (t .clear) (t .variable) e) ⌝ }
-    ensures { λ r. ⌜ Conditions (condition-at frame (now (formulas .entry)) (now (effects .entry)) t e) frame (now (formulas .entry)) (now (effects .entry)) (now (notes .exit)) at (store (now (table .entry)) (now (originals .entry))) (store (now (table .exit)) (now (originals .exit))) (now (scratch .exit)) r ⌝ }
+) -> u16
+    requires { ⌜ StandsAt frame (now formulas) (now effects) (now notes) (sized (now rows) (now twins)) (store (now table) (now originals)) (now scratch) e × (t .variable < frame .variables) × (named ≡ false → Unnamed frame (now formulas) (now effects) (t .clear) (t .variable) e) ⌝ }
+    ensures { λ r. ⌜ Conditions (condition-at frame (now (formulas .entry)) (now (effects .entry)) t e) frame (now (formulas .entry)) (now (effects .entry)) (now (notes .exit)) (sized (now (rows .entry)) (now (twins .entry))) (store (now (table .entry)) (now (originals .entry))) (store (now (table .exit)) (now (originals .exit))) (now (scratch .exit)) (stepped (now (rows .exit)) (now (twins .exit)) r) ⌝ }
 {
     if named {
         return condition(
@@ -38,11 +36,12 @@ pub fn condition_if(
             e,
             t,
             frame,
-            at,
+            rows,
+            twins,
             table,
             originals,
             scratch,
         );
     }
-    standing(at, falsity(t.negated))
+    falsity(t.negated)
 }

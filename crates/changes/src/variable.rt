@@ -4,14 +4,13 @@ use crate::conflict::deletes;
 use crate::named::condition_if;
 use conditions::Target;
 use formula_builder::Frame;
-use formula_builder::Size;
 ghost use mathlib.Core.Path.{_≡_};
 ghost use mathlib.Core.Bool.{true, false};
 ghost use Prim.Native.Nat.{_<_};
 ghost use Rattle.normal_form.specs.Operators.{changes-of};
-ghost use Rattle.formula_builder.specs.Held.{store};
+ghost use Rattle.formula_builder.specs.Held.{store, sized};
 ghost use Rattle.conditions.specs.Conditions.{effect-tree, Unnamed};
-ghost use Rattle.changes.specs.Stands.{StandsAt, Makes, Leaves, size-after, made};
+ghost use Rattle.changes.specs.Stands.{StandsAt, Makes, Leaves, made};
 
 // What effect e does to variable v: all of A, then all of D, then N. The two bits say whether e names set v and clear v: a condition is
 // walked for only then.
@@ -24,13 +23,14 @@ pub fn change_of(
     sets: bool,
     clears: bool,
     frame: Frame,
-    at: Size,
+    rows: &mut usize,
+    twins: &mut usize,
     table: &mut [u16],
     originals: &mut [u16],
     scratch: &mut [u16],
 ) -> Change
-    requires { ⌜ StandsAt frame (now formulas) (now effects) (now notes) at (store (now table) (now originals)) (now scratch) e × (sets ≡ false → Unnamed frame (now formulas) (now effects) false v e) × (clears ≡ false → Unnamed frame (now formulas) (now effects) true v e) × (v < frame .variables) ⌝ }
-    ensures { λ r. ⌜ Makes (changes-of (frame .variables) (effect-tree frame (now (formulas .entry)) (now (effects .entry)) e) v) frame (now (formulas .entry)) (now (effects .entry)) at (store (now (table .entry)) (now (originals .entry))) (store (now (table .exit)) (now (originals .exit))) (now (scratch .exit)) (r .full) (size-after r) (made v r) × Leaves (r .full) frame (now (formulas .entry)) (now (effects .entry)) (now (notes .exit)) (size-after r) (store (now (table .exit)) (now (originals .exit))) ⌝ }
+    requires { ⌜ StandsAt frame (now formulas) (now effects) (now notes) (sized (now rows) (now twins)) (store (now table) (now originals)) (now scratch) e × (sets ≡ false → Unnamed frame (now formulas) (now effects) false v e) × (clears ≡ false → Unnamed frame (now formulas) (now effects) true v e) × (v < frame .variables) ⌝ }
+    ensures { λ r. ⌜ Makes (changes-of (frame .variables) (effect-tree frame (now (formulas .entry)) (now (effects .entry)) e) v) frame (now (formulas .entry)) (now (effects .entry)) (sized (now (rows .entry)) (now (twins .entry))) (store (now (table .entry)) (now (originals .entry))) (store (now (table .exit)) (now (originals .exit))) (now (scratch .exit)) (r .full) (sized (now (rows .exit)) (now (twins .exit))) (made v r) × Leaves (r .full) frame (now (formulas .entry)) (now (effects .entry)) (now (notes .exit)) (sized (now (rows .exit)) (now (twins .exit))) (store (now (table .exit)) (now (originals .exit))) ⌝ }
 {
     let set = Target {
         clear: false,
@@ -45,24 +45,19 @@ pub fn change_of(
         set,
         sets,
         frame,
-        at,
+        rows,
+        twins,
         table,
         originals,
         scratch,
     );
-    if a.full {
+    if a == 65535 {
         return Change {
-            rows: a.rows,
-            twins: a.twins,
             adds: 0,
             deletes: 0,
             full: true,
         };
     }
-    let mid = Size {
-        rows: a.rows,
-        twins: a.twins,
-    };
     let unset = Target {
         clear: true,
         variable: v,
@@ -76,43 +71,37 @@ pub fn change_of(
         unset,
         clears,
         frame,
-        mid,
+        rows,
+        twins,
         table,
         originals,
         scratch,
     );
-    if d.full {
+    if d == 65535 {
         return Change {
-            rows: d.rows,
-            twins: d.twins,
             adds: 0,
             deletes: 0,
             full: true,
         };
     }
-    let next = Size {
-        rows: d.rows,
-        twins: d.twins,
-    };
     let k = deletes(
         formulas,
         effects,
         notes,
         e,
         v,
-        a.row,
-        d.row,
+        a,
+        d,
         frame,
-        next,
+        rows,
+        twins,
         table,
         originals,
         scratch,
     );
     Change {
-        rows: k.rows,
-        twins: k.twins,
-        adds: a.row,
-        deletes: k.row,
-        full: k.full,
+        adds: a,
+        deletes: k,
+        full: k == 65535,
     }
 }

@@ -8,14 +8,14 @@ use lib.ListN.{length}
 use Rattle.formula_builder.specs.declared.Frame.{Frame}
 use Rattle.formula_builder.specs.declared.Size.{Size}
 use Rattle.formula_builder.specs.declared.Step.{Step}
-use Rattle.formula_builder.specs.Held.{Store, size-of, done-step}
+use Rattle.formula_builder.specs.Held.{Store, size-of, stepped}
 use Rattle.images.proofs.Memos.{done-known}
 use Rattle.conditions.specs.declared.Target.{Target}
 use Rattle.conditions.specs.declared.Bottom.{Bottom}
 use Rattle.conditions.specs.Conditions.{condition-at, path-at, PathStays, Asks, Conditions}
 use Rattle.conditions.specs.Paths.{onward, Leads, entry-row, entry-pass, AsksSeen, Sees, Descent, AsksDescent, Descended, AsksBelow, AsksOnward, Climbs, Rising}
 use Rattle.conditions.proofs.Notes.{steady-condition-at, looks, stays-refl, stays-trans, stays-fewer}
-use Rattle.conditions.proofs.Memos.{conditions-as, asks-next, conditions-bind, conditions-stop, conditions-known}
+use Rattle.conditions.proofs.Memos.{conditions-as, asks-next, conditions-bind, conditions-stop, known-small, conditions-stands}
 use Rattle.conditions.proofs.Cases.{steady-onward}
 use Rattle.conditions.proofs.Descents.{follows-as}
 
@@ -120,7 +120,7 @@ module _ {frame : Frame} {formulas effects notes : List ℕ} {t : Target} {at : 
   pub rising-none :
       {notes' : List ℕ} {b : Bottom}
       → Descended frame effects notes notes' scratch t e from b
-      → Rising frame formulas effects notes' notes' t e from (b .depth) at before before scratch (done-step at (b .known - 1))
+      → Rising frame formulas effects notes' notes' t e from (b .depth) at before before scratch (stepped (at .rows) (at .twins) (b .known - 1))
   rising-none {notes'} {b} d =
       let x = d .descending in
       let low : d .row ≤ e = omega (arith, x .descent .last .falls, x .descent .begins) in
@@ -141,11 +141,11 @@ module _ {frame : Frame} {formulas effects notes : List ℕ} {t : Target} {at : 
         climbs =
             record {
               conditions =
-                  conditions-known frame formulas effects t at before scratch (d .row) (b .known - 1) asks
+                  conditions-stands frame formulas effects t at before scratch (d .row) (b .known - 1) asks
                   (x .sees .known formulas at before asks (d .found));
               stays = stays-refl frame notes' from;
             };
-        going = refl;
+        going = known-small (a .asks .ready) (x .sees .known formulas at before asks (d .found));
       }
 
   module _ {notes₀ notes₁ : List ℕ} {mid : Store} {s1 : List ℕ} {l : Step} {depth : ℕ} (down : PathStays frame notes notes₀ from) (x : Rising frame formulas effects notes₀ notes₁ t e from depth at before mid s1 l) where

@@ -151,11 +151,12 @@ module _ {frame : Frame} {formulas effects notes : List ℕ} {t : Target} {s : S
           }
 
       module _ (k : f .full ≡ false) where
-        pub under-join-asks : AsksJoin frame notes e (size-of f) (after .table) (f .row) (s .row)
+        pub under-join-asks : AsksJoin frame notes e (f .rows) (after .table) (f .row) (s .row)
         under-join-asks =
             let m = y .builds .done k in
             record {
               looks = looks (x .asks) refl;
+              twins = f .twins;
               originals = after .originals;
               ready = m .ready;
               left = m .below;
@@ -190,12 +191,13 @@ module _ {frame : Frame} {formulas effects notes : List ℕ} {t : Target} {s : S
 
   -- it is known
   module _ {w : ℕ} (k : Known (condition-at frame formulas effects t d) (held (size-of s) before) w) where
-    pub known-join-asks : AsksJoin frame notes e (size-of s) (before .table) (s .row) w
+    pub known-join-asks : AsksJoin frame notes e (s .rows) (before .table) (s .row) w
     unfolding held
     known-join-asks =
         let b : w < length (upto (s .rows) (row-at (before .table))) = k .below in
         record {
           looks = join-looks refl;
+          twins = s .twins;
           originals = before .originals;
           ready = x .asks .ready;
           left = x .left;
@@ -232,11 +234,12 @@ module _ {frame : Frame} {formulas effects notes : List ℕ} {t : Target} {s : S
         }
 
     module _ (g : r .full ≡ false) where
-      pub right-join-asks : AsksJoin frame notes' e (size-of r) (after .table) (s .row) (r .row)
+      pub right-join-asks : AsksJoin frame notes' e (r .rows) (after .table) (s .row) (r .row)
       right-join-asks =
           let m = y .conditions .builds .done g in
           record {
             looks = join-looks (y .stays .long);
+            twins = r .twins;
             originals = after .originals;
             ready = m .ready;
             left = omega (arith, x .left, m .grew);

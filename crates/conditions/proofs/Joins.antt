@@ -2,6 +2,7 @@
 use Prim.Native.Nat.{ℕ, _+_, _-_, _*_, _≤_, _<_}
 use native.Mathlib.Omega.{arith}
 use native.Mathlib.Decide.{ℕ-discrete}
+use borrow.Author.Tests.{ne-eqb}
 use mathlib.Core.Path.{_≡_, refl, sym, ap, _∙_}
 use mathlib.Core.Bool.{Bool, false}
 use mathlib.Core.List.{List}
@@ -16,7 +17,7 @@ use Rattle.normal_form.proofs.Growth.{steady-join}
 use Rattle.formula_builder.specs.declared.Frame.{Frame}
 use Rattle.formula_builder.specs.declared.Size.{Size}
 use Rattle.formula_builder.specs.declared.Step.{Step}
-use Rattle.formula_builder.specs.Held.{Store, store, held, size-of, side, done-step, JoinReady, Ready, Builds}
+use Rattle.formula_builder.specs.Held.{Store, store, held, size-of, sized, stepped, side, JoinReady, Ready, Builds}
 use Rattle.formula_builder.proofs.Steps.{builds-done}
 use Rattle.images.specs.Images.{Known, Memo}
 use Rattle.images.proofs.Memos.{memo-grows, done-grows, done-known}
@@ -152,27 +153,25 @@ module _ {frame : Frame} {notes : List ℕ} {e : ℕ} (a : Looks frame notes e) 
         }
 
   pub keep-join-kept :
-      (t : Target) (l r : ℕ) (x : Step)
-      → t .negated ≡ false
-      → KeepsJoin frame notes (with-join notes (join-place frame e) l r (x .row)) t e l r x
+      (t : Target) (l r x : ℕ) → t .negated ≡ false → KeepsJoin frame notes (with-join notes (join-place frame e) l r x) t e l r x
   keep-join-kept t l r x p =
-      record { stays = join-stays l r (x .row); noted = λ formulas effects s now n. join-noted l r (x .row) (now p) n }
+      record { stays = join-stays l r x; noted = λ formulas effects s now n. join-noted l r x (now p) n }
 
-pub keep-join-none : (frame : Frame) (notes : List ℕ) (t : Target) (e l r : ℕ) (x : Step) → KeepsJoin frame notes notes t e l r x
+pub keep-join-none : (frame : Frame) (notes : List ℕ) (t : Target) (e l r x : ℕ) → KeepsJoin frame notes notes t e l r x
 keep-join-none frame notes t e l r x =
     record { stays = stays-refl frame notes (frame .effects); noted = λ formulas effects s now n. n }
 
 -- What the join asks, and that its row fits a word.
-module _ {frame : Frame} {notes : List ℕ} {e : ℕ} {at : Size} {table : List ℕ} {l r : ℕ} (a : AsksJoin frame notes e at table l r) where
-  pub join-ready : JoinReady frame at table l r
+module _ {frame : Frame} {notes : List ℕ} {e stand : ℕ} {table : List ℕ} {l r : ℕ} (a : AsksJoin frame notes e stand table l r) where
+  pub join-ready : JoinReady (frame .rows) stand table l r
   join-ready = record { rows = a .ready .rows; two = a .ready .two; left = a .left; right = a .right }
 
   pub join-small :
-      {m : Build ℕ} {table' : List ℕ} {x : Step}
-      → ((o : List ℕ) → Ready frame at (store table o) → Builds m frame at (store table o) (store table' o) x)
-      → x .full ≡ false
-      → x .row < 4096
-  join-small b = small-row (b (a .originals) (a .ready))
+      {m : Build ℕ} {table' : List ℕ} {stand' x : ℕ}
+      → ((w : ℕ) (o : List ℕ) → Ready frame (sized stand w) (store table o) → Builds m frame (sized stand w) (store table o) (store table' o) (stepped stand' w x))
+      → eqb x 65535 ≡ false
+      → x < 4096
+  join-small b = small-row (b (a .twins) (a .originals) (a .ready))
 
 -- a plain target joins as row e does
 join-flag :
@@ -182,7 +181,7 @@ join-flag effects e l r or q = rw q
 -- The join of rows l and r for row e.
 module _ {frame : Frame} {notes : List ℕ} {t : Target} {e : ℕ} {or : Bool} {at : Size} {l r : ℕ} {before : Store} where
   pub joined-kept :
-      {w : ℕ} → Rejoins frame notes t e l r w → 0 < w → Joined frame notes notes t e or at l r before before (done-step at (w - 1))
+      {w : ℕ} → Rejoins frame notes t e l r w → 0 < w → Joined frame notes notes t e or at l r before before (stepped (at .rows) (at .twins) (w - 1))
   unfolding held
   joined-kept {w} k h =
       record {
@@ -191,12 +190,14 @@ module _ {frame : Frame} {notes : List ℕ} {t : Target} {e : ℕ} {or : Bool} {
             let known : Known (join (side or) l r) (held at before) (w - 1) =
             rw (join-flag effects e l r or (a .flag (k .plain h))) at (k .known formulas effects (held at before) (a .noted) h) in
             let b : w - 1 < length (upto (at .rows) (row-at (before .table))) = known .below in
-            builds-done refl
+            let low : w - 1 < at .rows = rw (length-upto (at .rows) (row-at (before .table))) at b in
+            builds-done
+            (ne-eqb (w - 1) 65535 (λ q. omega (arith, low, a .ready .rows .within, a .ready .rows .limit)))
             (record {
               value = ap (λ (g : Got ℕ). g .value) (known .again);
               state = ap (λ (g : Got ℕ). g .st) (known .again);
               ready = a .ready;
-              below = rw (length-upto (at .rows) (row-at (before .table))) at b;
+              below = low;
               grew = omega arith;
             });
         noted = λ formulas effects a q. a .noted;
@@ -205,7 +206,7 @@ module _ {frame : Frame} {notes : List ℕ} {t : Target} {e : ℕ} {or : Bool} {
   pub joined-made :
       {notes' : List ℕ} {after : Store} {x : Step}
       → (Ready frame at before → Builds (join (side or) l r) frame at before after x)
-      → KeepsJoin frame notes notes' t e l r x
+      → KeepsJoin frame notes notes' t e l r (x .row)
       → Joined frame notes notes' t e or at l r before after x
   joined-made {after = after} {x = x} b keeps =
       let steady = steady-join (side or) l r in

@@ -1,6 +1,8 @@
 -- The memo of effect conditions stays right while the state grows, and steps with both memos are put together. Assumes nothing.
 use Prim.Native.Nat.{ℕ, _+_, _-_, _*_, _≤_, _<_}
 use native.Mathlib.Omega.{arith}
+use lib.Dec.{eqb}
+use borrow.Author.Tests.{ne-eqb}
 use native.Mathlib.Decide.{ℕ-discrete}
 use mathlib.Core.Path.{_≡_, refl, sym, ap, _∙_}
 use mathlib.Core.Bool.{true, false, cond, true≢false}
@@ -16,7 +18,7 @@ use Rattle.normal_form.specs.Growth.{Grows, Steady}
 use Rattle.formula_builder.specs.declared.Frame.{Frame}
 use Rattle.formula_builder.specs.declared.Size.{Size}
 use Rattle.formula_builder.specs.declared.Step.{Step}
-use Rattle.formula_builder.specs.Held.{Store, held, size-of, done-step, Builds}
+use Rattle.formula_builder.specs.Held.{Store, held, size-of, stepped, done-step, Ready, Builds}
 use Rattle.formula_builder.proofs.Steps.{builds-done, builds-as, builds-bind, builds-stop}
 use Rattle.images.specs.Images.{Known, Memo, memo-place, Images}
 use Rattle.images.proofs.Memos.{known-grows, memo-grows, done-grows, place-within}
@@ -261,6 +263,24 @@ conditions-known frame formulas effects t at before scratch e r a k =
       memo = λ _. a .memo;
       effect-memo = λ _. a .effect-memo;
     }
+
+-- the same row is small, and answered as a number
+pub known-small :
+    {m : Build ℕ} {frame : Frame} {at : Size} {s : Store} {r : ℕ} → Ready frame at s → Known m (held at s) r → eqb r 65535 ≡ false
+unfolding held
+known-small {at = at} {s} {r} ready k =
+    let b : r < length (upto (at .rows) (row-at (s .table))) = k .below in
+    let low : r < at .rows = rw (length-upto (at .rows) (row-at (s .table))) at b in
+    ne-eqb r 65535 (λ q. omega (arith, low, ready .rows .within, ready .rows .limit))
+
+pub conditions-stands :
+    {notes : List ℕ} (frame : Frame) (formulas effects : List ℕ) (t : Target) (at : Size) (before : Store) (scratch : List ℕ) (e r : ℕ)
+    → Asks frame formulas effects notes t at before scratch e
+    → Known (condition-at frame formulas effects t e) (held at before) r
+    → Conditions (condition-at frame formulas effects t e) frame formulas effects notes at before before scratch
+    (stepped (at .rows) (at .twins) r)
+conditions-stands frame formulas effects t at before scratch e r a k =
+    rw (known-small (a .ready) k) (conditions-known frame formulas effects t at before scratch e r a k)
 
 -- A step comes to effect e's condition, which is kept.
 pub conditions-kept :

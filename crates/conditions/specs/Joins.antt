@@ -9,7 +9,7 @@ use Rattle.normal_form.specs.Builder.{St, join}
 use Rattle.formula_builder.specs.declared.Frame.{Frame}
 use Rattle.formula_builder.specs.declared.Size.{Size}
 use Rattle.formula_builder.specs.declared.Step.{Step}
-use Rattle.formula_builder.specs.Held.{Store, store, held, size-of, side, Ready, Builds}
+use Rattle.formula_builder.specs.Held.{Store, store, held, size-of, sized, side, Ready, Builds}
 use Rattle.images.specs.Images.{Known}
 use Rattle.conditions.specs.declared.Target.{Target}
 use Rattle.conditions.specs.Conditions.{join-of, Noted, Looks, PathStays}
@@ -24,21 +24,22 @@ pub record Rejoins (frame : Frame) (notes : List ℕ) (t : Target) (e l r w : �
       → Known (join-of effects e l r) s (w - 1)
 
 -- The path stays as it is, and the notes stay right if the target is negated, or row x is known as the join of rows l and r for row e.
-pub record KeepsJoin (frame : Frame) (notes notes' : List ℕ) (t : Target) (e l r : ℕ) (x : Step) : Type 0 where
+pub record KeepsJoin (frame : Frame) (notes notes' : List ℕ) (t : Target) (e l r x : ℕ) : Type 0 where
   pub stays : PathStays frame notes notes' (frame .effects)
   pub noted :
       (formulas effects : List ℕ) (s : St)
-      → (t .negated ≡ false → Known (join-of effects e l r) s (x .row))
+      → (t .negated ≡ false → Known (join-of effects e l r) s x)
       → Noted frame formulas effects notes s
       → Noted frame formulas effects notes' s
 
--- What joining rows l and r for row e asks. The originals are those of the store that has the table.
-pub record AsksJoin (frame : Frame) (notes : List ℕ) (e : ℕ) (at : Size) (table : List ℕ) (l r : ℕ) : Type 0 where
+-- What joining rows l and r for row e asks. The twins and originals are those that stand beside the table.
+pub record AsksJoin (frame : Frame) (notes : List ℕ) (e stand : ℕ) (table : List ℕ) (l r : ℕ) : Type 0 where
   pub looks : Looks frame notes e
+  pub twins : ℕ
   pub originals : List ℕ
-  pub ready : Ready frame at (store table originals)
-  pub left : l < at .rows
-  pub right : r < at .rows
+  pub ready : Ready frame (sized stand twins) (store table originals)
+  pub left : l < stand
+  pub right : r < stand
 
 -- The notes are right, and a plain target's flag is that of row e's join.
 pub record JoinsAs (frame : Frame) (formulas effects notes : List ℕ) (t : Target) (e : ℕ) (or : Bool) (at : Size) (before : Store) : Type 0 where

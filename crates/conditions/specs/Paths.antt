@@ -70,7 +70,7 @@ pub record Descent (frame : Frame) (effects notes : List ℕ) (t : Target) (from
   pub last : Follows frame effects notes t from e depth i
   pub entries : (d : ℕ) → from ≤ d → d < depth → Follows frame effects notes t from e d (entry-row (path-at frame notes d))
 
--- What choosing the way from row e asks. The code is not handed the scratch beside which the source stands.
+-- What choosing the way from row e asks. The memo is that of the scratch that there is.
 pub record AsksTurn (frame : Frame) (effects notes : List ℕ) (t : Target) (e : ℕ) : Type 0 where
   pub scratch : List ℕ
   pub source : EffectSource frame effects scratch

@@ -1,5 +1,5 @@
 // The condition of an effect: the builder goes down a path from a row and up again, and recurses to the right effect of "both", which is
-// a lower row. No row is built twice for one condition.
+// a lower row. A row that is kept is not built again for its target.
 use crate::Target;
 use crate::joined::joined;
 use crate::kept::keep;
@@ -7,12 +7,9 @@ use crate::path::descend;
 use crate::seen::seen;
 use crate::under::under;
 use formula_builder::Frame;
-use formula_builder::Size;
-use formula_builder::Step;
 use formula_builder::read_row;
-use formula_builder::standing;
 ghost use mathlib.Core.Bool.{false};
-ghost use Rattle.formula_builder.specs.Held.{store, size-of};
+ghost use Rattle.formula_builder.specs.Held.{store, sized, stepped};
 ghost use Rattle.conditions.specs.Conditions.{Asks, Conditions, condition-at};
 ghost use Rattle.conditions.specs.Paths.{right-of, onward, AsksBelow, AsksRight, AsksOnward, Climbs};
 
@@ -24,17 +21,18 @@ pub fn condition(
     e: usize,
     t: Target,
     frame: Frame,
-    at: Size,
+    rows: &mut usize,
+    twins: &mut usize,
     table: &mut [u16],
     originals: &mut [u16],
     scratch: &mut [u16],
-) -> Step
-    requires { ⌜ Asks frame (now formulas) (now effects) (now notes) t at (store (now table) (now originals)) (now scratch) e ⌝ }
-    ensures { λ r. ⌜ Conditions (condition-at frame (now (formulas .entry)) (now (effects .entry)) t e) frame (now (formulas .entry)) (now (effects .entry)) (now (notes .exit)) at (store (now (table .entry)) (now (originals .entry))) (store (now (table .exit)) (now (originals .exit))) (now (scratch .exit)) r ⌝ }
+) -> u16
+    requires { ⌜ Asks frame (now formulas) (now effects) (now notes) t (sized (now rows) (now twins)) (store (now table) (now originals)) (now scratch) e ⌝ }
+    ensures { λ r. ⌜ Conditions (condition-at frame (now (formulas .entry)) (now (effects .entry)) t e) frame (now (formulas .entry)) (now (effects .entry)) (now (notes .exit)) (sized (now (rows .entry)) (now (twins .entry))) (store (now (table .entry)) (now (originals .entry))) (store (now (table .exit)) (now (originals .exit))) (now (scratch .exit)) (stepped (now (rows .exit)) (now (twins .exit)) r) ⌝ }
 {
     let known = seen(effects, notes, scratch, frame, t, e);
     if 0 < known {
-        return standing(at, known - 1);
+        return known - 1;
     }
     below(
         formulas,
@@ -44,7 +42,8 @@ pub fn condition(
         0,
         t,
         frame,
-        at,
+        rows,
+        twins,
         table,
         originals,
         scratch,
@@ -60,18 +59,19 @@ fn below(
     from: usize,
     t: Target,
     frame: Frame,
-    at: Size,
+    rows: &mut usize,
+    twins: &mut usize,
     table: &mut [u16],
     originals: &mut [u16],
     scratch: &mut [u16],
-) -> Step
-    requires { ⌜ AsksBelow frame (now formulas) (now effects) (now notes) t at (store (now table) (now originals)) (now scratch) e from ⌝ }
-    ensures { λ r. ⌜ Climbs (condition-at frame (now (formulas .entry)) (now (effects .entry)) t e) frame (now (formulas .entry)) (now (effects .entry)) (now (notes .entry)) (now (notes .exit)) from at (store (now (table .entry)) (now (originals .entry))) (store (now (table .exit)) (now (originals .exit))) (now (scratch .exit)) r ⌝ }
+) -> u16
+    requires { ⌜ AsksBelow frame (now formulas) (now effects) (now notes) t (sized (now rows) (now twins)) (store (now table) (now originals)) (now scratch) e from ⌝ }
+    ensures { λ r. ⌜ Climbs (condition-at frame (now (formulas .entry)) (now (effects .entry)) t e) frame (now (formulas .entry)) (now (effects .entry)) (now (notes .entry)) (now (notes .exit)) from (sized (now (rows .entry)) (now (twins .entry))) (store (now (table .entry)) (now (originals .entry))) (store (now (table .exit)) (now (originals .exit))) (now (scratch .exit)) (stepped (now (rows .exit)) (now (twins .exit)) r) ⌝ }
 {
     let bottom = descend(effects, notes, scratch, frame, t, e, from);
     let base = notes.len() - frame.effects;
     let mut depth = bottom.depth;
-    let mut s = standing(at, bottom.known - 1);
+    let mut s = bottom.known - 1;
     while from < depth {
         depth -= 1;
         let w = notes[base + depth];
@@ -87,11 +87,13 @@ fn below(
             t,
             frame,
             s,
+            rows,
+            twins,
             table,
             originals,
             scratch,
         );
-        if s.full {
+        if s == 65535 {
             return s;
         }
     }
@@ -108,16 +110,18 @@ fn raise(
     from: usize,
     t: Target,
     frame: Frame,
-    s: Step,
+    s: u16,
+    rows: &mut usize,
+    twins: &mut usize,
     table: &mut [u16],
     originals: &mut [u16],
     scratch: &mut [u16],
-) -> Step
-    requires { ⌜ AsksOnward frame (now formulas) (now effects) (now notes) t s (store (now table) (now originals)) (now scratch) pass e from ⌝ }
-    ensures { λ r. ⌜ Climbs (onward frame (now (formulas .entry)) (now (effects .entry)) t pass e (s .row)) frame (now (formulas .entry)) (now (effects .entry)) (now (notes .entry)) (now (notes .exit)) from (size-of s) (store (now (table .entry)) (now (originals .entry))) (store (now (table .exit)) (now (originals .exit))) (now (scratch .exit)) r ⌝ }
+) -> u16
+    requires { ⌜ AsksOnward frame (now formulas) (now effects) (now notes) t (stepped (now rows) (now twins) s) (store (now table) (now originals)) (now scratch) pass e from ⌝ }
+    ensures { λ r. ⌜ Climbs (onward frame (now (formulas .entry)) (now (effects .entry)) t pass e s) frame (now (formulas .entry)) (now (effects .entry)) (now (notes .entry)) (now (notes .exit)) from (sized (now (rows .entry)) (now (twins .entry))) (store (now (table .entry)) (now (originals .entry))) (store (now (table .exit)) (now (originals .exit))) (now (scratch .exit)) (stepped (now (rows .exit)) (now (twins .exit)) r) ⌝ }
 {
     if pass {
-        keep(notes, scratch, frame, t, e, s.row);
+        keep(notes, scratch, frame, t, e, s);
         return s;
     }
     let r = above(
@@ -129,14 +133,16 @@ fn raise(
         t,
         frame,
         s,
+        rows,
+        twins,
         table,
         originals,
         scratch,
     );
-    if r.full {
+    if r == 65535 {
         return r;
     }
-    keep(notes, scratch, frame, t, e, r.row);
+    keep(notes, scratch, frame, t, e, r);
     r
 }
 
@@ -149,13 +155,15 @@ fn above(
     from: usize,
     t: Target,
     frame: Frame,
-    s: Step,
+    s: u16,
+    rows: &mut usize,
+    twins: &mut usize,
     table: &mut [u16],
     originals: &mut [u16],
     scratch: &mut [u16],
-) -> Step
-    requires { ⌜ AsksOnward frame (now formulas) (now effects) (now notes) t s (store (now table) (now originals)) (now scratch) false e from ⌝ }
-    ensures { λ r. ⌜ Climbs (onward frame (now (formulas .entry)) (now (effects .entry)) t false e (s .row)) frame (now (formulas .entry)) (now (effects .entry)) (now (notes .entry)) (now (notes .exit)) from (size-of s) (store (now (table .entry)) (now (originals .entry))) (store (now (table .exit)) (now (originals .exit))) (now (scratch .exit)) r ⌝ }
+) -> u16
+    requires { ⌜ AsksOnward frame (now formulas) (now effects) (now notes) t (stepped (now rows) (now twins) s) (store (now table) (now originals)) (now scratch) false e from ⌝ }
+    ensures { λ r. ⌜ Climbs (onward frame (now (formulas .entry)) (now (effects .entry)) t false e s) frame (now (formulas .entry)) (now (effects .entry)) (now (notes .entry)) (now (notes .exit)) from (sized (now (rows .entry)) (now (twins .entry))) (store (now (table .entry)) (now (originals .entry))) (store (now (table .exit)) (now (originals .exit))) (now (scratch .exit)) (stepped (now (rows .exit)) (now (twins .exit)) r) ⌝ }
 {
     let w = read_row(effects, e);
     if w.kind == 3 {
@@ -170,6 +178,8 @@ fn above(
             t,
             frame,
             s,
+            rows,
+            twins,
             table,
             originals,
             scratch,
@@ -183,6 +193,8 @@ fn above(
         t,
         frame,
         s,
+        rows,
+        twins,
         table,
         originals,
         scratch,
@@ -199,21 +211,19 @@ fn both(
     from: usize,
     t: Target,
     frame: Frame,
-    s: Step,
+    s: u16,
+    rows: &mut usize,
+    twins: &mut usize,
     table: &mut [u16],
     originals: &mut [u16],
     scratch: &mut [u16],
-) -> Step
-    requires { ⌜ AsksRight frame (now formulas) (now effects) (now notes) t s (store (now table) (now originals)) (now scratch) e d from ⌝ }
-    ensures { λ r. ⌜ Climbs (right-of frame (now (formulas .entry)) (now (effects .entry)) t d (s .row)) frame (now (formulas .entry)) (now (effects .entry)) (now (notes .entry)) (now (notes .exit)) from (size-of s) (store (now (table .entry)) (now (originals .entry))) (store (now (table .exit)) (now (originals .exit))) (now (scratch .exit)) r ⌝ }
+) -> u16
+    requires { ⌜ AsksRight frame (now formulas) (now effects) (now notes) t (stepped (now rows) (now twins) s) (store (now table) (now originals)) (now scratch) e d from ⌝ }
+    ensures { λ r. ⌜ Climbs (right-of frame (now (formulas .entry)) (now (effects .entry)) t d s) frame (now (formulas .entry)) (now (effects .entry)) (now (notes .entry)) (now (notes .exit)) from (sized (now (rows .entry)) (now (twins .entry))) (store (now (table .entry)) (now (originals .entry))) (store (now (table .exit)) (now (originals .exit))) (now (scratch .exit)) (stepped (now (rows .exit)) (now (twins .exit)) r) ⌝ }
 {
-    let at = Size {
-        rows: s.rows,
-        twins: s.twins,
-    };
     let known = seen(effects, notes, scratch, frame, t, d);
     if 0 < known {
-        return joined(notes, e, t, !t.negated, frame, at, s.row, known - 1, table);
+        return joined(notes, e, t, !t.negated, frame, rows, s, known - 1, table);
     }
     let r = below(
         formulas,
@@ -223,17 +233,14 @@ fn both(
         from,
         t,
         frame,
-        at,
+        rows,
+        twins,
         table,
         originals,
         scratch,
     );
-    if r.full {
+    if r == 65535 {
         return r;
     }
-    let mid = Size {
-        rows: r.rows,
-        twins: r.twins,
-    };
-    joined(notes, e, t, !t.negated, frame, mid, s.row, r.row, table)
+    joined(notes, e, t, !t.negated, frame, rows, s, r, table)
 }

@@ -2,15 +2,13 @@
 // row of the join plus 1, or 0. A row joins for plain targets by one kind alone, so only those are kept. Constant cost, but for a join.
 use crate::Target;
 use formula_builder::Frame;
-use formula_builder::Size;
-use formula_builder::Step;
 use formula_builder::join;
-use formula_builder::standing;
 ghost use mathlib.Core.Path.{_≡_};
 ghost use mathlib.Core.Bool.{false};
 ghost use mathlib.Core.List.{List};
 ghost use Prim.Native.Nat.{ℕ, _<_};
-ghost use Rattle.formula_builder.specs.Held.{store};
+ghost use lib.Dec.{eqb};
+ghost use Rattle.formula_builder.specs.Held.{store, sized, stepped};
 ghost use Rattle.conditions.specs.Conditions.{Looks};
 ghost use Rattle.conditions.specs.Joins.{Rejoins, KeepsJoin, AsksJoin, Joined};
 
@@ -32,21 +30,21 @@ fn last_join(notes: &[u16], frame: Frame, t: Target, e: usize, l: u16, r: u16) -
     notes[k + 2]
 }
 
-// Keeps x, the join of rows l and r for row e, if the target is plain.
-fn keep_join(notes: &mut [u16], frame: Frame, t: Target, e: usize, l: u16, r: u16, x: Step)
-    requires { ⌜ Looks frame (now notes) e × (x .full ≡ false → x .row < 4096) ⌝ }
+// Keeps x, the join of rows l and r for row e, if the target is plain and there was room.
+fn keep_join(notes: &mut [u16], frame: Frame, t: Target, e: usize, l: u16, r: u16, x: u16)
+    requires { ⌜ Looks frame (now notes) e × (eqb x 65535 ≡ false → x < 4096) ⌝ }
     ensures { λ _. ⌜ KeepsJoin frame (now (notes .entry)) (now (notes .exit)) t e l r x ⌝ }
 {
     if t.negated {
         return;
     }
-    if x.full {
+    if x == 65535 {
         return;
     }
     let k = frame.effects + 3 * e;
     notes[k] = l;
     notes[k + 1] = r;
-    notes[k + 2] = x.row + 1;
+    notes[k + 2] = x + 1;
 }
 
 // The join of rows l and r for row e, "and" or "or": what is kept, or made and kept.
@@ -56,19 +54,19 @@ pub fn joined(
     t: Target,
     or: bool,
     frame: Frame,
-    at: Size,
+    rows: &mut usize,
     l: u16,
     r: u16,
     table: &mut [u16],
-) -> Step
-    requires { ⌜ AsksJoin frame (now notes) e at (now table) l r ⌝ }
-    ensures { λ x. ⌜ ((o : List ℕ) → Joined frame (now (notes .entry)) (now (notes .exit)) t e or at l r (store (now (table .entry)) o) (store (now (table .exit)) o) x) ⌝ }
+) -> u16
+    requires { ⌜ AsksJoin frame (now notes) e (now rows) (now table) l r ⌝ }
+    ensures { λ x. ⌜ ((w : ℕ) (o : List ℕ) → Joined frame (now (notes .entry)) (now (notes .exit)) t e or (sized (now (rows .entry)) w) l r (store (now (table .entry)) o) (store (now (table .exit)) o) (stepped (now (rows .exit)) w x)) ⌝ }
 {
     let w = last_join(notes, frame, t, e, l, r);
     if 0 < w {
-        return standing(at, w - 1);
+        return w - 1;
     }
-    let x = join(table, frame, at, or, l, r);
+    let x = join(rows, table, frame.rows, or, l, r);
     keep_join(notes, frame, t, e, l, r, x);
     x
 }

@@ -2,14 +2,12 @@
 use crate::Target;
 use crate::joined::joined;
 use formula_builder::Frame;
-use formula_builder::Size;
-use formula_builder::Step;
 use formula_builder::falsity;
 use formula_builder::read_row;
 use images::sided;
 ghost use Rattle.task.specs.Table.{row-at};
 ghost use Rattle.normal_form.specs.Conditions.{guarded};
-ghost use Rattle.formula_builder.specs.Held.{store, side, size-of};
+ghost use Rattle.formula_builder.specs.Held.{store, side, sized, stepped};
 ghost use Rattle.images.specs.Images.{tree};
 ghost use Rattle.conditions.specs.Paths.{AsksUnder, Climbs};
 
@@ -21,38 +19,33 @@ pub fn under(
     e: usize,
     t: Target,
     frame: Frame,
-    s: Step,
+    s: u16,
+    rows: &mut usize,
+    twins: &mut usize,
     table: &mut [u16],
     originals: &mut [u16],
     scratch: &mut [u16],
-) -> Step
-    requires { ⌜ AsksUnder frame (now formulas) (now effects) (now notes) t s (store (now table) (now originals)) (now scratch) e ⌝ }
-    ensures { λ r. ⌜ Climbs (guarded (frame .variables) (side (t .negated)) (tree frame (now (formulas .entry)) (row-at (now (effects .entry)) e .a)) (s .row)) frame (now (formulas .entry)) (now (effects .entry)) (now (notes .entry)) (now (notes .exit)) (frame .effects) (size-of s) (store (now (table .entry)) (now (originals .entry))) (store (now (table .exit)) (now (originals .exit))) (now (scratch .exit)) r ⌝ }
+) -> u16
+    requires { ⌜ AsksUnder frame (now formulas) (now effects) (now notes) t (stepped (now rows) (now twins) s) (store (now table) (now originals)) (now scratch) e ⌝ }
+    ensures { λ r. ⌜ Climbs (guarded (frame .variables) (side (t .negated)) (tree frame (now (formulas .entry)) (row-at (now (effects .entry)) e .a)) s) frame (now (formulas .entry)) (now (effects .entry)) (now (notes .entry)) (now (notes .exit)) (frame .effects) (sized (now (rows .entry)) (now (twins .entry))) (store (now (table .entry)) (now (originals .entry))) (store (now (table .exit)) (now (originals .exit))) (now (scratch .exit)) (stepped (now (rows .exit)) (now (twins .exit)) r) ⌝ }
 {
-    if s.row == falsity(t.negated) {
+    if s == falsity(t.negated) {
         return s;
     }
-    let at = Size {
-        rows: s.rows,
-        twins: s.twins,
-    };
     let w = read_row(effects, e);
     let f = sided(
         formulas,
         w.a as usize,
         t.negated,
         frame,
-        at,
+        rows,
+        twins,
         table,
         originals,
         scratch,
     );
-    if f.full {
+    if f == 65535 {
         return f;
     }
-    let mid = Size {
-        rows: f.rows,
-        twins: f.twins,
-    };
-    joined(notes, e, t, t.negated, frame, mid, f.row, s.row, table)
+    joined(notes, e, t, t.negated, frame, rows, f, s, table)
 }

@@ -4,7 +4,7 @@ use assembling::assemble_operators;
 use building::Progress;
 use formula_builder::Frame;
 use formula_builder::Size;
-use images::image;
+use images::image_from;
 use lent_tables::Passes;
 use rule_writer::write_initial;
 use task::Head;
@@ -62,7 +62,7 @@ pub fn finish(
         rows: rows,
         twins: most,
     };
-    let g = image(
+    let g = image_from(
         formulas,
         head.goal as usize,
         frame,

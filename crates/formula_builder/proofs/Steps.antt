@@ -2,7 +2,7 @@
 use Prim.Native.Nat.{ℕ, suc, _+_, _≤_, _<_}
 use native.Mathlib.Omega.{arith}
 use mathlib.Core.Path.{_≡_, refl, sym, ap, ap₂, _∙_}
-use mathlib.Core.Bool.{true, false, true≢false}
+use mathlib.Core.Bool.{Bool, true, false, true≢false}
 use mathlib.Core.List.{List, [], _∷_, _++_}
 use lib.ListN.{length, getD, take, set, length-append, length-set}
 use lib.Seq.{length-take-le}
@@ -13,18 +13,18 @@ use Rattle.task.proofs.Bounded.{length-upto}
 use Rattle.normal_form.specs.Builder.{St, Got, Build, give, bind, place, kept, same-row, row, twin, variable-row, twin-row, Polarity, plain, negated, falsity, truth, join-kind, choice, joined, join}
 use Rattle.normal_form.specs.Growth.{Prefix, Grows, Steady}
 use Rattle.normal_form.proofs.Growth.{steady-variable-row}
-use borrow.Author.Tests.{eq-eqb, ne-eqb}
+use borrow.Author.Tests.{eqb-true, eqb-false, eq-eqb, ne-eqb}
 use Rattle.formula_builder.specs.declared.Frame.{Frame}
 use Rattle.formula_builder.specs.declared.Size.{Size}
 use Rattle.formula_builder.specs.declared.Step.{Step}
 use Rattle.formula_builder.specs.Index.{Searchable, Found, appended, Put, stood, no-room, behind, rows-after}
-use Rattle.formula_builder.specs.Held.{Store, store, held, size-of, done-step, RowsReady, Ready, Within, Done, Builds}
+use Rattle.formula_builder.specs.Held.{Store, store, held, size-of, sized, stepped, done-step, RowsReady, Ready, Within, Done, Builds}
 use Rattle.formula_builder.proofs.Found.{place-bound, kept-found, kept-none}
 use Rattle.formula_builder.proofs.Stored.{one-more, one-past}
 use Rattle.formula_builder.proofs.Indexing.{searchable, length-appended, appended-rows, appended-indexed, found-below, found-place, missing-place}
 
 abbrev pub full-step : Size → Step
-full-step at = record { rows = at .rows; twins = at .twins; row = 0; full = true }
+full-step at = record { rows = at .rows; twins = at .twins; row = 65535; full = true }
 
 -- Done, or over, is all that there is to a step.
 module _ {m : Build ℕ} {frame : Frame} {at : Size} {before after : Store} {r : Step} where
@@ -116,7 +116,7 @@ unfolding give
 builds-give x ready h =
     builds-done refl (record { value = refl; state = refl; ready = ready; below = h; grew = omega arith })
 
-pub rows-searchable : {frame : Frame} {stand : ℕ} {table : List ℕ} → RowsReady frame stand table → Searchable (frame .rows) table
+pub rows-searchable : {most stand : ℕ} {table : List ℕ} → RowsReady most stand table → Searchable most table
 rows-searchable ready = searchable (ready .some) (ready .limit) (ready .room) (ready .within) (ready .index)
 
 -- A row: p is the word where the walk for it ends.
@@ -214,6 +214,39 @@ module _ (frame : Frame) (at : Size) (table o : List ℕ) (ready : Ready frame a
   put-done (no-room p f free all same its) room = absurd (room its)
   put-done (behind p f free some same its) room =
       rw (same, its, eq-eqb (at .rows) (at .rows) refl) (row-appended frame at table o ready r p f free some)
+
+-- The same, with the count that the code has set.
+module _ (frame : Frame) (n w : ℕ) (table o : List ℕ) (ready : Ready frame (sized n w) (store table o)) (r : Row) (after : List ℕ) (k : ℕ) where
+  put-counted :
+      Put (frame .rows) n table r after k
+      → (b : Bool)
+      → eqb k 65535 ≡ b
+      → Builds (row r) frame (sized n w) (store table o) (store after o) (stepped (rows-after n k) w k)
+  put-counted put true t =
+      let x = ready .rows in
+      let e : k ≡ 65535 = eqb-true k 65535 t in
+      rw (e, ne-eqb 65535 n (λ h. omega (arith, x .within, x .limit)))
+      (put-full frame (sized n w) table o ready r after k put e)
+  put-counted put false t =
+      rw t (put-done frame (sized n w) table o ready r after k put (eqb-false k 65535 t))
+
+  pub row-put :
+      (most : ℕ)
+      → frame .rows ≡ most
+      → Put most n table r after k
+      → Builds (row r) frame (sized n w) (store table o) (store after o) (stepped (rows-after n k) w k)
+  row-put most same put = put-counted (rw (sym same) at put) (eqb k 65535) refl
+
+-- a row that stands is answered
+pub builds-stands :
+    {frame : Frame} {n w : ℕ} {s : Store} (x : ℕ)
+    → Ready frame (sized n w) s
+    → x < n
+    → Builds (give x) frame (sized n w) s s (stepped n w x)
+unfolding give
+builds-stands x ready h =
+    builds-done (ne-eqb x 65535 (λ e. omega (arith, ready .rows .within, ready .rows .limit)))
+    (record { value = refl; state = refl; ready = ready; below = h; grew = omega arith })
 
 abbrev pub one-twin : Size → Size
 one-twin at = record { rows = at .rows; twins = at .twins + 1 }

@@ -4,6 +4,7 @@ use mathlib.Core.Path.{_≡_}
 use mathlib.Core.Bool.{Bool, true, false}
 use mathlib.Core.List.{List}
 use lib.ListN.{length, getD, take}
+use lib.Dec.{eqb}
 use Rattle.task.specs.Bounded.{upto}
 use Rattle.task.specs.Table.{Row, row-at}
 use Rattle.normal_form.specs.Builder.{St, Build, Polarity, plain, negated}
@@ -36,27 +37,35 @@ held at s = record { rows = upto (at .rows) (row-at (s .table)); twins = take (a
 abbrev pub size-of : Step → Size
 size-of r = record { rows = r .rows; twins = r .twins }
 
+-- a size by its two counts, of rows and of twins
+abbrev pub sized : ℕ → ℕ → Size
+sized n w = record { rows = n; twins = w }
+
+-- the step that answered k and left these two counts; 65535 says that there was no room
+abbrev pub stepped : ℕ → ℕ → ℕ → Step
+stepped n w k = record { rows = n; twins = w; row = k; full = eqb k 65535 }
+
 -- a step that answers row x and adds nothing
 abbrev pub done-step : Size → ℕ → Step
 done-step at x = record { rows = at .rows; twins = at .twins; row = x; full = false }
 
--- The table has room for the frame's rows and their index, what stands is within the frame, and the index finds it.
-pub record RowsReady (frame : Frame) (stand : ℕ) (table : List ℕ) : Type 0 where
-  pub within : stand ≤ frame .rows
-  pub some : 0 < frame .rows
-  pub limit : frame .rows ≤ 4096
-  pub room : 6 * frame .rows ≤ length table
-  pub index : Indexed (frame .rows) stand table
+-- The table has room for so many rows and their index, no more stand, and the index finds them.
+pub record RowsReady (most stand : ℕ) (table : List ℕ) : Type 0 where
+  pub within : stand ≤ most
+  pub some : 0 < most
+  pub limit : most ≤ 4096
+  pub room : 6 * most ≤ length table
+  pub index : Indexed most stand table
 
-pub record JoinReady (frame : Frame) (at : Size) (table : List ℕ) (a b : ℕ) : Type 0 where
-  pub rows : RowsReady frame (at .rows) table
-  pub two : 2 ≤ at .rows
-  pub left : a < at .rows
-  pub right : b < at .rows
+pub record JoinReady (most stand : ℕ) (table : List ℕ) (a b : ℕ) : Type 0 where
+  pub rows : RowsReady most stand table
+  pub two : 2 ≤ stand
+  pub left : a < stand
+  pub right : b < stand
 
 -- Both tables are ready: false and true stand, and behind the twins all words are 0.
 pub record Ready (frame : Frame) (at : Size) (s : Store) : Type 0 where
-  pub rows : RowsReady frame (at .rows) (s .table)
+  pub rows : RowsReady (frame .rows) (at .rows) (s .table)
   pub two : 2 ≤ at .rows
   pub twins : at .twins ≤ frame .twins
   pub originals : frame .twins ≤ length (s .originals)

@@ -1,14 +1,11 @@
 // Joins of two rows, and their folding.
-use crate::Frame;
-use crate::Size;
-use crate::Step;
-use crate::Words;
 use crate::rows::row;
 ghost use mathlib.Core.List.{List};
 ghost use mathlib.Core.Path.{_≡_};
 ghost use Prim.Native.Nat.{ℕ};
 ghost use Rattle.normal_form.specs.Builder.{join as join-built, falsity as false-row, truth as true-row, join-kind};
-ghost use Rattle.formula_builder.specs.Held.{store, JoinReady, Ready, Builds, side, done-step};
+ghost use Rattle.formula_builder.specs.declared.Frame.{Frame};
+ghost use Rattle.formula_builder.specs.Held.{store, sized, stepped, JoinReady, Ready, Builds, side};
 
 // The row of false; negated, of true.
 pub fn falsity(or: bool) -> u16
@@ -31,46 +28,25 @@ fn kind(or: bool) -> u16
     if or { 5 } else { 4 }
 }
 
-// A row that stands already.
-pub fn standing(at: Size, row: u16) -> Step
-    ensures { λ s. ⌜ s ≡ done-step at row ⌝ }
-{
-    Step {
-        rows: at.rows,
-        twins: at.twins,
-        row: row,
-        full: false,
-    }
-}
-
-// The join of rows a and b: "and", or "or".
-pub fn join(table: &mut [u16], frame: Frame, at: Size, or: bool, a: u16, b: u16) -> Step
-    requires { ⌜ JoinReady frame at (now table) a b ⌝ }
-    ensures { λ s. ⌜ ((o : List ℕ) → Ready frame at (store (now (table .entry)) o) → Builds (join-built (side or) a b) frame at (store (now (table .entry)) o) (store (now (table .exit)) o) s) ⌝ }
+// The join of rows a and b, "and" or "or": the number of its row; or 65535 if there was no room. Costs what putting the row does.
+pub fn join(rows: &mut usize, table: &mut [u16], most: usize, or: bool, a: u16, b: u16) -> u16
+    requires { ⌜ JoinReady most (now rows) (now table) a b ⌝ }
+    ensures { λ k. ⌜ ((frame : Frame) (w : ℕ) (o : List ℕ) → frame .rows ≡ most → Ready frame (sized (now (rows .entry)) w) (store (now (table .entry)) o) → Builds (join-built (side or) a b) frame (sized (now (rows .entry)) w) (store (now (table .entry)) o) (store (now (table .exit)) o) (stepped (now (rows .exit)) w k)) ⌝ }
 {
     let f = falsity(or);
     let t = truth(or);
     if a == f {
-        return standing(at, f);
+        return f;
     }
     if b == f {
-        return standing(at, f);
+        return f;
     }
     if a == t {
-        return standing(at, b);
+        return b;
     }
     if b == t {
-        return standing(at, a);
+        return a;
     }
     let k = kind(or);
-    row(
-        table,
-        frame,
-        at,
-        Words {
-            kind: k,
-            a: a,
-            b: b,
-        },
-    )
+    row(rows, table, most, k, a, b)
 }

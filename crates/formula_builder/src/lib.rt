@@ -2,15 +2,18 @@
 mod index;
 mod joins;
 mod rows;
+mod sizes;
 mod twins;
 
 pub use joins::falsity;
 pub use joins::join;
-pub use joins::standing;
 pub use joins::truth;
 pub use rows::first_rows;
 pub use rows::read_row;
 pub use rows::row;
+pub use sizes::join_from;
+pub use sizes::standing;
+pub use sizes::step_of;
 pub use twins::find_twin;
 pub use twins::twin_row;
 

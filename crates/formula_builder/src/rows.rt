@@ -1,7 +1,4 @@
 // Rows of the formula table.
-use crate::Frame;
-use crate::Size;
-use crate::Step;
 use crate::Words;
 use crate::index::head_word;
 use crate::index::key;
@@ -13,7 +10,8 @@ ghost use lib.ListN.{length};
 ghost use Rattle.task.specs.Table.{row-at};
 ghost use Rattle.normal_form.specs.Builder.{same-row, row as row-built, variable-row};
 ghost use Rattle.formula_builder.specs.Index.{Searchable, Found, three, appended, Put, rows-after, Empty, FirstTwo};
-ghost use Rattle.formula_builder.specs.Held.{row-of, store, RowsReady, Ready, Builds};
+ghost use Rattle.formula_builder.specs.declared.Frame.{Frame};
+ghost use Rattle.formula_builder.specs.Held.{row-of, store, sized, stepped, RowsReady, Ready, Builds};
 
 // Row i of a table.
 pub fn read_row(table: &[u16], i: usize) -> Words
@@ -139,42 +137,22 @@ fn rows_after(n: usize, k: u16) -> usize
     n
 }
 
-// The row with these words: the one that stands, or appended. Costs what putting it does.
-pub fn row(table: &mut [u16], frame: Frame, at: Size, r: Words) -> Step
-    requires { ⌜ RowsReady frame (at .rows) (now table) ⌝ }
-    ensures { λ s. ⌜ ((o : List ℕ) → Ready frame at (store (now (table .entry)) o) → Builds (row-built (row-of r)) frame at (store (now (table .entry)) o) (store (now (table .exit)) o) s) ⌝ }
+// The row with these words: its number, whether it stood or was appended; or 65535 if there was no room. So many rows stand. Costs what
+// putting it does.
+pub fn row(rows: &mut usize, table: &mut [u16], most: usize, kind: u16, a: u16, b: u16) -> u16
+    requires { ⌜ RowsReady most (now rows) (now table) ⌝ }
+    ensures { λ k. ⌜ ((frame : Frame) (w : ℕ) (o : List ℕ) → frame .rows ≡ most → Ready frame (sized (now (rows .entry)) w) (store (now (table .entry)) o) → Builds (row-built (record { kind = kind; a = a; b = b })) frame (sized (now (rows .entry)) w) (store (now (table .entry)) o) (store (now (table .exit)) o) (stepped (now (rows .exit)) w k)) ⌝ }
 {
-    let n = at.rows;
-    let k = put(table, frame.rows, n, r.kind, r.a, r.b);
-    if k == 65535 {
-        return Step {
-            rows: n,
-            twins: at.twins,
-            row: 0,
-            full: true,
-        };
-    }
-    Step {
-        rows: rows_after(n, k),
-        twins: at.twins,
-        row: k,
-        full: false,
-    }
+    let n = *rows;
+    let k = put(table, most, n, kind, a, b);
+    *rows = rows_after(n, k);
+    k
 }
 
 // The row of a variable.
-pub fn variable_row(table: &mut [u16], frame: Frame, at: Size, v: u16) -> Step
-    requires { ⌜ RowsReady frame (at .rows) (now table) ⌝ }
-    ensures { λ s. ⌜ ((o : List ℕ) → Ready frame at (store (now (table .entry)) o) → Builds (variable-row v) frame at (store (now (table .entry)) o) (store (now (table .exit)) o) s) ⌝ }
+pub fn variable_row(rows: &mut usize, table: &mut [u16], most: usize, v: u16) -> u16
+    requires { ⌜ RowsReady most (now rows) (now table) ⌝ }
+    ensures { λ k. ⌜ ((frame : Frame) (w : ℕ) (o : List ℕ) → frame .rows ≡ most → Ready frame (sized (now (rows .entry)) w) (store (now (table .entry)) o) → Builds (variable-row v) frame (sized (now (rows .entry)) w) (store (now (table .entry)) o) (store (now (table .exit)) o) (stepped (now (rows .exit)) w k)) ⌝ }
 {
-    row(
-        table,
-        frame,
-        at,
-        Words {
-            kind: 2,
-            a: v,
-            b: 0,
-        },
-    )
+    row(rows, table, most, 2, v, 0)
 }

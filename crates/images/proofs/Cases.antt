@@ -13,8 +13,8 @@ use Rattle.formula_builder.specs.declared.Words.{Words}
 use Rattle.formula_builder.specs.declared.Frame.{Frame}
 use Rattle.formula_builder.specs.declared.Size.{Size}
 use Rattle.formula_builder.specs.declared.Step.{Step}
-use Rattle.formula_builder.specs.Held.{Store, row-of, size-of, side, done-step, Ready, JoinReady, Builds}
-use Rattle.formula_builder.proofs.Steps.{builds-give}
+use Rattle.formula_builder.specs.Held.{Store, row-of, size-of, side, stepped, Ready, JoinReady, Builds}
+use Rattle.formula_builder.proofs.Steps.{builds-stands}
 use Rattle.images.specs.Images.{image-at, keeps, first-at, pair-at, memo-place, is-row, Notes, Asks, AsksPair, AsksEquivalent, AsksRow, AsksUp, LeafReady, Images, Kept, Reaches}
 use Rattle.images.proofs.Rows.{operands, negated-operand, unused-word, first-none, first-own, first-other}
 use Rattle.images.proofs.Memos.{images-as, asks-next, images-leaf, images-known}
@@ -26,7 +26,7 @@ pub join-asks :
     → l .full ≡ false
     → Builds right frame (size-of l) mid after r
     → r .full ≡ false
-    → JoinReady frame (size-of r) (after .table) (l .row) (r .row)
+    → JoinReady (frame .rows) (r .rows) (after .table) (l .row) (r .row)
 join-asks x e y g =
     let d = x .done e in
     let f = y .done g in
@@ -77,7 +77,7 @@ pub reaches-known :
     → Asks frame formulas at before scratch i
     → getD scratch (memo-place frame p i) 0 ≡ w
     → is-row w ≡ true
-    → Reaches (image-at frame formulas p i) (i + 1) frame formulas at before before scratch scratch (done-step at (w - 1))
+    → Reaches (image-at frame formulas p i) (i + 1) frame formulas at before before scratch scratch (stepped (at .rows) (at .twins) (w - 1))
 reaches-known frame formulas at before scratch p i w a e is =
     record { images = images-known frame formulas at before scratch p i w a e is; above = kept-refl (i + 1) frame scratch }
 
@@ -99,7 +99,7 @@ up-asks u f h =
 pub asks-join :
     {frame : Frame} {formulas : List ℕ} {at : Size} {before : Store} {scratch : List ℕ} {i left right : ℕ}
     → AsksEquivalent frame formulas at before scratch i left right
-    → JoinReady frame at (before .table) left right
+    → JoinReady (frame .rows) (at .rows) (before .table) left right
 asks-join a =
     let r = a .pair .asks .ready in
     record { rows = r .rows; two = r .two; left = a .first; right = a .second }
@@ -189,12 +189,12 @@ module _ (frame : Frame) (formulas scratch : List ℕ) (j : ℕ) (a : AsksRow fr
     pub start-none :
         w .kind < 3
         → Asks frame formulas at before scratch j
-        → Reaches (first-at frame formulas p j) j frame formulas at before before scratch scratch (done-step at 0)
+        → Reaches (first-at frame formulas p j) j frame formulas at before before scratch scratch (stepped (at .rows) (at .twins) 0)
     start-none h x =
         record {
           images =
               images-as (first-none frame formulas p j (omega (arith, kind-read)))
-              (images-leaf (steady-give 0) (x .memo) (builds-give 0 (x .ready) (omega (arith, x .ready .two))));
+              (images-leaf (steady-give 0) (x .memo) (builds-stands 0 (x .ready) (omega (arith, x .ready .two))));
           above = kept-refl j frame scratch;
         }
 

@@ -19,7 +19,7 @@ use Rattle.normal_form.proofs.Steady.{steady-image}
 use Rattle.formula_builder.specs.declared.Frame.{Frame}
 use Rattle.formula_builder.specs.declared.Size.{Size}
 use Rattle.formula_builder.specs.declared.Step.{Step}
-use Rattle.formula_builder.specs.Held.{Store, held, size-of, side, done-step, Done, Builds}
+use Rattle.formula_builder.specs.Held.{Store, held, size-of, side, stepped, Done, Builds}
 use Rattle.formula_builder.proofs.Steps.{builds-done, builds-as, builds-bind, builds-stop, prefix-length}
 use Rattle.images.specs.Images.{tree, image-at, keeps, first-at, pair-at, memo-place, Known, is-row, Memo, noted, Asks, Images}
 
@@ -246,7 +246,7 @@ pub images-known :
     → Asks frame formulas at before scratch i
     → getD scratch (memo-place frame p i) 0 ≡ w
     → is-row w ≡ true
-    → Images (image-at frame formulas p i) frame formulas at before before scratch scratch (done-step at (w - 1))
+    → Images (image-at frame formulas p i) frame formulas at before before scratch scratch (stepped (at .rows) (at .twins) (w - 1))
 unfolding held
 images-known frame formulas at before scratch p i w a e is =
     let h = row-word w is in
@@ -254,7 +254,7 @@ images-known frame formulas at before scratch p i w a e is =
     let b : w - 1 < length (upto (at .rows) (row-at (before .table))) = k .below in
     record {
       builds =
-          builds-done refl
+          builds-done (ne-eqb (w - 1) 65535 (λ q. omega (arith, h .0, h .1)))
           (record {
             value = ap (λ (g : Got ℕ). g .value) (k .again);
             state = ap (λ (g : Got ℕ). g .st) (k .again);

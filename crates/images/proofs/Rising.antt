@@ -17,8 +17,8 @@ use Rattle.formula_builder.specs.declared.Words.{Words}
 use Rattle.formula_builder.specs.declared.Frame.{Frame}
 use Rattle.formula_builder.specs.declared.Size.{Size}
 use Rattle.formula_builder.specs.declared.Step.{Step}
-use Rattle.formula_builder.specs.Held.{Store, row-of, size-of, side, done-step, Builds}
-use Rattle.formula_builder.proofs.Steps.{builds-as, builds-give}
+use Rattle.formula_builder.specs.Held.{Store, row-of, size-of, side, stepped, Builds}
+use Rattle.formula_builder.proofs.Steps.{builds-as, builds-stands}
 use Rattle.images.specs.Images.{image-at, first-at, pair-at, equivalent-at, constant-by, leaf-built, LeafReady, AsksRow, Images}
 use Rattle.images.proofs.Rows.{or-by, crossed-by, known, first-none, of-leaf, of-negation, of-pair, of-equivalent}
 use Rattle.images.proofs.Memos.{steady-image-at, steady-pair-at, images-as, images-leaf, images-bind, images-stop, pair-left-full, pair-right-full, pair-done}
@@ -47,12 +47,12 @@ pub leaf-constant :
     {frame : Frame} {at : Size} {before : Store} (p : Polarity) (w : Words)
     → LeafReady frame at before (row-of w)
     → (w .kind ≡ 2 → ⊥)
-    → Builds (leaf-built (frame .variables) p (row-of w)) frame at before before (done-step at (constant-by p (w .kind)))
+    → Builds (leaf-built (frame .variables) p (row-of w)) frame at before before (stepped (at .rows) (at .twins) (constant-by p (w .kind)))
 unfolding leaf-built
 leaf-constant {frame} {at} {before} p w r k =
     let l : w .kind < 2 = omega (arith, r .kind) in
     rw (ne-eqb (w .kind) 2 k)
-    (builds-give (constant-by p (w .kind)) (r .ready) (omega (arith, constant-small p (w .kind) l, r .ready .two)))
+    (builds-stands (constant-by p (w .kind)) (r .ready) (omega (arith, constant-small p (w .kind) l, r .ready .two)))
 
 steady-leaf : (n : ℕ) (p : Polarity) (w : Row) → Steady (leaf-built n p w)
 unfolding leaf-built

@@ -7,14 +7,11 @@ use crate::spine::descend;
 use crate::spine::keeps_side;
 use crate::spine::over;
 use formula_builder::Frame;
-use formula_builder::Size;
-use formula_builder::Step;
 use formula_builder::join;
 use formula_builder::read_row;
-use formula_builder::standing;
 ghost use Prim.Native.Nat.{_+_};
 ghost use Rattle.normal_form.specs.Builder.{plain, negated};
-ghost use Rattle.formula_builder.specs.Held.{store, side};
+ghost use Rattle.formula_builder.specs.Held.{store, side, sized, stepped};
 ghost use Rattle.images.specs.Images.{image-at, first-at, pair-at, equivalent-at, Asks, AsksPair, AsksEquivalent, AsksUp, Reaches, Rises};
 
 // The image of formula i: constant time if the memo has it, else what building it costs.
@@ -22,19 +19,20 @@ pub fn image(
     formulas: &[u16],
     i: usize,
     frame: Frame,
-    at: Size,
+    rows: &mut usize,
+    twins: &mut usize,
     table: &mut [u16],
     originals: &mut [u16],
     scratch: &mut [u16],
-) -> Step
-    requires { ⌜ Asks frame (now formulas) at (store (now table) (now originals)) (now scratch) i ⌝ }
-    ensures { λ r. ⌜ Reaches (image-at frame (now (formulas .entry)) plain i) (i + 1) frame (now (formulas .entry)) at (store (now (table .entry)) (now (originals .entry))) (store (now (table .exit)) (now (originals .exit))) (now (scratch .entry)) (now (scratch .exit)) r ⌝ }
+) -> u16
+    requires { ⌜ Asks frame (now formulas) (sized (now rows) (now twins)) (store (now table) (now originals)) (now scratch) i ⌝ }
+    ensures { λ r. ⌜ Reaches (image-at frame (now (formulas .entry)) plain i) (i + 1) frame (now (formulas .entry)) (sized (now (rows .entry)) (now (twins .entry))) (store (now (table .entry)) (now (originals .entry))) (store (now (table .exit)) (now (originals .exit))) (now (scratch .entry)) (now (scratch .exit)) (stepped (now (rows .exit)) (now (twins .exit)) r) ⌝ }
 {
     let known = scratch[i];
     if is_row(known) {
-        return standing(at, known - 1);
+        return known - 1;
     }
-    image_anew(formulas, i, frame, at, table, originals, scratch)
+    image_anew(formulas, i, frame, rows, twins, table, originals, scratch)
 }
 
 // The image of formula i, whatever the memo has of row i: a step for it and for each row below it that the memo has not.
@@ -42,19 +40,30 @@ pub fn image_anew(
     formulas: &[u16],
     i: usize,
     frame: Frame,
-    at: Size,
+    rows: &mut usize,
+    twins: &mut usize,
     table: &mut [u16],
     originals: &mut [u16],
     scratch: &mut [u16],
-) -> Step
-    requires { ⌜ Asks frame (now formulas) at (store (now table) (now originals)) (now scratch) i ⌝ }
-    ensures { λ r. ⌜ Reaches (image-at frame (now (formulas .entry)) plain i) (i + 1) frame (now (formulas .entry)) at (store (now (table .entry)) (now (originals .entry))) (store (now (table .exit)) (now (originals .exit))) (now (scratch .entry)) (now (scratch .exit)) r ⌝ }
+) -> u16
+    requires { ⌜ Asks frame (now formulas) (sized (now rows) (now twins)) (store (now table) (now originals)) (now scratch) i ⌝ }
+    ensures { λ r. ⌜ Reaches (image-at frame (now (formulas .entry)) plain i) (i + 1) frame (now (formulas .entry)) (sized (now (rows .entry)) (now (twins .entry))) (store (now (table .entry)) (now (originals .entry))) (store (now (table .exit)) (now (originals .exit))) (now (scratch .entry)) (now (scratch .exit)) (stepped (now (rows .exit)) (now (twins .exit)) r) ⌝ }
 {
     let mut j = descend(formulas, i, false, frame, scratch);
-    let mut s = image_start(formulas, j, frame, at, table, originals, scratch);
+    let mut s = image_start(formulas, j, frame, rows, twins, table, originals, scratch);
     while j <= i {
         let word = scratch[j] as usize;
-        s = image_up(formulas, j, s, frame, table, originals, scratch);
+        s = image_up(
+            formulas,
+            j,
+            s,
+            frame,
+            rows,
+            twins,
+            table,
+            originals,
+            scratch,
+        );
         note(scratch, j, s);
         j = over(i, j, word);
     }
@@ -66,74 +75,97 @@ fn image_start(
     formulas: &[u16],
     j: usize,
     frame: Frame,
-    at: Size,
+    rows: &mut usize,
+    twins: &mut usize,
     table: &mut [u16],
     originals: &mut [u16],
     scratch: &mut [u16],
-) -> Step
-    requires { ⌜ Asks frame (now formulas) at (store (now table) (now originals)) (now scratch) j ⌝ }
-    ensures { λ r. ⌜ Reaches (first-at frame (now (formulas .entry)) plain j) j frame (now (formulas .entry)) at (store (now (table .entry)) (now (originals .entry))) (store (now (table .exit)) (now (originals .exit))) (now (scratch .entry)) (now (scratch .exit)) r ⌝ }
+) -> u16
+    requires { ⌜ Asks frame (now formulas) (sized (now rows) (now twins)) (store (now table) (now originals)) (now scratch) j ⌝ }
+    ensures { λ r. ⌜ Reaches (first-at frame (now (formulas .entry)) plain j) j frame (now (formulas .entry)) (sized (now (rows .entry)) (now (twins .entry))) (store (now (table .entry)) (now (originals .entry))) (store (now (table .exit)) (now (originals .exit))) (now (scratch .entry)) (now (scratch .exit)) (stepped (now (rows .exit)) (now (twins .exit)) r) ⌝ }
 {
     let r = read_row(formulas, j);
     if r.kind < 3 {
-        return standing(at, 0);
+        return 0;
     }
     if keeps_side(r.kind, false) {
-        return image(formulas, r.a as usize, frame, at, table, originals, scratch);
+        return image(
+            formulas,
+            r.a as usize,
+            frame,
+            rows,
+            twins,
+            table,
+            originals,
+            scratch,
+        );
     }
-    negated_image(formulas, r.a as usize, frame, at, table, originals, scratch)
+    negated_image(
+        formulas,
+        r.a as usize,
+        frame,
+        rows,
+        twins,
+        table,
+        originals,
+        scratch,
+    )
 }
 
 // Row j, from the step of its first operand: the second operand, then the join.
 fn image_up(
     formulas: &[u16],
     j: usize,
-    l: Step,
+    l: u16,
     frame: Frame,
+    rows: &mut usize,
+    twins: &mut usize,
     table: &mut [u16],
     originals: &mut [u16],
     scratch: &mut [u16],
-) -> Step
-    requires { ⌜ AsksUp frame (now formulas) (store (now table) (now originals)) (now scratch) j l ⌝ }
-    ensures { λ r. ⌜ Rises plain frame (now (formulas .entry)) (store (now (table .entry)) (now (originals .entry))) (store (now (table .exit)) (now (originals .exit))) (now (scratch .entry)) (now (scratch .exit)) j l r ⌝ }
+) -> u16
+    requires { ⌜ AsksUp frame (now formulas) (store (now table) (now originals)) (now scratch) j (stepped (now rows) (now twins) l) ⌝ }
+    ensures { λ r. ⌜ Rises plain frame (now (formulas .entry)) (store (now (table .entry)) (now (originals .entry))) (store (now (table .exit)) (now (originals .exit))) (now (scratch .entry)) (now (scratch .exit)) j (stepped (now (rows .entry)) (now (twins .entry)) l) (stepped (now (rows .exit)) (now (twins .exit)) r) ⌝ }
 {
-    if l.full {
+    if l == 65535 {
         return l;
     }
     let w = read_row(formulas, j);
-    let at = Size {
-        rows: l.rows,
-        twins: l.twins,
-    };
     if w.kind < 3 {
-        return leaf(w, false, frame, at, table, originals);
+        return leaf(w, false, frame, rows, twins, table, originals);
     }
     if w.kind == 3 {
         return l;
     }
-    let b = image(formulas, w.b as usize, frame, at, table, originals, scratch);
-    if b.full {
+    let b = image(
+        formulas,
+        w.b as usize,
+        frame,
+        rows,
+        twins,
+        table,
+        originals,
+        scratch,
+    );
+    if b == 65535 {
         return b;
     }
-    let mid = Size {
-        rows: b.rows,
-        twins: b.twins,
-    };
     if w.kind == 7 {
         return equivalent(
             formulas,
             j,
             false,
-            l.row,
-            b.row,
+            l,
+            b,
             frame,
-            mid,
+            rows,
+            twins,
             table,
             originals,
             scratch,
         );
     }
-    join(table, frame, mid, w.kind != 4, l.row, b.row)
+    join(rows, table, frame.rows, w.kind != 4, l, b)
 }
 
 // The negated image of formula i: constant time if the memo has it, else what building it costs.
@@ -141,19 +173,20 @@ pub fn negated_image(
     formulas: &[u16],
     i: usize,
     frame: Frame,
-    at: Size,
+    rows: &mut usize,
+    twins: &mut usize,
     table: &mut [u16],
     originals: &mut [u16],
     scratch: &mut [u16],
-) -> Step
-    requires { ⌜ Asks frame (now formulas) at (store (now table) (now originals)) (now scratch) i ⌝ }
-    ensures { λ r. ⌜ Reaches (image-at frame (now (formulas .entry)) negated i) (i + 1) frame (now (formulas .entry)) at (store (now (table .entry)) (now (originals .entry))) (store (now (table .exit)) (now (originals .exit))) (now (scratch .entry)) (now (scratch .exit)) r ⌝ }
+) -> u16
+    requires { ⌜ Asks frame (now formulas) (sized (now rows) (now twins)) (store (now table) (now originals)) (now scratch) i ⌝ }
+    ensures { λ r. ⌜ Reaches (image-at frame (now (formulas .entry)) negated i) (i + 1) frame (now (formulas .entry)) (sized (now (rows .entry)) (now (twins .entry))) (store (now (table .entry)) (now (originals .entry))) (store (now (table .exit)) (now (originals .exit))) (now (scratch .entry)) (now (scratch .exit)) (stepped (now (rows .exit)) (now (twins .exit)) r) ⌝ }
 {
     let known = scratch[frame.formulas + i];
     if is_row(known) {
-        return standing(at, known - 1);
+        return known - 1;
     }
-    negated_image_anew(formulas, i, frame, at, table, originals, scratch)
+    negated_image_anew(formulas, i, frame, rows, twins, table, originals, scratch)
 }
 
 // The negated image of formula i, whatever the memo has of row i: a step for it and for each row below it that the memo has not.
@@ -161,20 +194,31 @@ pub fn negated_image_anew(
     formulas: &[u16],
     i: usize,
     frame: Frame,
-    at: Size,
+    rows: &mut usize,
+    twins: &mut usize,
     table: &mut [u16],
     originals: &mut [u16],
     scratch: &mut [u16],
-) -> Step
-    requires { ⌜ Asks frame (now formulas) at (store (now table) (now originals)) (now scratch) i ⌝ }
-    ensures { λ r. ⌜ Reaches (image-at frame (now (formulas .entry)) negated i) (i + 1) frame (now (formulas .entry)) at (store (now (table .entry)) (now (originals .entry))) (store (now (table .exit)) (now (originals .exit))) (now (scratch .entry)) (now (scratch .exit)) r ⌝ }
+) -> u16
+    requires { ⌜ Asks frame (now formulas) (sized (now rows) (now twins)) (store (now table) (now originals)) (now scratch) i ⌝ }
+    ensures { λ r. ⌜ Reaches (image-at frame (now (formulas .entry)) negated i) (i + 1) frame (now (formulas .entry)) (sized (now (rows .entry)) (now (twins .entry))) (store (now (table .entry)) (now (originals .entry))) (store (now (table .exit)) (now (originals .exit))) (now (scratch .entry)) (now (scratch .exit)) (stepped (now (rows .exit)) (now (twins .exit)) r) ⌝ }
 {
     let mut j = descend(formulas, i, true, frame, scratch);
-    let mut s = negated_image_start(formulas, j, frame, at, table, originals, scratch);
+    let mut s = negated_image_start(formulas, j, frame, rows, twins, table, originals, scratch);
     while j <= i {
         let k = frame.formulas + j;
         let word = scratch[k] as usize;
-        s = negated_image_up(formulas, j, s, frame, table, originals, scratch);
+        s = negated_image_up(
+            formulas,
+            j,
+            s,
+            frame,
+            rows,
+            twins,
+            table,
+            originals,
+            scratch,
+        );
         note(scratch, k, s);
         j = over(i, j, word);
     }
@@ -186,74 +230,97 @@ fn negated_image_start(
     formulas: &[u16],
     j: usize,
     frame: Frame,
-    at: Size,
+    rows: &mut usize,
+    twins: &mut usize,
     table: &mut [u16],
     originals: &mut [u16],
     scratch: &mut [u16],
-) -> Step
-    requires { ⌜ Asks frame (now formulas) at (store (now table) (now originals)) (now scratch) j ⌝ }
-    ensures { λ r. ⌜ Reaches (first-at frame (now (formulas .entry)) negated j) j frame (now (formulas .entry)) at (store (now (table .entry)) (now (originals .entry))) (store (now (table .exit)) (now (originals .exit))) (now (scratch .entry)) (now (scratch .exit)) r ⌝ }
+) -> u16
+    requires { ⌜ Asks frame (now formulas) (sized (now rows) (now twins)) (store (now table) (now originals)) (now scratch) j ⌝ }
+    ensures { λ r. ⌜ Reaches (first-at frame (now (formulas .entry)) negated j) j frame (now (formulas .entry)) (sized (now (rows .entry)) (now (twins .entry))) (store (now (table .entry)) (now (originals .entry))) (store (now (table .exit)) (now (originals .exit))) (now (scratch .entry)) (now (scratch .exit)) (stepped (now (rows .exit)) (now (twins .exit)) r) ⌝ }
 {
     let r = read_row(formulas, j);
     if r.kind < 3 {
-        return standing(at, 0);
+        return 0;
     }
     if keeps_side(r.kind, true) {
-        return negated_image(formulas, r.a as usize, frame, at, table, originals, scratch);
+        return negated_image(
+            formulas,
+            r.a as usize,
+            frame,
+            rows,
+            twins,
+            table,
+            originals,
+            scratch,
+        );
     }
-    image(formulas, r.a as usize, frame, at, table, originals, scratch)
+    image(
+        formulas,
+        r.a as usize,
+        frame,
+        rows,
+        twins,
+        table,
+        originals,
+        scratch,
+    )
 }
 
 // Row j, from the step of its first operand: the second operand, then the join.
 fn negated_image_up(
     formulas: &[u16],
     j: usize,
-    l: Step,
+    l: u16,
     frame: Frame,
+    rows: &mut usize,
+    twins: &mut usize,
     table: &mut [u16],
     originals: &mut [u16],
     scratch: &mut [u16],
-) -> Step
-    requires { ⌜ AsksUp frame (now formulas) (store (now table) (now originals)) (now scratch) j l ⌝ }
-    ensures { λ r. ⌜ Rises negated frame (now (formulas .entry)) (store (now (table .entry)) (now (originals .entry))) (store (now (table .exit)) (now (originals .exit))) (now (scratch .entry)) (now (scratch .exit)) j l r ⌝ }
+) -> u16
+    requires { ⌜ AsksUp frame (now formulas) (store (now table) (now originals)) (now scratch) j (stepped (now rows) (now twins) l) ⌝ }
+    ensures { λ r. ⌜ Rises negated frame (now (formulas .entry)) (store (now (table .entry)) (now (originals .entry))) (store (now (table .exit)) (now (originals .exit))) (now (scratch .entry)) (now (scratch .exit)) j (stepped (now (rows .entry)) (now (twins .entry)) l) (stepped (now (rows .exit)) (now (twins .exit)) r) ⌝ }
 {
-    if l.full {
+    if l == 65535 {
         return l;
     }
     let r = read_row(formulas, j);
-    let at = Size {
-        rows: l.rows,
-        twins: l.twins,
-    };
     if r.kind < 3 {
-        return leaf(r, true, frame, at, table, originals);
+        return leaf(r, true, frame, rows, twins, table, originals);
     }
     if r.kind == 3 {
         return l;
     }
-    let b = negated_image(formulas, r.b as usize, frame, at, table, originals, scratch);
-    if b.full {
+    let b = negated_image(
+        formulas,
+        r.b as usize,
+        frame,
+        rows,
+        twins,
+        table,
+        originals,
+        scratch,
+    );
+    if b == 65535 {
         return b;
     }
-    let mid = Size {
-        rows: b.rows,
-        twins: b.twins,
-    };
     if r.kind == 7 {
         return equivalent(
             formulas,
             j,
             true,
-            l.row,
-            b.row,
+            l,
+            b,
             frame,
-            mid,
+            rows,
+            twins,
             table,
             originals,
             scratch,
         );
     }
-    join(table, frame, mid, r.kind == 4, l.row, b.row)
+    join(rows, table, frame.rows, r.kind == 4, l, b)
 }
 
 // (a and b) or (not a and not b), with row i's operands, from the rows of a and b; crossed, (a and not b) or (not a and b).
@@ -264,37 +331,34 @@ fn equivalent(
     left: u16,
     right: u16,
     frame: Frame,
-    at: Size,
+    rows: &mut usize,
+    twins: &mut usize,
     table: &mut [u16],
     originals: &mut [u16],
     scratch: &mut [u16],
-) -> Step
-    requires { ⌜ AsksEquivalent frame (now formulas) at (store (now table) (now originals)) (now scratch) i left right ⌝ }
-    ensures { λ r. ⌜ Reaches (equivalent-at frame (now (formulas .entry)) i crossed left right) i frame (now (formulas .entry)) at (store (now (table .entry)) (now (originals .entry))) (store (now (table .exit)) (now (originals .exit))) (now (scratch .entry)) (now (scratch .exit)) r ⌝ }
+) -> u16
+    requires { ⌜ AsksEquivalent frame (now formulas) (sized (now rows) (now twins)) (store (now table) (now originals)) (now scratch) i left right ⌝ }
+    ensures { λ r. ⌜ Reaches (equivalent-at frame (now (formulas .entry)) i crossed left right) i frame (now (formulas .entry)) (sized (now (rows .entry)) (now (twins .entry))) (store (now (table .entry)) (now (originals .entry))) (store (now (table .exit)) (now (originals .exit))) (now (scratch .entry)) (now (scratch .exit)) (stepped (now (rows .exit)) (now (twins .exit)) r) ⌝ }
 {
-    let l = join(table, frame, at, false, left, right);
-    if l.full {
+    let l = join(rows, table, frame.rows, false, left, right);
+    if l == 65535 {
         return l;
     }
-    let mid = Size {
-        rows: l.rows,
-        twins: l.twins,
-    };
-    let r = pair(formulas, i, crossed, frame, mid, table, originals, scratch);
-    if r.full {
+    let r = pair(
+        formulas,
+        i,
+        crossed,
+        frame,
+        rows,
+        twins,
+        table,
+        originals,
+        scratch,
+    );
+    if r == 65535 {
         return r;
     }
-    join(
-        table,
-        frame,
-        Size {
-            rows: r.rows,
-            twins: r.twins,
-        },
-        true,
-        l.row,
-        r.row,
-    )
+    join(rows, table, frame.rows, true, l, r)
 }
 
 // Not a and not b, with row i's operands; crossed, not a and b.
@@ -303,47 +367,44 @@ fn pair(
     i: usize,
     crossed: bool,
     frame: Frame,
-    at: Size,
+    rows: &mut usize,
+    twins: &mut usize,
     table: &mut [u16],
     originals: &mut [u16],
     scratch: &mut [u16],
-) -> Step
-    requires { ⌜ AsksPair frame (now formulas) at (store (now table) (now originals)) (now scratch) i ⌝ }
-    ensures { λ r. ⌜ Reaches (pair-at frame (now (formulas .entry)) i crossed) i frame (now (formulas .entry)) at (store (now (table .entry)) (now (originals .entry))) (store (now (table .exit)) (now (originals .exit))) (now (scratch .entry)) (now (scratch .exit)) r ⌝ }
+) -> u16
+    requires { ⌜ AsksPair frame (now formulas) (sized (now rows) (now twins)) (store (now table) (now originals)) (now scratch) i ⌝ }
+    ensures { λ r. ⌜ Reaches (pair-at frame (now (formulas .entry)) i crossed) i frame (now (formulas .entry)) (sized (now (rows .entry)) (now (twins .entry))) (store (now (table .entry)) (now (originals .entry))) (store (now (table .exit)) (now (originals .exit))) (now (scratch .entry)) (now (scratch .exit)) (stepped (now (rows .exit)) (now (twins .exit)) r) ⌝ }
 {
     let w = read_row(formulas, i);
-    let l = negated_image(formulas, w.a as usize, frame, at, table, originals, scratch);
-    if l.full {
+    let l = negated_image(
+        formulas,
+        w.a as usize,
+        frame,
+        rows,
+        twins,
+        table,
+        originals,
+        scratch,
+    );
+    if l == 65535 {
         return l;
     }
-    let mid = Size {
-        rows: l.rows,
-        twins: l.twins,
-    };
     let r = operand(
         formulas,
         w.b as usize,
         !crossed,
         frame,
-        mid,
+        rows,
+        twins,
         table,
         originals,
         scratch,
     );
-    if r.full {
+    if r == 65535 {
         return r;
     }
-    join(
-        table,
-        frame,
-        Size {
-            rows: r.rows,
-            twins: r.twins,
-        },
-        false,
-        l.row,
-        r.row,
-    )
+    join(rows, table, frame.rows, false, l, r)
 }
 
 // The image of formula i, or its negated image.
@@ -352,16 +413,17 @@ fn operand(
     i: usize,
     not: bool,
     frame: Frame,
-    at: Size,
+    rows: &mut usize,
+    twins: &mut usize,
     table: &mut [u16],
     originals: &mut [u16],
     scratch: &mut [u16],
-) -> Step
-    requires { ⌜ Asks frame (now formulas) at (store (now table) (now originals)) (now scratch) i ⌝ }
-    ensures { λ r. ⌜ Reaches (image-at frame (now (formulas .entry)) (side not) i) (i + 1) frame (now (formulas .entry)) at (store (now (table .entry)) (now (originals .entry))) (store (now (table .exit)) (now (originals .exit))) (now (scratch .entry)) (now (scratch .exit)) r ⌝ }
+) -> u16
+    requires { ⌜ Asks frame (now formulas) (sized (now rows) (now twins)) (store (now table) (now originals)) (now scratch) i ⌝ }
+    ensures { λ r. ⌜ Reaches (image-at frame (now (formulas .entry)) (side not) i) (i + 1) frame (now (formulas .entry)) (sized (now (rows .entry)) (now (twins .entry))) (store (now (table .entry)) (now (originals .entry))) (store (now (table .exit)) (now (originals .exit))) (now (scratch .entry)) (now (scratch .exit)) (stepped (now (rows .exit)) (now (twins .exit)) r) ⌝ }
 {
     if not {
-        return negated_image(formulas, i, frame, at, table, originals, scratch);
+        return negated_image(formulas, i, frame, rows, twins, table, originals, scratch);
     }
-    image(formulas, i, frame, at, table, originals, scratch)
+    image(formulas, i, frame, rows, twins, table, originals, scratch)
 }

@@ -1,12 +1,9 @@
 // Rows without operands.
 use formula_builder::Frame;
-use formula_builder::Size;
-use formula_builder::Step;
 use formula_builder::Words;
 use formula_builder::row;
-use formula_builder::standing;
 use formula_builder::twin_row;
-ghost use Rattle.formula_builder.specs.Held.{row-of, store, side, Builds};
+ghost use Rattle.formula_builder.specs.Held.{row-of, store, side, sized, stepped, Builds};
 ghost use Rattle.images.specs.Images.{leaf-built, LeafReady};
 
 // A variable's row is copied, or negated, its twin's row is built; false and true stand.
@@ -14,21 +11,22 @@ pub fn leaf(
     w: Words,
     not: bool,
     frame: Frame,
-    at: Size,
+    rows: &mut usize,
+    twins: &mut usize,
     table: &mut [u16],
     originals: &mut [u16],
-) -> Step
-    requires { ⌜ LeafReady frame at (store (now table) (now originals)) (row-of w) ⌝ }
-    ensures { λ r. ⌜ Builds (leaf-built (frame .variables) (side not) (row-of w)) frame at (store (now (table .entry)) (now (originals .entry))) (store (now (table .exit)) (now (originals .exit))) r ⌝ }
+) -> u16
+    requires { ⌜ LeafReady frame (sized (now rows) (now twins)) (store (now table) (now originals)) (row-of w) ⌝ }
+    ensures { λ r. ⌜ Builds (leaf-built (frame .variables) (side not) (row-of w)) frame (sized (now (rows .entry)) (now (twins .entry))) (store (now (table .entry)) (now (originals .entry))) (store (now (table .exit)) (now (originals .exit))) (stepped (now (rows .exit)) (now (twins .exit)) r) ⌝ }
 {
     if w.kind == 2 {
         if not {
-            return twin_row(table, originals, frame, at, w.a);
+            return twin_row(rows, twins, table, originals, frame, w.a);
         }
-        return row(table, frame, at, w);
+        return row(rows, table, frame.rows, w.kind, w.a, w.b);
     }
     if not {
-        return standing(at, 1 - w.kind);
+        return 1 - w.kind;
     }
-    standing(at, w.kind)
+    w.kind
 }

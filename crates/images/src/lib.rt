@@ -6,6 +6,6 @@ mod memo;
 mod sides;
 mod spine;
 
-pub use cycle::image;
-pub use memo::note;
+pub use sides::image_from;
 pub use sides::sided;
+pub use sides::sided_from;

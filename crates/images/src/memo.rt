@@ -1,10 +1,9 @@
 // The memo.
 use formula_builder::Frame;
-use formula_builder::Step;
 ghost use mathlib.Core.Path.{_≡_};
 ghost use Prim.Native.Nat.{ℕ, _≤_, _<_};
 ghost use lib.ListN.{length};
-ghost use Rattle.formula_builder.specs.Held.{side};
+ghost use Rattle.formula_builder.specs.Held.{side, stepped};
 ghost use Rattle.images.specs.Images.{is-row, memo-place, noted, Notes};
 
 // Whether a word of the memo is a row, plus 1.
@@ -26,12 +25,12 @@ pub fn word_of(frame: Frame, i: usize, not: bool) -> usize
 }
 
 // Notes the row that was built, unless there was no room.
-pub fn note(scratch: &mut [u16], k: usize, r: Step)
-    requires { ⌜ Notes (now scratch) k r ⌝ }
-    ensures { λ _. ⌜ now (scratch .exit) ≡ noted (now (scratch .entry)) k r ⌝ }
+pub fn note(scratch: &mut [u16], k: usize, row: u16)
+    requires { ⌜ Notes (now scratch) k (stepped 0 0 row) ⌝ }
+    ensures { λ _. ⌜ now (scratch .exit) ≡ noted (now (scratch .entry)) k (stepped 0 0 row) ⌝ }
 {
-    if r.full {
+    if row == 65535 {
         return;
     }
-    scratch[k] = r.row + 1;
+    scratch[k] = row + 1;
 }

@@ -20,7 +20,7 @@ use Rattle.formula_builder.proofs.Steps.{within-before}
 use Rattle.images.specs.Images.{image-at, Images, Asks}
 use Rattle.images.proofs.Memos.{steady-image-at}
 use Rattle.conditions.specs.Conditions.{effect-tree, Unnamed, Noted}
-use Rattle.changes.specs.Stands.{Stands, StandsAt, Reaches, Makes, size-after, made}
+use Rattle.changes.specs.Stands.{Stands, StandsAt, Reaches, Makes, made}
 use Rattle.conditions.proofs.Memos.{conditions-of-images}
 use Rattle.changes.proofs.Standing.{stands-next, stands-at-next}
 use Rattle.atom_sets.specs.Sets.{lacks, InSet}
@@ -213,7 +213,7 @@ module _ {frame : Frame} {formulas effects notes : List ℕ} {e : ℕ} {at : Siz
           limit = omega (arith, o .limit, w .few, w .below, a .stands .ready .variables);
         }
 
-    module _ {after : Store} {s3 : List ℕ} (c : Change) (y : Makes (changes-of (frame .variables) (effect-tree frame formulas effects e) v) frame formulas effects here mid after s3 (c .full) (size-after c) (made v c)) where
+    module _ {after : Store} {s3 : List ℕ} {there : Size} (c : Change) (y : Makes (changes-of (frame .variables) (effect-tree frame formulas effects e) v) frame formulas effects here mid after s3 (c .full) there (made v c)) where
       pub walking-stops :
           {n : List ℕ} {r : Tally}
           → v < frame .variables
@@ -233,9 +233,9 @@ module _ {frame : Frame} {formulas effects notes : List ℕ} {e : ℕ} {at : Siz
           {n notes' : List ℕ} {to next : ℕ}
           → c .full ≡ false
           → Recorded (made v c ∷ []) k m n to
-          → Noted frame formulas effects notes' (held (size-after c) after)
+          → Noted frame formulas effects notes' (held there after)
           → NextTouched frame notes' e (v + 1) next
-          → Walking frame formulas effects e at before after s3 from l n (size-after c) to next
+          → Walking frame formulas effects e at before after s3 from l n there to next
       walking-more q z noted n =
           walking-on
           (record {

@@ -3,7 +3,7 @@ use crate::Tally;
 use crate::walk::build_changes;
 use formula_builder::Frame;
 use formula_builder::Size;
-use images::image;
+use images::image_from;
 ghost use Rattle.formula_builder.specs.Held.{store};
 ghost use Rattle.changes.specs.Stands.{Leaves};
 ghost use Rattle.records.specs.Recorded.{Opens};
@@ -27,7 +27,7 @@ pub fn build_operator(
     requires { ⌜ BuildsOperator frame (now formulas) (now effects) (now notes) at (store (now table) (now originals)) (now scratch) p e × Opens from (now records) ⌝ }
     ensures { λ r. ⌜ OperatorWalked frame (now (formulas .entry)) (now (effects .entry)) p e at (store (now (table .entry)) (now (originals .entry))) (store (now (table .exit)) (now (originals .exit))) (now (scratch .exit)) from (now (records .entry)) (now (records .exit)) r × Leaves (r .full) frame (now (formulas .entry)) (now (effects .entry)) (now (notes .exit)) (size-behind r) (store (now (table .exit)) (now (originals .exit))) ⌝ }
 {
-    let f = image(formulas, p, frame, at, table, originals, scratch);
+    let f = image_from(formulas, p, frame, at, table, originals, scratch);
     if f.full {
         return Tally {
             rows: f.rows,

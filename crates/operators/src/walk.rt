@@ -73,10 +73,6 @@ pub fn build_changes(
     let mut k = from;
     let mut v = next_touched(notes, frame, e, 0);
     while v < n {
-        let here = Size {
-            rows: rows,
-            twins: twins,
-        };
         let variable = v as u16;
         let sets = !lacks(notes, frame, false, v, e);
         let clears = !lacks(notes, frame, true, v, e);
@@ -89,22 +85,21 @@ pub fn build_changes(
             sets,
             clears,
             frame,
-            here,
+            &mut rows,
+            &mut twins,
             table,
             originals,
             scratch,
         );
         if c.full {
             return Tally {
-                rows: c.rows,
-                twins: c.twins,
+                rows: rows,
+                twins: twins,
                 row: 0,
                 records: k,
                 full: true,
             };
         }
-        rows = c.rows;
-        twins = c.twins;
         k = keep_change(
             records,
             k,

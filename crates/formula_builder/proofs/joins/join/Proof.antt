@@ -5,71 +5,54 @@ use Rattle.formula_builder.proofs.joins.join.Reads as reads
 use Rattle.formula_builder.proofs.joins.join.Lts as lts
 use Rattle.formula_builder.proofs.joins.falsity.Reads as falsity-reads
 use Rattle.formula_builder.proofs.joins.kind.Reads as kind-reads
-use Rattle.formula_builder.proofs.joins.standing.Reads as standing-reads
 use Rattle.formula_builder.proofs.joins.truth.Reads as truth-reads
 use Rattle.formula_builder.proofs.rows.row.Reads as row-reads
-use Rattle.formula_builder.proofs.Steps.{builds-as, builds-give, falsity-small, join-left-false, join-right-false, join-left-true, join-right-true, join-fresh}
+use Rattle.formula_builder.proofs.Steps.{builds-as, builds-stands, falsity-small, join-left-false, join-right-false, join-left-true, join-right-true, join-fresh}
 use Rattle.formula_builder.specs.Held.{side}
 use Rattle.normal_form.specs.Builder.{row, falsity as false-row}
 use Prim.Native.Nat.{ℕ}
 use mathlib.Core.Path.{sym, ap, _∙_}
 use native.Mathlib.Omega.{arith}
 
--- src/joins.rt:48:9
+-- src/joins.rt:36:9
 falsity-requires : tie.Need-falsity-requires
 falsity-requires c κs = search needs
 
--- src/joins.rt:49:9
+-- src/joins.rt:37:9
 truth-requires : tie.Need-truth-requires
 truth-requires c κs = search needs
 
--- src/joins.rt:51:9
-standing-requires : tie.Need-standing-requires
-standing-requires c κs = search needs
-
--- src/joins.rt:51:9
+-- src/joins.rt:39:9
 returns : tie.Need-returns
-returns c = λ o ready. rw (c .standing .ensures, c .before .before .before .falsity .ensures) (builds-as (join-left-false (side (c .before .before .before .before .before .args .or)) (c .before .before .before .before .before .args .a) (c .before .before .before .before .before .args .b) (c .before .if1 .taken ∙ c .before .before .before .falsity .ensures)) (builds-give (false-row (side (c .before .before .before .before .before .args .or))) ready (omega (arith, falsity-small (side (c .before .before .before .before .before .args .or)), ready .two))))
+returns c = λ frame w o same ready. rw (c .before .before .falsity .ensures) (builds-as (join-left-false (side (c .before .before .before .before .args .or)) (c .before .before .before .before .args .a) (c .before .before .before .before .args .b) (c .if1 .taken ∙ c .before .before .falsity .ensures)) (builds-stands (false-row (side (c .before .before .before .before .args .or))) ready (omega (arith, falsity-small (side (c .before .before .before .before .args .or)), ready .two))))
 
--- src/joins.rt:54:9
-standing-requires-2 : tie.Need-standing-requires-2
-standing-requires-2 c κs = search needs
-
--- src/joins.rt:54:9
+-- src/joins.rt:42:9
 returns-2 : tie.Need-returns-2
-returns-2 c = λ o ready. rw (c .standing2 .ensures, c .before .before .before .before .falsity .ensures) (builds-as (join-right-false (side (c .before .before .before .before .before .before .args .or)) (c .before .before .before .before .before .before .args .a) (c .before .before .before .before .before .before .args .b) (λ e. c .before .before .if1 .left (e ∙ sym (c .before .before .before .before .falsity .ensures))) (c .before .if2 .taken ∙ c .before .before .before .before .falsity .ensures)) (builds-give (false-row (side (c .before .before .before .before .before .before .args .or))) ready (omega (arith, falsity-small (side (c .before .before .before .before .before .before .args .or)), ready .two))))
+returns-2 c = λ frame w o same ready. rw (c .before .before .before .falsity .ensures) (builds-as (join-right-false (side (c .before .before .before .before .before .args .or)) (c .before .before .before .before .before .args .a) (c .before .before .before .before .before .args .b) (λ e. c .before .if1 .left (e ∙ sym (c .before .before .before .falsity .ensures))) (c .if2 .taken ∙ c .before .before .before .falsity .ensures)) (builds-stands (false-row (side (c .before .before .before .before .before .args .or))) ready (omega (arith, falsity-small (side (c .before .before .before .before .before .args .or)), ready .two))))
 
--- src/joins.rt:57:9
-standing-requires-3 : tie.Need-standing-requires-3
-standing-requires-3 c κs = search needs
-
--- src/joins.rt:57:9
+-- src/joins.rt:45:9
 returns-3 : tie.Need-returns-3
-returns-3 c = λ o ready. rw (c .standing3 .ensures) (builds-as (join-left-true (side (c .before .before .before .before .before .before .before .args .or)) (c .before .before .before .before .before .before .before .args .a) (c .before .before .before .before .before .before .before .args .b) (λ e. c .before .before .before .if1 .left (e ∙ sym (c .before .before .before .before .before .falsity .ensures))) (λ e. c .before .before .if2 .left (e ∙ sym (c .before .before .before .before .before .falsity .ensures))) (c .before .if3 .taken ∙ c .before .before .before .before .truth .ensures)) (builds-give (c .before .before .before .before .before .before .before .args .b) ready (c .before .before .before .before .before .before .before .pre .right)))
+returns-3 c = λ frame w o same ready. builds-as (join-left-true (side (c .before .before .before .before .before .before .args .or)) (c .before .before .before .before .before .before .args .a) (c .before .before .before .before .before .before .args .b) (λ e. c .before .before .if1 .left (e ∙ sym (c .before .before .before .before .falsity .ensures))) (λ e. c .before .if2 .left (e ∙ sym (c .before .before .before .before .falsity .ensures))) (c .if3 .taken ∙ c .before .before .before .truth .ensures)) (builds-stands (c .before .before .before .before .before .before .args .b) ready (c .before .before .before .before .before .before .pre .right))
 
--- src/joins.rt:60:9
-standing-requires-4 : tie.Need-standing-requires-4
-standing-requires-4 c κs = search needs
-
--- src/joins.rt:60:9
+-- src/joins.rt:48:9
 returns-4 : tie.Need-returns-4
-returns-4 c = λ o ready. rw (c .standing4 .ensures) (builds-as (join-right-true (side (c .before .before .before .before .before .before .before .before .args .or)) (c .before .before .before .before .before .before .before .before .args .a) (c .before .before .before .before .before .before .before .before .args .b) (λ e. c .before .before .before .before .if1 .left (e ∙ sym (c .before .before .before .before .before .before .falsity .ensures))) (λ e. c .before .before .before .if2 .left (e ∙ sym (c .before .before .before .before .before .before .falsity .ensures))) (λ e. c .before .before .if3 .left (e ∙ sym (c .before .before .before .before .before .truth .ensures))) (c .before .if4 .taken ∙ c .before .before .before .before .before .truth .ensures)) (builds-give (c .before .before .before .before .before .before .before .before .args .a) ready (c .before .before .before .before .before .before .before .before .pre .left)))
+returns-4 c = λ frame w o same ready. builds-as (join-right-true (side (c .before .before .before .before .before .before .before .args .or)) (c .before .before .before .before .before .before .before .args .a) (c .before .before .before .before .before .before .before .args .b) (λ e. c .before .before .before .if1 .left (e ∙ sym (c .before .before .before .before .before .falsity .ensures))) (λ e. c .before .before .if2 .left (e ∙ sym (c .before .before .before .before .before .falsity .ensures))) (λ e. c .before .if3 .left (e ∙ sym (c .before .before .before .before .truth .ensures))) (c .if4 .taken ∙ c .before .before .before .before .truth .ensures)) (builds-stands (c .before .before .before .before .before .before .before .args .a) ready (c .before .before .before .before .before .before .before .pre .left))
 
--- src/joins.rt:62:9
+-- src/joins.rt:50:9
 kind-requires : tie.Need-kind-requires
 kind-requires c κs = search needs
 
--- src/joins.rt:63:5
+-- src/joins.rt:51:5
 row-requires : tie.Need-row-requires
 row-requires c κs = search needs
 
--- src/joins.rt:44:1
+-- src/joins.rt:32:1
 same-length : tie.Need-same-length
 same-length c = search needs
 
--- src/joins.rt:44:1
+-- src/joins.rt:32:1
 returns-5 : tie.Need-returns-5
-returns-5 c = λ o ready. builds-as (join-fresh (side (c .before .before .before .before .before .before .before .before .before .before .before .before .args .or)) (c .before .before .before .before .before .before .before .before .before .before .before .before .args .a) (c .before .before .before .before .before .before .before .before .before .before .before .before .args .b) (λ e. c .before .before .before .before .before .before .before .before .if1 .left (e ∙ sym (c .before .before .before .before .before .before .before .before .before .before .falsity .ensures))) (λ e. c .before .before .before .before .before .before .before .if2 .left (e ∙ sym (c .before .before .before .before .before .before .before .before .before .before .falsity .ensures))) (λ e. c .before .before .before .before .before .before .if3 .left (e ∙ sym (c .before .before .before .before .before .before .before .before .before .truth .ensures))) (λ e. c .before .before .before .before .before .if4 .left (e ∙ sym (c .before .before .before .before .before .before .before .before .before .truth .ensures))) ∙ ap (λ (k : ℕ). row (record { kind = k; a = c .before .before .before .before .before .before .before .before .before .before .before .before .args .a; b = c .before .before .before .before .before .before .before .before .before .before .before .before .args .b })) (sym (c .before .before .before .before .kind .ensures))) (c .before .before .row .ensures o ready)
+returns-5 c = λ frame w o same ready. builds-as (join-fresh (side (c .before .before .before .before .before .before .before .before .before .before .before .before .before .args .or)) (c .before .before .before .before .before .before .before .before .before .before .before .before .before .args .a) (c .before .before .before .before .before .before .before .before .before .before .before .before .before .args .b) (λ e. c .before .before .before .before .before .before .before .before .before .if1 .left (e ∙ sym (c .before .before .before .before .before .before .before .before .before .before .before .falsity .ensures))) (λ e. c .before .before .before .before .before .before .before .before .if2 .left (e ∙ sym (c .before .before .before .before .before .before .before .before .before .before .before .falsity .ensures))) (λ e. c .before .before .before .before .before .before .before .if3 .left (e ∙ sym (c .before .before .before .before .before .before .before .before .before .before .truth .ensures))) (λ e. c .before .before .before .before .before .before .if4 .left (e ∙ sym (c .before .before .before .before .before .before .before .before .before .before .truth .ensures))) ∙ ap (λ (k : ℕ). row (record { kind = k; a = c .before .before .before .before .before .before .before .before .before .before .before .before .before .args .a; b = c .before .before .before .before .before .before .before .before .before .before .before .before .before .args .b })) (sym (c .before .before .before .before .before .kind .ensures))) (c .before .before .row .ensures frame w o same ready)
 
 pub join-spec : {M : Type 1} → statement M
 join-spec =
@@ -77,13 +60,9 @@ join-spec =
     (tie.spec
     falsity-requires
     truth-requires
-    standing-requires
     returns
-    standing-requires-2
     returns-2
-    standing-requires-3
     returns-3
-    standing-requires-4
     returns-4
     kind-requires
     row-requires

@@ -5,34 +5,23 @@ use Rattle.formula_builder.proofs.rows.row.Reads as reads
 use Rattle.formula_builder.proofs.rows.row.Lts as lts
 use Rattle.formula_builder.proofs.rows.put.Reads as put-reads
 use Rattle.formula_builder.proofs.rows.rows_after.Reads as rows-after-reads
-use Rattle.formula_builder.specs.Held.{row-of}
-use Rattle.formula_builder.proofs.Steps.{rows-searchable, put-full, put-done}
+use Rattle.formula_builder.proofs.Steps.{rows-searchable, row-put}
 
--- src/rows.rt:148:9
+-- src/rows.rt:147:9
 put-requires : tie.Need-put-requires
-put-requires c κs = (rows-searchable (c .before .before .pre), c .before .before .pre .within)
+put-requires c κs = (rows-searchable (c .before .before .before .pre), c .before .before .before .pre .within)
 
--- src/rows.rt:150:9
-same-length : tie.Need-same-length
-same-length c = search needs
-
--- src/rows.rt:150:9
-returns : tie.Need-returns
-returns c = λ o ready. put-full (c .before .before .before .before .before .before .args .frame) (c .before .before .before .before .before .before .args .at) (c .before .before .before .before .before .before .args .table .now) o ready (row-of (c .before .before .before .before .before .before .args .r)) _ (c .before .before .before .put .result) (c .before .before .before .put .ensures) (c .if1 .taken)
-
--- src/rows.rt:158:15
+-- src/rows.rt:148:13
 rows-after-requires : tie.Need-rows-after-requires
 rows-after-requires c κs = search needs
 
--- src/rows.rt:143:1
-same-length-2 : tie.Need-same-length-2
-same-length-2 c = search needs
+-- src/rows.rt:142:1
+same-length : tie.Need-same-length
+same-length c = search needs
 
--- src/rows.rt:143:1
-returns-2 : tie.Need-returns-2
-returns-2 c = λ o ready. rw (c .rows-after .ensures) (put-done (c .before .before .before .before .before .before .before .args .frame) (c .before .before .before .before .before .before .before .args .at) (c .before .before .before .before .before .before .before .args .table .now) o ready (row-of (c .before .before .before .before .before .before .before .args .r)) _ (c .before .before .before .before .put .result) (c .before .before .before .before .put .ensures) (c .before .if1 .left))
+-- src/rows.rt:142:1
+returns : tie.Need-returns
+returns c = λ frame w o same ready. rw (c .rows-after .ensures) (row-put frame (c .before .before .before .before .before .before .before .args .rows .now) w (c .before .before .before .before .before .before .before .args .table .now) o ready (record { kind = c .before .before .before .before .before .before .before .args .kind; a = c .before .before .before .before .before .before .before .args .a; b = c .before .before .before .before .before .before .before .args .b }) (c .before .before .before .put .last .0) (c .before .before .before .put .result) (c .before .before .before .before .before .before .before .args .most) same (c .before .before .before .put .ensures))
 
 pub row-spec : {M : Type 1} → statement M
-row-spec =
-    tie.close
-    (tie.spec put-requires same-length returns rows-after-requires same-length-2 returns-2)
+row-spec = tie.close (tie.spec put-requires rows-after-requires same-length returns)

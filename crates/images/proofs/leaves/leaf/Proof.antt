@@ -3,60 +3,52 @@ use Rattle.images.proofs.leaves.leaf.Statement.{statement}
 use Rattle.images.proofs.leaves.leaf.Tie as tie
 use Rattle.images.proofs.leaves.leaf.Reads as reads
 use Rattle.images.proofs.leaves.leaf.Lts as lts
-use Rattle.formula_builder.proofs.standing.Reads as standing-reads
 use Rattle.formula_builder.proofs.row.Reads as row-reads
 use Rattle.formula_builder.proofs.twin_row.Reads as twin-row-reads
+use mathlib.Core.Path.{refl}
 use Rattle.normal_form.specs.Builder.{plain, negated}
 use Rattle.formula_builder.proofs.Steps.{builds-as}
 use Rattle.images.proofs.Rising.{leaf-twin, leaf-copied, leaf-constant}
 
--- src/leaves.rt:26:13
+-- src/leaves.rt:24:13
 twin-row-requires : tie.Need-twin-row-requires
 twin-row-requires c κs = search needs
 
--- src/leaves.rt:26:13
+-- src/leaves.rt:24:13
 same-length : tie.Need-same-length
 same-length c = search needs
 
--- src/leaves.rt:26:13
+-- src/leaves.rt:24:13
 same-length-2 : tie.Need-same-length-2
 same-length-2 c = search needs
 
--- src/leaves.rt:26:13
+-- src/leaves.rt:24:13
 returns : tie.Need-returns
-returns c = rw (c .before .before .before .before .before .before .before .if2 .taken) (builds-as (leaf-twin (c .before .before .before .before .before .before .before .before .before .before .before .before .args .frame .variables) (c .before .before .before .before .before .before .before .before .before .before .before .before .args .w) (c .before .before .before .before .before .before .before .before .if1 .taken)) (c .before .before .before .before .twin-row .ensures))
+returns c = rw (c .before .before .before .before .before .before .before .before .before .if2 .taken) (builds-as (leaf-twin (c .before .before .before .before .before .before .before .before .before .before .before .before .before .before .args .frame .variables) (c .before .before .before .before .before .before .before .before .before .before .before .before .before .before .args .w) (c .before .before .before .before .before .before .before .before .before .before .if1 .taken)) (c .before .before .before .before .twin-row .ensures))
 
--- src/leaves.rt:28:9
+-- src/leaves.rt:26:9
 row-requires : tie.Need-row-requires
 row-requires c κs = search needs
 
--- src/leaves.rt:28:9
+-- src/leaves.rt:26:9
 same-length-3 : tie.Need-same-length-3
 same-length-3 c = search needs
 
--- src/leaves.rt:28:9
+-- src/leaves.rt:26:9
 returns-2 : tie.Need-returns-2
-returns-2 c = rw (c .before .before .before .before .if2 .left) (builds-as (leaf-copied (c .before .before .before .before .before .before .before .before .before .args .frame .variables) (c .before .before .before .before .before .before .before .before .before .args .w) (c .before .before .before .before .before .if1 .taken) (c .before .before .before .before .before .before .before .before .before .pre .unused (c .before .before .before .before .before .if1 .taken))) (c .before .before .row .ensures (c .before .before .before .before .before .before .before .before .before .args .originals .now) (c .before .before .before .before .before .before .before .before .before .pre .ready)))
+returns-2 c = rw (c .before .before .before .before .before .if2 .left) (builds-as (leaf-copied (c .before .before .before .before .before .before .before .before .before .before .args .frame .variables) (c .before .before .before .before .before .before .before .before .before .before .args .w) (c .before .before .before .before .before .before .if1 .taken) (c .before .before .before .before .before .before .before .before .before .before .pre .unused (c .before .before .before .before .before .before .if1 .taken))) (c .before .before .row .ensures (c .before .before .before .before .before .before .before .before .before .before .args .frame) (c .before .before .before .before .before .before .before .before .before .before .args .twins .now) (c .before .before .before .before .before .before .before .before .before .before .args .originals .now) refl (c .before .before .before .before .before .before .before .before .before .before .pre .ready)))
 
--- src/leaves.rt:31:29
-sub-standing : tie.Need-sub-standing
-sub-standing c = search needs
+-- src/leaves.rt:29:16
+sub-result : tie.Need-sub-result
+sub-result c = search needs
 
--- src/leaves.rt:31:9
-standing-requires : tie.Need-standing-requires
-standing-requires c κs = search needs
-
--- src/leaves.rt:31:9
+-- src/leaves.rt:29:9
 returns-3 : tie.Need-returns-3
-returns-3 c = rw (c .standing .ensures, c .before .before .if3 .taken) (leaf-constant negated (c .before .before .before .before .before .before .before .args .w) (c .before .before .before .before .before .before .before .pre) (c .before .before .before .if1 .left))
+returns-3 c = rw (c .before .if3 .taken) (leaf-constant negated (c .before .before .before .before .before .before .args .w) (c .before .before .before .before .before .before .pre) (c .before .before .if1 .left))
 
--- src/leaves.rt:33:5
-standing-requires-2 : tie.Need-standing-requires-2
-standing-requires-2 c κs = search needs
-
--- src/leaves.rt:13:1
+-- src/leaves.rt:10:1
 returns-4 : tie.Need-returns-4
-returns-4 c = rw (c .standing2 .ensures, c .before .if3 .left) (leaf-constant plain (c .before .before .before .before .before .before .args .w) (c .before .before .before .before .before .before .pre) (c .before .before .if1 .left))
+returns-4 c = rw (c .if3 .left) (leaf-constant plain (c .before .before .before .before .before .args .w) (c .before .before .before .before .before .pre) (c .before .if1 .left))
 
 pub leaf-spec : {M : Type 1} → statement M
 leaf-spec =
@@ -69,8 +61,6 @@ leaf-spec =
     row-requires
     same-length-3
     returns-2
-    sub-standing
-    standing-requires
+    sub-result
     returns-3
-    standing-requires-2
     returns-4)

@@ -4,30 +4,31 @@ use Rattle.images.proofs.memo.note.Tie as tie
 use Rattle.images.proofs.memo.note.Reads as reads
 use Rattle.images.proofs.memo.note.Lts as lts
 use native.Mathlib.Omega.{arith}
+use borrow.Author.Tests.{eq-eqb, ne-eqb}
 
--- src/memo.rt:14:9
+-- src/memo.rt:33:9
 returns : tie.Need-returns
-returns c = rw (c .if1 .taken)
+returns c = rw (eq-eqb (c .before .args .row) 65535 (c .if1 .taken))
 
--- src/memo.rt:16:18
+-- src/memo.rt:35:18
 add-scratch : tie.Need-add-scratch
-add-scratch c = omega (arith, c .before .before .pre .small (c .before .if1 .left))
+add-scratch c = omega (arith, c .before .pre .small (ne-eqb (c .before .args .row) 65535 (c .if1 .left)))
 
--- src/memo.rt:16:5
+-- src/memo.rt:35:5
 mul-scratch : tie.Need-mul-scratch
 mul-scratch c = search needs
 
--- src/memo.rt:16:5
+-- src/memo.rt:35:5
 slice-write-scratch : tie.Need-slice-write-scratch
 slice-write-scratch c = search needs
 
--- src/memo.rt:9:1
+-- src/memo.rt:28:1
 same-length : tie.Need-same-length
 same-length c = search needs
 
--- src/memo.rt:9:1
+-- src/memo.rt:28:1
 returns-2 : tie.Need-returns-2
-returns-2 c = rw (c .before .if1 .left)
+returns-2 c = rw (ne-eqb (c .before .args .row) 65535 (c .if1 .left))
 
 pub note-spec : {M : Type 1} → statement M
 note-spec =
