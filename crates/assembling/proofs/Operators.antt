@@ -27,6 +27,23 @@ use Rattle.rule_writer.proofs.Writing.{begun, writes-none, writes-as, writes-va
 use Rattle.records.specs.Recorded.{change-at, changes-from}
 use Rattle.assembling.specs.Assembles.{changes-between, built-of, begins-at, built-in, assembled-in, WritesRecords, WritesOperator, Holding, WroteOperator, InOrder, Assembles, AssembledAll}
 
+-- a change, as it is read
+abbrev change-in : Words → Changes
+change-in w = record { variable = w .kind; adds = w .a; deletes = w .b }
+
+change-is : (records : List ℕ) (i : ℕ) {w : Words} → row-of w ≡ row-at records (256 + i) → change-at records i ≡ change-in w
+unfolding change-at
+change-is records i words = ap (λ (r : Row). record { variable = r .kind; adds = r .a; deletes = r .b }) (sym words)
+
+pub change-below :
+    {n k end : ℕ} (records : List ℕ) (i : ℕ) {w : Words}
+    → InOrder n records k end
+    → k ≤ i
+    → i < end
+    → row-of w ≡ row-at records (256 + i)
+    → w .kind < n
+change-below records i a h l words = omega (arith, a .below i h l, ap (λ (c : Changes). c .variable) (change-is records i words))
+
 -- The changes one after another.
 module _ (n : ℕ) (twins records : List ℕ) where
   between-none : (k : ℕ) → changes-between records k k ≡ []
@@ -53,16 +70,12 @@ module _ (n : ℕ) (twins records : List ℕ) where
       → k ≤ i
       → row-of w ≡ row-at records (256 + i)
       → Writes (rules n twins (changes-between records k i)) room chain out out2 a
-      → Writes (rules-of n twins (record { variable = w .kind; adds = w .a; deletes = w .b })) room a out2 out3 r
+      → Writes (rules-of n twins (change-in w)) room a out2 out3 r
       → Writes (rules n twins (changes-between records k (i + 1))) room chain out out3 r
   records-more k i w h words x y =
       rw (between-more k i h)
-      (writes-variable n twins (changes-between records k i) (change-at records i) x (writes-as (ap (rules-of n twins) same) y))
-    where
-      same : change-at records i ≡ record { variable = w .kind; adds = w .a; deletes = w .b }
-      same =
-          unfold change-at in
-          ap (λ (r : Row). record { variable = r .kind; adds = r .a; deletes = r .b }) (sym words)
+      (writes-variable n twins (changes-between records k i) (change-at records i) x
+      (writes-as (ap (rules-of n twins) (change-is records i words)) y))
 
   pub records-all :
       {room : ℕ} {chain r : Chain} {out out' : List ℕ} (k i end : ℕ)
@@ -80,7 +93,6 @@ module _ (n : ℕ) (twins records : List ℕ) (w : Row) (k : ℕ) {cost room row
   unfolding assemble-operator built-of
   operator-written =
       record {
-        ready = y .ready;
         done = λ a h q.
             let s = y .done (unwritten (a .effects)) (held-before a h) q in
             let e : Operator = record { precondition = w .kind; effect = r .stands; cost = cost } in
@@ -101,6 +113,16 @@ module _ (n : ℕ) (twins records : List ℕ) (w : Row) (k : ℕ) {cost room row
             };
         over = λ a h q few. y .over (unwritten (a .effects)) (held-before a h) refl q few;
       }
+
+-- where an operator's changes begin
+module _ (records : List ℕ) where
+  pub begins-none : 0 ≡ begins-at records 0
+  unfolding begins-at
+  begins-none = refl
+
+  pub begins-next : (o : ℕ) {w : Words} → row-of w ≡ row-at records o → w .a ≡ begins-at records (o + 1)
+  unfolding begins-at
+  begins-next o words = rw (add-one o) (ap (λ (r : Row). r .a) words)
 
 -- All operators.
 module _ (n : ℕ) (twins operators records : List ℕ) where
@@ -170,14 +192,6 @@ module _ (n : ℕ) (twins operators records : List ℕ) where
       none : (m : ℕ) → padded m [] ≡ padded m (operator-words (unassembled .operators))
       none m = unfold unassembled operator-words in refl
 
-  pub begins-none : 0 ≡ begins-at records 0
-  unfolding begins-at
-  begins-none = refl
-
-  pub begins-next : (o : ℕ) {w : Words} → row-of w ≡ row-at records o → w .a ≡ begins-at records (o + 1)
-  unfolding begins-at
-  begins-next o words = rw (add-one o) (ap (λ (r : Row). r .a) words)
-
   module _ {room rows k : ℕ} {r : Chain} {out out' outs outs' : List ℕ} (o : ℕ) (w c : Words) (words : row-of w ≡ row-at records o) (source : row-of c ≡ row-at operators o) (from : k ≡ begins-at records o) (h : Holding (assembled-in n twins operators records o) rows o out outs) (x : WroteOperator (built-of records (row-of w) k (c .b)) n twins room rows o r out out' outs outs') where
     its : built-of records (row-of w) k (c .b) ≡ built-in operators records o
     unfolding built-in
@@ -215,18 +229,17 @@ module _ (n : ℕ) (twins operators records : List ℕ) where
 
 -- what one operator asks
 pub asks-operator :
-    {frame : Frame} {operators records originals out₀ written₀ out written : List ℕ} {count o k rows : ℕ} (w : Words)
-    → Assembles frame operators records originals count out₀ written₀
+    {frame : Frame} {operators records places out₀ written₀ out written : List ℕ} {count o k rows : ℕ} (w : Words)
+    → Assembles frame operators records count out₀ written₀
+    → frame .variables ≤ length places
     → o < count
     → row-of w ≡ row-at records o
     → k ≡ begins-at records o
     → rows ≤ frame .room
     → length out ≡ length out₀
     → length written ≡ length written₀
-    → WritesOperator frame records originals (row-of w) o k rows out written
-asks-operator {o = o} w a h words from most long wide =
-    let ordered = a .in-order o h in
-    let end = ap (λ (r : Row). r .a) words in
+    → WritesOperator frame records places (row-of w) o k rows out written
+asks-operator {o = o} w a all h words from most long wide =
     record {
       changes =
           record {
@@ -235,10 +248,9 @@ asks-operator {o = o} w a h words from most long wide =
                   rows = record { within = most; space = omega (arith, a .space, long); limit = a .rows-limit };
                   variables = a .variables;
                 };
-            twins = a .twins;
+            each-placed = all;
             room = a .room;
-            order = omega (arith, from, end, ordered .order);
-            limit = omega (arith, end, ordered .limit);
+            in-order = rw (from, ap (λ (r : Row). r .a) words) (a .in-order o h);
           };
       space = omega (arith, a .operator-space, wide);
     }

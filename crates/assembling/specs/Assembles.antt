@@ -3,7 +3,7 @@ use Prim.Native.Nat.{ℕ, zero, suc, _+_, _-_, _*_, _≤_, _<_}
 use mathlib.Core.Path.{_≡_}
 use mathlib.Core.Bool.{true, false}
 use mathlib.Core.List.{List}
-use lib.ListN.{length, replicate}
+use lib.ListN.{length, getD, replicate}
 use Rattle.task.specs.Bounded.{upto}
 use Rattle.task.specs.Table.{Row, row-at}
 use Rattle.task.specs.Words.{words-of, operator-words}
@@ -12,9 +12,10 @@ use Rattle.normal_form.specs.Assembly.{Assembled, assemble-operator, assemble, 
 use Rattle.normal_form.specs.Compiled.{padded}
 use Rattle.rule_writer.specs.declared.Chain.{Chain}
 use Rattle.rule_writer.specs.declared.Frame.{Frame}
-use Rattle.rule_writer.specs.Writes.{Ready, FrameReady}
+use Rattle.rule_writer.specs.Writes.{FrameReady}
+use Rattle.rule_writer.specs.Places.{Placed}
 use Rattle.rule_writer.proofs.Writing.{begun}
-use Rattle.records.specs.Recorded.{changes-from}
+use Rattle.records.specs.Recorded.{change-at, changes-from}
 
 -- the changes recorded from k up to an end
 unfoldable pub changes-between : List ℕ → ℕ → ℕ → List Changes
@@ -38,15 +39,24 @@ built-in operators records o = built-of records (row-at records o) (begins-at re
 unfoldable pub assembled-in : ℕ → List ℕ → List ℕ → List ℕ → ℕ → Assembled
 assembled-in variables twins operators records n = assemble variables twins unassembled (upto n (built-in operators records))
 
-pub record WritesRecords (frame : Frame) (records originals : List ℕ) (k end : ℕ) (chain : Chain) (out : List ℕ) : Type 0 where
-  pub ready : FrameReady frame chain out
-  pub twins : frame .twins ≤ length originals
-  pub room : 6912 ≤ length records
+-- The changes recorded from k up to an end stand in order, within the records, and are of variables below n.
+pub record InOrder (n : ℕ) (records : List ℕ) (k end : ℕ) : Type 0 where
   pub order : k ≤ end
   pub limit : end ≤ 2048
+  pub below : (i : ℕ) → k ≤ i → i < end → change-at records i .variable < n
 
-pub record WritesOperator (frame : Frame) (records originals : List ℕ) (w : Row) (o k rows : ℕ) (out operators : List ℕ) : Type 0 where
-  pub changes : WritesRecords frame records originals k (w .a) (begun rows) out
+-- what holds of any twins that have these places
+abbrev pub ForTwins : Frame → List ℕ → (List ℕ → Type 0) → Type 0
+ForTwins frame places P = (twins : List ℕ) → Placed (frame .variables) (frame .twins) twins places → P twins
+
+pub record WritesRecords (frame : Frame) (records places : List ℕ) (k end : ℕ) (chain : Chain) (out : List ℕ) : Type 0 where
+  pub ready : FrameReady frame chain out
+  pub each-placed : frame .variables ≤ length places
+  pub room : 6912 ≤ length records
+  pub in-order : InOrder (frame .variables) records k end
+
+pub record WritesOperator (frame : Frame) (records places : List ℕ) (w : Row) (o k rows : ℕ) (out operators : List ℕ) : Type 0 where
+  pub changes : WritesRecords frame records places k (w .a) (begun rows) out
   pub space : 3 * o + 3 ≤ length operators
 
 -- The tables hold what is assembled, so many effect rows and so many operators, and 0 in all past it.
@@ -58,7 +68,6 @@ pub record Holding (w : Assembled) (rows count : ℕ) (effects operators : List 
 
 -- Operator o is written behind those before it, or its rules have no room.
 pub record WroteOperator (b : Built) (n : ℕ) (twins : List ℕ) (room rows o : ℕ) (r : Chain) (out out' operators operators' : List ℕ) : Type 0 where
-  pub ready : Ready room r out'
   pub done :
       (w : Assembled)
       → Holding w rows o out operators
@@ -71,17 +80,11 @@ pub record WroteOperator (b : Built) (n : ℕ) (twins : List ℕ) (room rows o :
       → length (assemble-operator n twins w b .effects) ≤ room
       → ⊥
 
--- Each operator's changes stand in order, within the records.
-pub record InOrder (records : List ℕ) (o : ℕ) : Type 0 where
-  pub order : begins-at records o ≤ row-at records o .a
-  pub limit : row-at records o .a ≤ 2048
-
-pub record Assembles (frame : Frame) (operators records originals : List ℕ) (count : ℕ) (out written : List ℕ) : Type 0 where
+pub record Assembles (frame : Frame) (operators records : List ℕ) (count : ℕ) (out written : List ℕ) : Type 0 where
   pub words : 3 * count ≤ length operators
   pub limit : count ≤ 256
   pub room : 6912 ≤ length records
-  pub in-order : (o : ℕ) → o < count → InOrder records o
-  pub twins : frame .twins ≤ length originals
+  pub in-order : (o : ℕ) → o < count → InOrder (frame .variables) records (begins-at records o) (row-at records o .a)
   pub variables : frame .variables + frame .twins ≤ 512
   pub one : 1 ≤ frame .room
   pub rows-limit : frame .room ≤ 4096
@@ -89,6 +92,11 @@ pub record Assembles (frame : Frame) (operators records originals : List ℕ) (c
   pub operator-space : 3 * count ≤ length written
   pub blank : out ≡ replicate (length out) 0
   pub blank-operators : written ≡ replicate (length written) 0
+
+-- The twins are there, each one's original a source variable.
+pub record Twinned (frame : Frame) (originals : List ℕ) : Type 0 where
+  pub twins : frame .twins ≤ length originals
+  pub below : (k : ℕ) → k < frame .twins → getD originals k 0 < frame .variables
 
 -- All operators are written, or their rules have no room.
 pub record AssembledAll (w : Assembled) (room count : ℕ) (r : Chain) (out operators : List ℕ) : Type 0 where

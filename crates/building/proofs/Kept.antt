@@ -7,15 +7,34 @@ use mathlib.Core.Path.{_≡_, refl, sym, ap, _∙_}
 use mathlib.Core.List.{List}
 use lib.ListN.{length}
 use Rattle.task.specs.Table.{Row, row-at}
+use Rattle.normal_form.specs.Builder.{bind}
 use Rattle.normal_form.specs.Operators.{Changes}
+use Rattle.normal_form.proofs.ShapeEach.{Upwards, start, next, changes-upwards}
+use Rattle.normal_form.proofs.ShapeRules.{All, none, also, all-append}
 use Rattle.formula_builder.specs.Index.{three}
 use Rattle.formula_builder.specs.declared.Frame.{Frame}
 use Rattle.formula_builder.proofs.Stored.{three-before, three-at}
 use Rattle.records.specs.Recorded.{acting, Recorded}
+use Rattle.records.proofs.Acting.{acting-all}
 use Rattle.records.proofs.Keeping.{same-changes, three-after}
+use Rattle.operators.specs.Operator.{all-changes, operator-built, operator-here}
 use Rattle.building.specs.Taken.{precondition-here, changes-here, many, Kept, AllKept}
 
+upwards-below : {m : ℕ} {cs : List Changes} (n : ℕ) → m ≤ n → Upwards m cs → All (λ c. c .variable < n) cs
+upwards-below n h start = none
+upwards-below n h (next {m = m} c e up) =
+    all-append (upwards-below n (omega arith) up) (also (omega (arith, e)) none)
+
 module _ (frame : Frame) (formulas effects operators : List ℕ) where
+  -- all changes are of source variables
+  pub acting-below : (o : ℕ) → All (λ c. c .variable < frame .variables) (acting (changes-here frame formulas effects operators o))
+  acting-below o = acting-all (λ c. c .variable < frame .variables) all
+    where
+      all : All (λ c. c .variable < frame .variables) (changes-here frame formulas effects operators o)
+      all =
+          unfold changes-here operator-here operator-built all-changes bind in
+          upwards-below (frame .variables) (omega arith) (changes-upwards (frame .variables) (frame .variables) _ _)
+
   pub many-suc :
       (n : ℕ)
       → many frame formulas effects operators (suc n)

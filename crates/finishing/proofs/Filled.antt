@@ -1,5 +1,5 @@
 -- The last part: each way out. Assumes nothing.
-use Prim.Native.Nat.{ℕ, _+_, _*_, _≤_}
+use Prim.Native.Nat.{ℕ, _+_, _*_, _≤_, _<_}
 use native.Mathlib.Omega.{arith}
 use mathlib.Core.Path.{_≡_, refl, sym, ap, ap₂, _∙_}
 use mathlib.Core.Bool.{true, false, true≢false}
@@ -18,7 +18,7 @@ use Rattle.normal_form.proofs.Growth.{grows-refl}
 use Rattle.normal_form.proofs.Over.{Allows, building-within}
 use Rattle.normal_form.proofs.Compiled.{fits-if}
 use Rattle.normal_form.proofs.Padded.{padded-over, padded-front}
-use Rattle.normal_form.proofs.ShapePassed.{finished-variables, finished-rules}
+use Rattle.normal_form.proofs.ShapePassed.{finished-fine, finished-variables}
 use Rattle.normal_form.proofs.ShapeFinished.{finished-operators}
 use Rattle.formula_builder.specs.declared.Frame.{Frame}
 use Rattle.formula_builder.specs.declared.Step.{Step}
@@ -29,7 +29,7 @@ use Rattle.building.specs.Taken.{size-at, AllKept, whole-built, Whole, FromStar
 use Rattle.building.proofs.Begun.{operators-full, goal-asks, goal-built as goal-reached}
 use Rattle.rule_writer.specs.declared.Chain.{Chain}
 use Rattle.rule_writer.specs.Writes.{InitialReady}
-use Rattle.assembling.specs.Assembles.{assembled-in, Holding, Assembles, AssembledAll}
+use Rattle.assembling.specs.Assembles.{assembled-in, Holding, Assembles, Twinned, AssembledAll}
 use Rattle.lent_tables.specs.declared.Passes.{Passes}
 use Rattle.lent_tables.specs.Fills.{Tables, room-of, Fills}
 use Rattle.lent_tables.proofs.Source.{long, source, its-variables}
@@ -80,28 +80,44 @@ module _ {l : Lent} {rows twins effects : ℕ} {x : Tables} (b : Lends l rows tw
     ready : Ready (frame-of (l .head) rows twins) (size-of r) mid
     ready = w .stood .stands .ready
 
-    pub assembling-asks : Assembles (record { variables = l .head .variables; twins = r .twins; room = effects }) (l .operators) records (mid .originals) (l .head .operators) (x .effects) (x .operators)
-    assembling-asks =
-        record {
-          words = long l (b .passes) .operators;
-          limit = omega (arith, source l (b .passes) .limits .operators, length-operators l);
-          room = space;
-          in-order = λ o h.
-              in-order frame (l .formulas) (l .effects) (l .operators) records (l .head .operators) (all .each) o h
-              (omega (arith, all .count, all .limit));
-          twins = omega (arith, ready .twins, ready .originals);
-          variables = omega (arith, ready .twins, b .variables-limit);
-          one = b .one-effect;
-          rows-limit = b .effects-limit;
-          space = b .effects-space;
-          operator-space = b .operators-space;
-          blank = b .blank-effects;
-          blank-operators = b .blank-operators;
-        }
-
     twins-held : take (r .twins) (mid .originals) ≡ built (task-of l) .st .twins
     unfolding held
     twins-held = ap (λ (s : St). s .twins) held-is
+
+    -- the twins' originals are source variables
+    originals-below : (k : ℕ) → k < r .twins → getD (mid .originals) k 0 < l .head .variables
+    originals-below k h =
+        let many : length (take (r .twins) (mid .originals)) ≡ r .twins =
+        length-take-le (r .twins) (mid .originals) (omega (arith, ready .twins, ready .originals)) in
+        omega (
+          arith,
+          getD-take (r .twins) (mid .originals) k 0 h,
+          ap (λ (m : List ℕ). getD m k 0) twins-held,
+          finished-fine t (source l (b .passes)) .twin-below k (omega (arith, many, ap length twins-held)),
+          its-variables l (b .passes),
+        )
+
+    pub assembling-asks :
+        Assembles (record { variables = l .head .variables; twins = r .twins; room = effects }) (l .operators) records (l .head .operators) (x .effects) (x .operators)
+        × Twinned (record { variables = l .head .variables; twins = r .twins; room = effects }) (mid .originals)
+    assembling-asks = (
+      record {
+        words = long l (b .passes) .operators;
+        limit = omega (arith, source l (b .passes) .limits .operators, length-operators l);
+        room = space;
+        in-order = λ o h.
+            in-order frame (l .formulas) (l .effects) (l .operators) records (l .head .operators) (all .each) o h
+            (omega (arith, all .count, all .limit));
+        variables = omega (arith, ready .twins, b .variables-limit);
+        one = b .one-effect;
+        rows-limit = b .effects-limit;
+        space = b .effects-space;
+        operator-space = b .operators-space;
+        blank = b .blank-effects;
+        blank-operators = b .blank-operators;
+      },
+      record { twins = omega (arith, ready .twins, ready .originals); below = originals-below },
+    )
 
     -- After the rules.
     module _ {out outs : List ℕ} {c : Chain} (a : AssembledAll (assembled-in (l .head .variables) (take (r .twins) (mid .originals)) (l .operators) records (l .head .operators)) effects (l .head .operators) c out outs) where
@@ -161,22 +177,12 @@ module _ {l : Lent} {rows twins effects : ℕ} {x : Tables} (b : Lends l rows tw
 
           pub initial-asks : InitialReady (l .initial) (mid .originals) (x .initial) (l .head .variables) (r .twins)
           initial-asks =
-              let rules = finished-rules t (source l (b .passes)) (it-fits .limits) in
               let v = its-variables l (b .passes) in
               record {
                 values = long l (b .passes) .initial;
                 twins = omega (arith, ready .twins, ready .originals);
                 space = omega (arith, ready .twins, b .initial-space);
-                below = λ k i.
-                    let at : getD (take (r .twins) (mid .originals)) k 0 ≡ getD (mid .originals) k 0 = getD-take (r .twins) (mid .originals) k 0 i in
-                    omega (
-                      arith,
-                      at,
-                      ap (λ (m : List ℕ). getD m k 0) twins-are,
-                      rules .twin-of-source k (omega (arith, twins-many)),
-                      finished-variables t,
-                      v,
-                    );
+                below = originals-below;
                 bits = λ i k. omega (arith, initial-held l i k, source l (b .passes) .initial-bits i (omega (arith, v)));
               }
 

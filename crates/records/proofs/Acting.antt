@@ -15,6 +15,7 @@ use Rattle.normal_form.specs.Assembly.{Rule, rule, with-twin, rules-of, rules, 
 use Rattle.normal_form.proofs.Assembling.{rules-none}
 use Rattle.normal_form.proofs.ShapeAssembled.{unwritten}
 use Rattle.normal_form.proofs.ShapeCounts.{rows-of-rules, written-length}
+use Rattle.normal_form.proofs.ShapeRules.{All, none, also}
 use Rattle.records.specs.Recorded.{idle, acting}
 
 rule-one : (c : ℕ) (l : Atom) → 0 < c → length (rule c l) ≡ 1
@@ -89,3 +90,13 @@ module _ (n : ℕ) (twins : List ℕ) where
   operator-more w b =
       let rs = rules n twins (b .changes) in
       omega (arith, written-length (w .effects) rs, rows-more (length rs), acting-few (b .changes))
+
+-- what all changes keep, those that bring rules keep
+pub acting-all : (P : Changes → Type 0) {cs : List Changes} → All P cs → All P (acting cs)
+unfolding acting
+acting-all P none = none
+acting-all P (also {x = c} {xs = cs} p ps) = go (idle c) (acting-all P ps)
+  where
+    go : (b : Bool) → All P (acting cs) → All P (cond b (acting cs) (c ∷ acting cs))
+    go true all = all
+    go false all = also p all

@@ -5,8 +5,7 @@ use native.Mathlib.Omega.{arith}
 use mathlib.Core.Path.{_≡_, refl, sym, ap, ap₂, _∙_}
 use mathlib.Core.Bool.{Bool, true, false, not, cond, true≢false}
 use mathlib.Core.List.{List, [], _∷_, _++_, append-assoc, append-nil}
-use lib.ListN.{length, take, replicate, length-append, length-set, length-replicate}
-use lib.Seq.{length-take-le}
+use lib.ListN.{length, getD, replicate, length-append, length-set, length-replicate}
 use lib.Dec.{eqb, ltb}
 use borrow.Author.Tests.{eq-eqb, ne-eqb, lt-ltb, le-ltb}
 use Rattle.task.specs.Table.{Row, Operator}
@@ -27,7 +26,8 @@ use Rattle.rule_writer.specs.declared.Chain.{Chain}
 use Rattle.rule_writer.specs.declared.Rule.{Rule as CodeRule}
 use Rattle.rule_writer.specs.declared.Frame.{Frame}
 use Rattle.rule_writer.specs.declared.Changes.{Changes as CodeChanges}
-use Rattle.rule_writer.specs.Writes.{atom-of, kind-of, changes-in, alone, rule-in, twin-rule-in, opposed-in, two-rows, Holds, Ready, First, Next, Writes, OneMore}
+use Rattle.rule_writer.specs.Places.{Placed}
+use Rattle.rule_writer.specs.Writes.{atom-of, kind-of, changes-in, alone, rule-in, twin-rule-in, opposed-in, all-in, two-rows, Holds, Ready, First, Next, Writes, OneMore}
 
 abbrev pub filled : Chain → Chain
 filled at = record { rows = at .rows; stands = at .stands; full = true }
@@ -344,17 +344,15 @@ operator-stored t i o after h e =
           ∙ padded-operator (length t) operators i o l h;
     }
 
--- all rules of one variable: for the variable and its twin, set and cleared under A, then cleared and set under D
-pub changes-written :
-    (frame : Frame) (originals : List ℕ) (k : ℕ) (c : CodeChanges)
-    → frame .twins ≤ length originals
-    → k ≡ place eqb (c .variable) (take (frame .twins) originals)
-    → rules-of (frame .variables) (take (frame .twins) originals) (changes-in c)
-    ≡ opposed-in frame k (record { sets = true; variable = c .variable; condition = c .adds })
-    ++ opposed-in frame k (record { sets = false; variable = c .variable; condition = c .deletes })
+-- all rules of one variable, if its twin is at place k
+changes-written :
+    (frame : Frame) (twins : List ℕ) (k : ℕ) (c : CodeChanges)
+    → length twins ≡ frame .twins
+    → k ≡ place eqb (c .variable) twins
+    → rules-of (frame .variables) twins (changes-in c) ≡ all-in frame k c
 unfolding rules-of with-twin
-changes-written frame originals k c h e =
-    ap₂ made (sym e) (length-take-le (frame .twins) originals h)
+changes-written frame twins k c many e =
+    ap₂ made (sym e) many
     ∙ sym (append-assoc (rule (c .adds) (sets v)) (of-twin k (frame .twins) (c .adds) false) (made-clear k (frame .twins)))
   where
     v : ℕ
@@ -369,6 +367,16 @@ changes-written frame originals k c h e =
 
     made : (p count : ℕ) → List Rule
     made p count = rule (c .adds) (sets v) ++ (of-twin p count (c .adds) false ++ made-clear p count)
+
+-- those of the place that was found
+pub writes-placed :
+    (frame : Frame) (c : CodeChanges) {twins places : List ℕ} {room : ℕ} {at r : Chain} {before after : List ℕ}
+    → Placed (frame .variables) (frame .twins) twins places
+    → c .variable < frame .variables
+    → Writes (all-in frame (getD places (c .variable) 0) c) room at before after r
+    → Writes (rules-of (frame .variables) twins (changes-in c)) room at before after r
+writes-placed frame c {twins} {places} p h x =
+    writes-as (changes-written frame twins (getD places (c .variable) 0) c (p .many) (p .at (c .variable) h)) x
 
 -- An operator's variables, one after another: v's rules behind those of the variables before it; none if it is neither set nor cleared.
 module _ (n : ℕ) (twins : List ℕ) (cs : List Changes) (c : Changes) {room : ℕ} {at a : Chain} {before mid : List ℕ} where

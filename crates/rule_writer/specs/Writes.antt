@@ -45,6 +45,12 @@ twin-rule-in frame k r =
 abbrev pub opposed-in : Frame → ℕ → CodeRule → List Rule
 opposed-in frame k r = rule-in r ++ twin-rule-in frame k r
 
+-- for the variable and its twin at place k: set and cleared under A, then cleared and set under D
+abbrev pub all-in : Frame → ℕ → CodeChanges → List Rule
+all-in frame k c =
+    opposed-in frame k (record { sets = true; variable = c .variable; condition = c .adds })
+    ++ opposed-in frame k (record { sets = false; variable = c .variable; condition = c .deletes })
+
 -- a rule's two rows stored as rows n and n + 1
 abbrev pub two-rows : List ℕ → ℕ → CodeRule → List ℕ
 two-rows t n r = three (three t n (kind-of (r .sets)) (r .variable) 0) (n + 1) 4 (r .condition) n

@@ -4,13 +4,11 @@ use crate::Changes;
 use crate::Frame;
 use crate::Rule;
 use crate::rows::store;
-use formula_builder::find_twin;
 ghost use mathlib.Core.Path.{_≡_};
 ghost use mathlib.Core.Bool.{true};
-ghost use Prim.Native.Nat.{_+_, _*_, _≤_};
-ghost use lib.ListN.{length, take};
-ghost use Rattle.normal_form.specs.Assembly.{rules-of};
-ghost use Rattle.rule_writer.specs.Writes.{kind-of, changes-in, alone, rule-in, twin-rule-in, opposed-in, two-rows, Ready, FrameReady, First, Next, Writes};
+ghost use Prim.Native.Nat.{_+_, _*_, _≤_, _<_};
+ghost use lib.ListN.{length, getD};
+ghost use Rattle.rule_writer.specs.Writes.{kind-of, alone, rule-in, twin-rule-in, opposed-in, all-in, two-rows, Ready, FrameReady, First, Next, Writes};
 
 // No room: what stands stays.
 fn full(at: Chain) -> Chain
@@ -124,18 +122,18 @@ fn opposed(table: &mut [u16], frame: Frame, at: Chain, k: usize, r: Rule) -> Cha
     twin_rule(table, frame, a, k, r)
 }
 
-// All rules of one variable: set v, clear its twin; clear v, set its twin. One search for the twin.
+// All rules of one variable, the place of its twin being known: set v, clear its twin; clear v, set its twin. Constant time.
 pub fn write_changes(
     table: &mut [u16],
-    originals: &[u16],
+    places: &[u16],
     frame: Frame,
     at: Chain,
     c: Changes,
 ) -> Chain
-    requires { ⌜ FrameReady frame at (now table) × (frame .twins ≤ length (now originals)) ⌝ }
-    ensures { λ s. ⌜ Writes (rules-of (frame .variables) (take (frame .twins) (now (originals .entry))) (changes-in c)) (frame .room) at (now (table .entry)) (now (table .exit)) s ⌝ }
+    requires { ⌜ FrameReady frame at (now table) × (c .variable < length (now places)) ⌝ }
+    ensures { λ s. ⌜ Writes (all-in frame (getD (now (places .entry)) (c .variable) 0) c) (frame .room) at (now (table .entry)) (now (table .exit)) s ⌝ }
 {
-    let k = find_twin(originals, frame.twins, c.variable);
+    let k = places[c.variable as usize] as usize;
     let a = opposed(
         table,
         frame,

@@ -1,10 +1,23 @@
 use borrow.Author.Needs.{needs}
 use Rattle.rule_writer.proofs.rules.write_changes.Statement.{statement}
 use Rattle.rule_writer.proofs.rules.write_changes.Tie as tie
-use Rattle.rule_writer.proofs.Writing.{writes-as, writes-both, changes-written}
+use Rattle.rule_writer.proofs.rules.write_changes.Reads as reads
+use Rattle.rule_writer.proofs.rules.write_changes.Lts as lts
+use Rattle.rule_writer.proofs.rules.opposed.Reads as opposed-reads
+use native.Mathlib.Omega.{arith}
+use Rattle.rule_writer.proofs.Writing.{writes-both}
 
-find-twin-requires : tie.Need-find-twin-requires
-find-twin-requires c κs = search needs
+cast-k : tie.Need-cast-k
+cast-k c = search needs
+
+mul-k : tie.Need-mul-k
+mul-k c = search needs
+
+shared-slice-read-k : tie.Need-shared-slice-read-k
+shared-slice-read-k c = search needs
+
+cast-k-2 : tie.Need-cast-k-2
+cast-k-2 c = omega (arith, c .shared-slice-known2 .given (c .before .before .before .before .args .c .variable))
 
 opposed-requires : tie.Need-opposed-requires
 opposed-requires c κs = search needs
@@ -16,10 +29,17 @@ same-length : tie.Need-same-length
 same-length c = search needs
 
 returns : tie.Need-returns
-returns c =
-    let s = c .before .before .before .before .before .before .before .before .before .before .before in
-    writes-as (changes-written (s .args .frame) (s .args .originals .now) (c .before .before .before .before .before .before .before .before .find-twin .result) (s .args .c) (s .pre .1) (c .before .before .before .before .before .before .before .before .find-twin .ensures)) (writes-both (c .before .before .before .before .before .before .opposed .ensures) (c .before .before .opposed2 .ensures))
+returns c = writes-both (c .before .before .before .before .before .before .opposed .ensures) (c .before .before .opposed2 .ensures)
 
 pub write-changes-spec : {M : Type 1} → statement M
 write-changes-spec =
-    tie.close (tie.spec find-twin-requires opposed-requires opposed-requires-2 same-length returns)
+    tie.close
+    (tie.spec
+    cast-k
+    mul-k
+    shared-slice-read-k
+    cast-k-2
+    opposed-requires
+    opposed-requires-2
+    same-length
+    returns)

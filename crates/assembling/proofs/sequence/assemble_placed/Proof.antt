@@ -1,0 +1,109 @@
+use Rattle.assembling.proofs.sequence.assemble_placed.Statement.{statement}
+use Rattle.assembling.proofs.sequence.assemble_placed.Tie as tie
+use Rattle.assembling.proofs.sequence.assemble_placed.Reads as reads
+use Rattle.assembling.proofs.sequence.assemble_placed.Lts as lts
+use Rattle.assembling.proofs.operator.assemble_operator.Reads as assemble-operator-reads
+use Rattle.formula_builder.proofs.read_row.Reads as read-row-reads
+use Prim.Native.Nat.{_+_, _-_, _≤_}
+use mathlib.Core.Path.{_≡_, refl, _∙_}
+use native.Mathlib.Omega.{arith}
+use lib.ListN.{length}
+use Rattle.assembling.specs.Assembles.{begins-at, assembled-in, ForTwins, Holding}
+use Rattle.assembling.proofs.Operators.{begins-none, begins-next, assembling-begun, asks-operator, assembling-more, assembling-stop, assembling-done}
+
+abbrev Inv-loop : tie.InvT-loop
+Inv-loop operators records places count frame out₀ written₀ rows₀ k₀ o₀ out written rows k o =
+    (o ≤ count) × (length out ≡ length out₀) × (length written ≡ length written₀) × (k ≡ begins-at records o) × ForTwins frame places (λ twins. Holding (assembled-in (frame .variables) twins operators records o) rows o out written) × (rows ≤ frame .room)
+
+abbrev μ-loop : tie.MeasureT-loop
+μ-loop operators records places count frame out₀ written₀ rows₀ k₀ o₀ out written rows k o = count - o
+
+loop-holds : tie.Need-loop-holds Inv-loop μ-loop
+loop-holds c =
+    let s = c .before .before .before .before .before in
+    let a = s .pre .0 in (
+      omega arith,
+      refl,
+      refl,
+      begins-none (s .args .records .now),
+      λ twins p. assembling-begun (s .args .frame .variables) twins (s .args .operators .now) (s .args .records .now) (s .args .out .now) (s .args .written .now) (omega (arith, a .one, a .space)) (a .blank) (a .blank-operators),
+      a .one,
+    )
+
+read-row-requires : tie.Need-read-row-requires Inv-loop μ-loop
+read-row-requires c κs = omega (arith, c .loop-test .taken, c .before .before .before .before .before .before .before .pre .0 .limit, c .before .before .before .before .before .before .before .pre .0 .room)
+
+read-row-requires-2 : tie.Need-read-row-requires-2 Inv-loop μ-loop
+read-row-requires-2 c κs = omega (arith, c .before .loop-test .taken, c .before .before .before .before .before .before .before .before .pre .0 .words)
+
+assemble-operator-requires : tie.Need-assemble-operator-requires Inv-loop μ-loop
+assemble-operator-requires c κs =
+    let s = c .before .before .before .before .before .before .before .before .before .before .before in
+    let inv = c .before .before .before .before .before .loop .inv in
+    asks-operator (c .before .before .before .read-row .result) (s .pre .0) (s .pre .1) (c .before .before .before .before .loop-test .taken) (c .before .before .before .read-row .ensures) (inv .3) (inv .5) (inv .1) (inv .2)
+
+same-length : tie.Need-same-length Inv-loop μ-loop
+same-length c = c .before .before .before .before .before .assemble-operator .kept .1 .1 .1 .1 .1 .1 .1 .1 .0 ∙ c .before .before .before .before .before .before .before .before .before .before .before .loop .inv .1
+
+same-length-2 : tie.Need-same-length-2 Inv-loop μ-loop
+same-length-2 c = c .before .before .before .before .before .assemble-operator .kept .1 .1 .1 .1 .1 .1 .1 .1 .1 .0 ∙ c .before .before .before .before .before .before .before .before .before .before .before .loop .inv .2
+
+returns : tie.Need-returns Inv-loop μ-loop
+returns c =
+    let s = c .before .before .before .before .before .before .before .before .before .before .before .before .before .before .before .before .before in
+    λ twins p.
+    assembling-stop (s .args .frame .variables) twins (s .args .operators .now) (s .args .records .now) (c .before .before .before .before .before .before .before .before .before .before .before .loop .o) (c .before .before .before .before .before .before .before .before .before .read-row .result) (c .before .before .before .before .before .before .before .before .read-row2 .result) (c .before .before .before .before .before .before .before .before .before .read-row .ensures) (c .before .before .before .before .before .before .before .before .read-row2 .ensures) (c .before .before .before .before .before .before .before .before .before .before .before .loop .inv .3) (c .before .before .before .before .before .before .before .before .before .before .before .loop .inv .4 twins p) (c .before .before .before .before .before .assemble-operator .ensures .1 twins p) (s .args .count) (c .before .before .before .before .before .before .before .before .before .before .loop-test .taken) (c .if1 .taken)
+
+cast-k : tie.Need-cast-k Inv-loop μ-loop
+cast-k c = omega arith
+
+add-o : tie.Need-add-o Inv-loop μ-loop
+add-o c = omega (arith, c .before .before .before .before .before .before .before .before .before .before .before .loop-test .taken, c .before .before .before .before .before .before .before .before .before .before .before .before .before .before .before .before .before .before .pre .0 .limit)
+
+loop-less : tie.Need-loop-less Inv-loop μ-loop
+loop-less c = omega (arith, c .before .before .before .before .before .before .before .before .before .before .before .loop-test .taken)
+
+loop-again : tie.Need-loop-again Inv-loop μ-loop
+loop-again c =
+    let s = c .before .before .before .before .before .before .before .before .before .before .before .before .before .before .before .before .before .before in (
+      omega (arith, c .before .before .before .before .before .before .before .before .before .before .before .loop-test .taken),
+      c .before .before .before .before .before .before .assemble-operator .kept .1 .1 .1 .1 .1 .1 .1 .1 .0 ∙ c .before .before .before .before .before .before .before .before .before .before .before .before .loop .inv .1,
+      c .before .before .before .before .before .before .assemble-operator .kept .1 .1 .1 .1 .1 .1 .1 .1 .1 .0 ∙ c .before .before .before .before .before .before .before .before .before .before .before .before .loop .inv .2,
+      begins-next (s .args .records .now) (c .before .before .before .before .before .before .before .before .before .before .before .before .loop .o) (c .before .before .before .before .before .before .before .before .before .before .read-row .ensures),
+      λ twins p.
+          assembling-more (s .args .frame .variables) twins (s .args .operators .now) (s .args .records .now) (c .before .before .before .before .before .before .before .before .before .before .before .before .loop .o) (c .before .before .before .before .before .before .before .before .before .before .read-row .result) (c .before .before .before .before .before .before .before .before .before .read-row2 .result) (c .before .before .before .before .before .before .before .before .before .before .read-row .ensures) (c .before .before .before .before .before .before .before .before .before .read-row2 .ensures) (c .before .before .before .before .before .before .before .before .before .before .before .before .loop .inv .3) (c .before .before .before .before .before .before .before .before .before .before .before .before .loop .inv .4 twins p) (c .before .before .before .before .before .before .assemble-operator .ensures .1 twins p) (c .before .if1 .left),
+      c .before .before .before .before .before .before .assemble-operator .ensures .0 .within,
+    )
+
+same-length-3 : tie.Need-same-length-3 Inv-loop μ-loop
+same-length-3 c = c .before .loop .inv .1
+
+same-length-4 : tie.Need-same-length-4 Inv-loop μ-loop
+same-length-4 c = c .before .loop .inv .2
+
+returns-2 : tie.Need-returns-2 Inv-loop μ-loop
+returns-2 c =
+    let s = c .before .before .before .before .before .before .before in
+    λ twins p.
+    assembling-done (s .args .frame .variables) twins (s .args .operators .now) (s .args .records .now) (c .before .loop .o) (s .args .count) (omega (arith, c .before .loop .inv .0, c .loop-test .left)) (c .before .loop .inv .4 twins p) (c .before .loop .inv .5)
+
+pub assemble-placed-spec : {M : Type 1} → statement M
+assemble-placed-spec =
+    tie.close
+    (tie.spec
+    Inv-loop
+    μ-loop
+    loop-holds
+    read-row-requires
+    read-row-requires-2
+    assemble-operator-requires
+    same-length
+    same-length-2
+    returns
+    cast-k
+    add-o
+    loop-less
+    loop-again
+    same-length-3
+    same-length-4
+    returns-2)
