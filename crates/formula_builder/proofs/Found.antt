@@ -3,7 +3,7 @@ use Prim.Native.Nat.{ℕ, suc, _≤_, _<_}
 use native.Mathlib.Nat.{not-suc-le-zero}
 use native.Mathlib.Omega.{arith}
 use mathlib.Core.Path.{_≡_, refl, sym, ap, _∙_}
-use mathlib.Core.Bool.{Bool, true, false, cond}
+use mathlib.Core.Bool.{Bool, true, false, cond, _&&_}
 use mathlib.Core.List.{List, [], _∷_, _++_}
 use lib.ListN.{length, getD, take}
 use lib.Seq.{length-take-le, getD-take}
@@ -92,14 +92,27 @@ module _ (v w : ℕ) (o : List ℕ) (room : w ≤ length o) where
 
 -- A row is compared word by word.
 module _ (t r : Row) where
-  pub other-kind : (t .kind ≡ r .kind → ⊥) → false ≡ same-row t r
+  pub other-a : (t .a ≡ r .a → ⊥) → false ≡ same-row t r
   unfolding same-row
-  other-kind h = rw (ne-eqb (t .kind) (r .kind) h)
+  other-a h = go (eqb (t .kind) (r .kind))
+    where
+      go : (k : Bool) → false ≡ (k && (eqb (t .a) (r .a) && eqb (t .b) (r .b)))
+      go true = rw (ne-eqb (t .a) (r .a) h)
+      go false = refl
 
-  pub other-a : t .kind ≡ r .kind → (t .a ≡ r .a → ⊥) → false ≡ same-row t r
+  pub other-b : (t .b ≡ r .b → ⊥) → false ≡ same-row t r
   unfolding same-row
-  other-a e h = rw (eq-eqb (t .kind) (r .kind) e, ne-eqb (t .a) (r .a) h)
+  other-b h = go (eqb (t .kind) (r .kind)) (eqb (t .a) (r .a))
+    where
+      go : (k a : Bool) → false ≡ (k && (a && eqb (t .b) (r .b)))
+      go true true = rw (ne-eqb (t .b) (r .b) h)
+      go true false = refl
+      go false a = refl
 
-  pub by-b : t .kind ≡ r .kind → t .a ≡ r .a → eqb (t .b) (r .b) ≡ same-row t r
+  pub by-kind : t .b ≡ r .b → t .a ≡ r .a → eqb (t .kind) (r .kind) ≡ same-row t r
   unfolding same-row
-  by-b e f = rw (eq-eqb (t .kind) (r .kind) e, eq-eqb (t .a) (r .a) f)
+  by-kind f e = rw (eq-eqb (t .a) (r .a) e, eq-eqb (t .b) (r .b) f) (go (eqb (t .kind) (r .kind)))
+    where
+      go : (k : Bool) → k ≡ (k && true)
+      go true = refl
+      go false = refl

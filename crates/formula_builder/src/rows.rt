@@ -26,19 +26,20 @@ pub fn read_row(table: &[u16], i: usize) -> Words
     }
 }
 
-// Whether row i has these three words.
+// Whether row i has these three words. Rows under one head mostly differ in what they name: that is looked at first, since a branch that goes
+// either way for every other row costs more than the comparison.
 fn same(table: &[u16], i: usize, r: Words) -> bool
     requires { ⌜ 3 * i + 3 ≤ length (now table) ⌝ }
     ensures { λ s. ⌜ s ≡ same-row (row-at (now (table .entry)) i) (row-of r) ⌝ }
 {
     let t = read_row(table, i);
-    if t.kind != r.kind {
+    if t.b != r.b {
         return false;
     }
     if t.a != r.a {
         return false;
     }
-    t.b == r.b
+    t.kind == r.kind
 }
 
 // The word that names the row with these words; if no row has them, the word, now 0, that is to name it. The row that is compared after d
