@@ -106,16 +106,6 @@ pub builds-stop :
 builds-stop {m} {frame} {at} {before} f steady b e =
     builds-over e (bind-over m f frame (held at before) steady (b .over e))
 
--- nothing is built
-pub builds-give :
-    {frame : Frame} {at : Size} {s : Store} (x : ℕ)
-    → Ready frame at s
-    → x < at .rows
-    → Builds (give x) frame at s s (done-step at x)
-unfolding give
-builds-give x ready h =
-    builds-done refl (record { value = refl; state = refl; ready = ready; below = h; grew = omega arith })
-
 pub rows-searchable : {most stand : ℕ} {table : List ℕ} → RowsReady most stand table → Searchable most table
 rows-searchable ready = searchable (ready .some) (ready .limit) (ready .room) (ready .within) (ready .index)
 

@@ -11,10 +11,7 @@ pub use joins::truth;
 pub use rows::first_rows;
 pub use rows::read_row;
 pub use rows::row;
-pub use sizes::join_from;
-pub use sizes::standing;
 pub use sizes::step_of;
-pub use twins::find_twin;
 pub use twins::twin_row;
 
 // A row's three words.

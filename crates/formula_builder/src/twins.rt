@@ -9,7 +9,7 @@ ghost use Rattle.normal_form.specs.Builder.{place, twin-row};
 ghost use Rattle.formula_builder.specs.Held.{store, sized, stepped, Ready, Builds};
 
 // Where v's twin stands among w twins; w if it has none. w steps.
-pub fn find_twin(originals: &[u16], w: usize, v: u16) -> usize
+fn find_twin(originals: &[u16], w: usize, v: u16) -> usize
     requires { ⌜ w ≤ length (now originals) ⌝ }
     ensures { λ k. ⌜ k ≡ place eqb v (take w (now (originals .entry))) ⌝ }
 {

@@ -8,4 +8,3 @@ mod spine;
 
 pub use sides::image_from;
 pub use sides::sided;
-pub use sides::sided_from;

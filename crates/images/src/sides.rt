@@ -69,33 +69,3 @@ pub fn image_from(
     );
     step_of(rows, twins, k)
 }
-
-// The image of formula i, or its negated image, from a size. Costs what it costs without one.
-pub fn sided_from(
-    formulas: &[u16],
-    i: usize,
-    not: bool,
-    frame: Frame,
-    at: Size,
-    table: &mut [u16],
-    originals: &mut [u16],
-    scratch: &mut [u16],
-) -> Step
-    requires { ⌜ Asks frame (now formulas) at (store (now table) (now originals)) (now scratch) i ⌝ }
-    ensures { λ r. ⌜ Images (image-at frame (now (formulas .entry)) (side not) i) frame (now (formulas .entry)) at (store (now (table .entry)) (now (originals .entry))) (store (now (table .exit)) (now (originals .exit))) (now (scratch .entry)) (now (scratch .exit)) r ⌝ }
-{
-    let mut rows = at.rows;
-    let mut twins = at.twins;
-    let k = sided(
-        formulas,
-        i,
-        not,
-        frame,
-        &mut rows,
-        &mut twins,
-        table,
-        originals,
-        scratch,
-    );
-    step_of(rows, twins, k)
-}

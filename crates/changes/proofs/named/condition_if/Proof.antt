@@ -5,10 +5,9 @@ use Rattle.changes.proofs.named.condition_if.Reads as reads
 use Rattle.changes.proofs.named.condition_if.Lts as lts
 use Rattle.conditions.proofs.condition.Reads as condition-reads
 use Rattle.formula_builder.proofs.falsity.Reads as falsity-reads
-use Rattle.changes.proofs.Standing.{condition-unnamed}
+use Rattle.changes.proofs.Standing.{asks-condition, condition-unnamed}
 use borrow.Author.Tests.{eq-eqb, ne-eqb}
 use Rattle.formula_builder.specs.Held.{sized}
-use Rattle.changes.proofs.Standing.{asks-condition}
 
 -- src/named.rt:32:9
 condition-requires : tie.Need-condition-requires
