@@ -1,16 +1,17 @@
 -- Where the words of the sets stand. Assumes nothing.
-use Prim.Native.Nat.{ℕ, _+_, _*_, _/_, _%_, _≤_, _<_}
+use Prim.Native.Nat.{ℕ, _+_, _-_, _*_, _/_, _%_, _^_, _≤_, _<_}
 use native.Mathlib.Omega.{arith}
 use native.Mathlib.Nat.{mul-le-mul, zero-div}
-use mathlib.Core.Path.{_≡_, refl, ap}
+use mathlib.Core.Path.{_≡_, refl, sym, _∙_}
 use mathlib.Core.Bool.{Bool, true, false, cond}
 use mathlib.Core.List.{List}
 use lib.ListN.{length, getD}
 use lib.Dec.{eqb}
 use mir.Val.{boolByte}
-use Prim.Native.Nat.{_^_}
+use lib.Pow.{shr-shr}
+use borrow.Author.Tests.{eqb-true, eq-eqb}
 use Rattle.formula_builder.specs.declared.Frame.{Frame}
-use Rattle.atom_sets.specs.Sets.{set-words, set-place, sets-end, atom-bit, lacks, InSet}
+use Rattle.atom_sets.specs.Sets.{set-words, set-place, sets-end, atom-bit, lacks, set-from, InSet}
 
 -- a product that fits a word of the machine
 pub product-small : (s e : ℕ) → s ≤ 64 → e ≤ 4096 → s * e ≤ 262144
@@ -88,14 +89,56 @@ pub end-is : (frame : Frame) → 4 * frame .effects + (frame .variables + 7) / 8
 unfolding sets-end set-words
 end-is frame = refl
 
--- a word that is 0 has none of its variables' atoms
-pub blank-lacks :
-    (frame : Frame) (notes : List ℕ) (v e : ℕ)
-    → getD notes (set-place frame v e) 0 ≡ 0
-    → (clear : Bool) (u : ℕ)
-    → u / 8 ≡ v / 8
-    → lacks frame notes clear u e ≡ true
-unfolding lacks set-place
-blank-lacks frame notes v e z clear u q =
-    let none : getD notes (4 * frame .effects + (set-words frame * e + u / 8)) 0 ≡ 0 = rw q z in
-    rw (none, zero-div (2 ^ atom-bit clear u)) refl
+-- the code's word is the definition's
+pub from-by :
+    (frame : Frame) (notes : List ℕ) (v e k : ℕ)
+    → k ≡ set-place frame v e
+    → getD notes k 0 / 2 ^ (2 * (v % 8)) ≡ set-from frame notes v e
+unfolding set-from
+from-by frame notes v e k q = rw q
+
+-- the lower two bits are 0
+two-bits : (w : ℕ) → w % 2 ≡ 0 → w / 2 % 2 ≡ 0 → w % 4 ≡ 0
+two-bits w a b =
+    let q : w ≡ 4 * (w / 2 / 2) = omega arith in
+    omega (arith, q)
+
+-- What the word from v on says of the atoms.
+module _ (frame : Frame) (notes : List ℕ) (v e : ℕ) where
+  -- an atom of v's word, d bits above v's lowest
+  lacks-above :
+      (clear : Bool) (u d : ℕ)
+      → u / 8 ≡ v / 8
+      → atom-bit clear u ≡ 2 * (v % 8) + d
+      → lacks frame notes clear u e ≡ eqb (set-from frame notes v e / 2 ^ d % 2) 0
+  unfolding lacks set-from set-place
+  lacks-above clear u d q b =
+      let w = getD notes (4 * frame .effects + (set-words frame * e + v / 8)) 0 in
+      rw (q, b, ← shr-shr w (2 * (v % 8)) d)
+
+  -- if it is 0, v and the later variables of the word have none
+  pub none-from :
+      set-from frame notes v e ≡ 0
+      → (clear : Bool) (u : ℕ)
+      → v ≤ u
+      → u / 8 ≡ v / 8
+      → lacks frame notes clear u e ≡ true
+  unfolding atom-bit
+  none-from z clear u h q =
+      let d = 2 * (u % 8 - v % 8) + cond clear 1 0 in
+      lacks-above clear u d q (omega arith) ∙ rw (z, zero-div (2 ^ d)) refl
+
+  -- the lower two bits are v's
+  at-lowest : (clear : Bool) → lacks frame notes clear v e ≡ eqb (set-from frame notes v e / 2 ^ cond clear 1 0 % 2) 0
+  unfolding atom-bit
+  at-lowest clear = lacks-above clear v (cond clear 1 0) refl refl
+
+  pub none-lowest : set-from frame notes v e % 4 ≡ 0 → (clear : Bool) → lacks frame notes clear v e ≡ true
+  none-lowest z false = at-lowest false ∙ eq-eqb (set-from frame notes v e / 1 % 2) 0 (omega arith)
+  none-lowest z true = at-lowest true ∙ eq-eqb (set-from frame notes v e / 2 % 2) 0 (omega arith)
+
+  pub some-lowest : (set-from frame notes v e % 4 ≡ 0 → ⊥) → ((clear : Bool) → lacks frame notes clear v e ≡ true) → ⊥
+  some-lowest n all =
+      let a = eqb-true (set-from frame notes v e / 1 % 2) 0 (sym (at-lowest false) ∙ all false) in
+      let b = eqb-true (set-from frame notes v e / 2 % 2) 0 (sym (at-lowest true) ∙ all true) in
+      n (two-bits (set-from frame notes v e) (omega (arith, a)) b)

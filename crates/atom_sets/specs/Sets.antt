@@ -28,6 +28,10 @@ atom-bit clear v = 2 * (v % 8) + cond clear 1 0
 unfoldable pub lacks : Frame → List ℕ → Bool → ℕ → ℕ → Bool
 lacks frame notes clear v e = eqb (getD notes (set-place frame v e) 0 / 2 ^ atom-bit clear v % 2) 0
 
+-- the word of variable v in the set of row e, without the bits of the variables below v
+unfoldable pub set-from : Frame → List ℕ → ℕ → ℕ → ℕ
+set-from frame notes v e = getD notes (set-place frame v e) 0 / 2 ^ (2 * (v % 8))
+
 -- Variable v and row e are within the limits.
 pub record InSet (frame : Frame) (v e : ℕ) : Type 0 where
   pub variables : frame .variables ≤ 512

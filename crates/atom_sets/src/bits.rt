@@ -2,9 +2,8 @@
 use formula_builder::Frame;
 ghost use mathlib.Core.Path.{_≡_};
 ghost use Prim.Native.Nat.{_≤_};
-ghost use lib.Dec.{eqb};
-ghost use lib.ListN.{length, getD};
-ghost use Rattle.atom_sets.specs.Sets.{set-place, sets-end, lacks, InSet};
+ghost use lib.ListN.{length};
+ghost use Rattle.atom_sets.specs.Sets.{set-place, sets-end, lacks, set-from, InSet};
 
 // The word of variable v in the set of row e.
 pub fn set_word(frame: Frame, v: usize, e: usize) -> usize
@@ -32,11 +31,12 @@ pub fn sets_end(frame: Frame) -> usize
     4 * frame.effects + (frame.variables + 7) / 8 * frame.effects
 }
 
-// Whether the word of variable v in the set of row e has no atom: then the row names none of its eight variables.
-pub fn is_blank(notes: &[u16], frame: Frame, v: usize, e: usize) -> bool
+// The atoms of variable v and of the later variables of its word, in the set of row e: the lowest bit says set v, the next clear v.
+pub fn set_from(notes: &[u16], frame: Frame, v: usize, e: usize) -> u16
     requires { ⌜ InSet frame v e × (sets-end frame ≤ length (now notes)) ⌝ }
-    ensures { λ r. ⌜ r ≡ eqb (getD (now (notes .entry)) (set-place frame v e) 0) 0 ⌝ }
+    ensures { λ r. ⌜ r ≡ set-from frame (now (notes .entry)) v e ⌝ }
 {
     let k = set_word(frame, v, e);
-    notes[k] == 0
+    let bit = 2 * (v % 8);
+    notes[k] >> bit
 }

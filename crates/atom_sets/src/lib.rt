@@ -3,7 +3,7 @@
 mod bits;
 mod pass;
 
-pub use bits::is_blank;
 pub use bits::lacks;
+pub use bits::set_from;
 pub use bits::sets_end;
 pub use pass::find_sets;

@@ -1,13 +1,10 @@
 -- Passing over the variables of which an effect names no atom. Assumes nothing.
 use Prim.Native.Nat.{ℕ, zero, suc, _+_, _-_, _%_, _≤_, _<_}
 use native.Mathlib.Omega.{arith}
-use native.Mathlib.Decide.{decLe, decLt, ℕ-discrete}
+use native.Mathlib.Decide.{decLe, decLt}
 use mathlib.Core.Path.{_≡_, refl, sym, ap, ap₂, _∙_}
-use mathlib.Core.Bool.{Bool, true, false, not, true≢false}
+use mathlib.Core.Bool.{Bool, true, false}
 use mathlib.Core.List.{List, [], _∷_, _++_, append-nil}
-use lib.Dec.{eqb}
-use lib.ListN.{getD}
-use borrow.Author.Tests.{ne-eqb}
 use Rattle.task.specs.Semantics.{Effect}
 use Rattle.normal_form.specs.Builder.{St, Got, Build, give, bind, each}
 use Rattle.normal_form.specs.Operators.{Changes, deletes-of, changes-of}
@@ -16,66 +13,39 @@ use Rattle.formula_builder.specs.declared.Size.{Size}
 use Rattle.formula_builder.specs.Held.{Store, held}
 use Rattle.conditions.specs.Conditions.{effect-tree, condition-at, Unnamed}
 use Rattle.changes.specs.Stands.{Reaches}
-use Rattle.atom_sets.specs.Sets.{set-place, lacks}
-use Rattle.atom_sets.proofs.Places.{blank-lacks}
+use Rattle.atom_sets.specs.Sets.{lacks, set-from}
+use Rattle.atom_sets.proofs.Places.{none-from, none-lowest, some-lowest}
 use Rattle.records.specs.Recorded.{idle, acting, Recorded}
 use Rattle.records.proofs.Keeping.{acting-append}
 use Rattle.operators.specs.Operator.{all-changes, Passes, NextTouched}
 
-pub not-false : (b : Bool) → not b ≡ false → b ≡ true
-not-false true q = refl
-not-false false q = absurd (true≢false q)
+-- What is passed over at v, by the word from v on.
+module _ (frame : Frame) (notes : List ℕ) (e v rest : ℕ) (r : rest ≡ set-from frame notes v e) where
+  pub passes-rest : rest ≡ 0 → Passes frame notes e v (8 - v % 8)
+  passes-rest z =
+      record {
+        passed = λ clear u a b. none-from frame notes v e (sym r ∙ z) clear u a (omega (arith, a, b));
+        most = omega arith;
+        stopped = λ q. absurd (omega (arith, q));
+      }
 
--- What is passed over at v.
-pub passes-blank :
-    (frame : Frame) (notes : List ℕ) (e v : ℕ)
-    → eqb (getD notes (set-place frame v e) 0) 0 ≡ true
-    → Passes frame notes e v (8 - v % 8)
-passes-blank frame notes e v z =
-    record {
-      passed = λ clear u a b. blank-lacks frame notes v e (is-zero (getD notes (set-place frame v e) 0) z) clear u (omega (arith, a, b));
-      most = omega arith;
-      stopped = λ q. absurd (omega (arith, q));
-    }
-  where
-    is-zero : (k : ℕ) → eqb k 0 ≡ true → k ≡ 0
-    is-zero k q = go (ℕ-discrete k 0)
-      where
-        go : Dec (k ≡ 0) → k ≡ 0
-        go (yes e) = e
-        go (no n) = absurd (true≢false (sym q ∙ ne-eqb k 0 n))
+  pub passes-one : rest % 4 ≡ 0 → Passes frame notes e v 1
+  passes-one z =
+      record {
+        passed = λ clear u a b.
+            let same : u ≡ v = omega (arith, a, b) in
+            rw same (none-lowest frame notes v e (rw (← r) z) clear);
+        most = omega arith;
+        stopped = λ q. absurd (omega (arith, q));
+      }
 
-pub passes-none :
-    (frame : Frame) (notes : List ℕ) (e v : ℕ) (clear : Bool) (b : Bool)
-    → b ≡ lacks frame notes clear v e
-    → not b ≡ true
-    → Passes frame notes e v 0
-passes-none frame notes e v clear b q n =
-    record {
-      passed = λ clear u x y. absurd (omega (arith, x, y));
-      most = omega arith;
-      stopped = λ _ all. true≢false (sym n ∙ ap not (q ∙ all clear));
-    }
-
-pub passes-one :
-    (frame : Frame) (notes : List ℕ) (e v : ℕ) (b d : Bool)
-    → b ≡ lacks frame notes false v e
-    → not b ≡ false
-    → d ≡ lacks frame notes true v e
-    → not d ≡ false
-    → Passes frame notes e v 1
-passes-one frame notes e v b d p x q y =
-    record {
-      passed = λ clear u g h.
-          let same : u ≡ v = omega (arith, g, h) in
-          rw same (go clear);
-      most = omega arith;
-      stopped = λ z. absurd (omega (arith, z));
-    }
-  where
-    go : (clear : Bool) → lacks frame notes clear v e ≡ true
-    go false = sym p ∙ not-false b x
-    go true = sym q ∙ not-false d y
+  pub passes-none : (rest % 4 ≡ 0 → ⊥) → Passes frame notes e v 0
+  passes-none z =
+      record {
+        passed = λ clear u a b. absurd (omega (arith, a, b));
+        most = omega arith;
+        stopped = λ _. some-lowest frame notes v e (λ q. z (rw r q));
+      }
 
 -- The search for the next variable, at v: of those from one on none is named.
 pub record Searching (frame : Frame) (notes : List ℕ) (e from v : ℕ) : Type 0 where

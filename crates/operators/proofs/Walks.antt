@@ -7,6 +7,7 @@ use mathlib.Core.Bool.{Bool, true, false, not, true≢false}
 use mathlib.Core.List.{List, [], _∷_, _++_}
 use lib.Dec.{eqb}
 use lib.ListN.{length}
+use borrow.Author.Tests.{not-false}
 use Rattle.normal_form.specs.Builder.{St, give, bind, each, plain}
 use Rattle.normal_form.proofs.ShapeSizes.{each-grows}
 use Rattle.normal_form.specs.Operators.{Changes, changes-of}
@@ -29,7 +30,7 @@ use Rattle.records.specs.Recorded.{Keeps, Opens, Recorded}
 use Rattle.records.proofs.Keeping.{recorded-none, recorded-few, recorded-more}
 use Rattle.operators.specs.declared.Tally.{Tally}
 use Rattle.operators.specs.Operator.{all-changes, operator-built, LooksOn, NextTouched, BuildsOperator, size-behind, Walked, OperatorWalked}
-use Rattle.operators.proofs.Passing.{not-false, stretch-passed, reaches-alike, recorded-alike}
+use Rattle.operators.proofs.Passing.{stretch-passed, reaches-alike, recorded-alike}
 
 -- nothing is built
 makes-give :

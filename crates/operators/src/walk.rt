@@ -1,7 +1,7 @@
 // The changes of all variables, upwards.
 use crate::Tally;
-use atom_sets::is_blank;
 use atom_sets::lacks;
+use atom_sets::set_from;
 use changes::change_of;
 use formula_builder::Frame;
 use formula_builder::Size;
@@ -15,21 +15,20 @@ ghost use Rattle.changes.specs.Stands.{StandsAt, Leaves};
 ghost use Rattle.records.specs.Recorded.{Opens};
 ghost use Rattle.operators.specs.Operator.{Passes, LooksOn, NextTouched, Walked, all-changes, size-behind};
 
-// How many variables from v on are passed over at once: none, if effect e names an atom of v; those left of v's word, if that has no atom; else v alone.
+// How many variables from v on are passed over at once: none, if effect e names an atom of v; those left of v's word, if it names none of theirs
+// either; else v alone. Constant cost: one word is read.
 fn passed_at(notes: &[u16], frame: Frame, e: usize, v: usize) -> usize
     requires { ⌜ InSet frame v e × (sets-end frame ≤ length (now notes)) ⌝ }
     ensures { λ k. ⌜ Passes frame (now (notes .entry)) e v k ⌝ }
 {
-    if is_blank(notes, frame, v, e) {
+    let rest = set_from(notes, frame, v, e);
+    if rest == 0 {
         return 8 - v % 8;
     }
-    if !lacks(notes, frame, false, v, e) {
-        return 0;
+    if rest % 4 == 0 {
+        return 1;
     }
-    if !lacks(notes, frame, true, v, e) {
-        return 0;
-    }
-    1
+    0
 }
 
 // The first variable from one on of which effect e names an atom; V if there is none. At most a step for each that is passed over, one for eight

@@ -7,27 +7,27 @@ use Prim.Native.Nat.{_+_, _/_}
 use native.Mathlib.Omega.{arith}
 use Rattle.atom_sets.proofs.Places.{products, place-is}
 
--- src/bits.rt:14:5
+-- src/bits.rt:13:5
 mul-result : tie.Need-mul-result
 mul-result c = omega (arith, c .before .pre .limit)
 
--- src/bits.rt:14:27
+-- src/bits.rt:13:27
 add-result : tie.Need-add-result
 add-result c = omega (arith, c .before .before .pre .variables)
 
--- src/bits.rt:14:26
+-- src/bits.rt:13:26
 mul-result-2 : tie.Need-mul-result-2
 mul-result-2 c = omega (arith, products (c .before .before .pre))
 
--- src/bits.rt:14:26
+-- src/bits.rt:13:26
 add-result-2 : tie.Need-add-result-2
 add-result-2 c = omega (arith, products (c .before .before .pre), c .before .before .pre .variable, c .before .before .pre .variables)
 
--- src/bits.rt:14:5
+-- src/bits.rt:13:5
 add-result-3 : tie.Need-add-result-3
 add-result-3 c = omega (arith, products (c .before .before .pre), c .before .before .pre .variable, c .before .before .pre .variables, c .before .before .pre .limit)
 
--- src/bits.rt:10:1
+-- src/bits.rt:9:1
 returns : tie.Need-returns
 returns c = place-is (c .before .before .args .frame) (c .before .before .args .v) (c .before .before .args .e)
 

@@ -6,23 +6,23 @@ use Rattle.atom_sets.proofs.bits.sets_end.Lts as lts
 use native.Mathlib.Omega.{arith}
 use Rattle.atom_sets.proofs.Places.{all-sets, end-is}
 
--- src/bits.rt:31:5
+-- src/bits.rt:30:5
 mul-result : tie.Need-mul-result
 mul-result c = search needs
 
--- src/bits.rt:31:26
+-- src/bits.rt:30:26
 add-result : tie.Need-add-result
 add-result c = search needs
 
--- src/bits.rt:31:25
+-- src/bits.rt:30:25
 mul-result-2 : tie.Need-mul-result-2
 mul-result-2 c = omega (arith, all-sets (c .before .before .before .args .frame) (c .before .before .before .pre .0) (c .before .before .before .pre .1))
 
--- src/bits.rt:31:5
+-- src/bits.rt:30:5
 add-result-2 : tie.Need-add-result-2
 add-result-2 c = omega (arith, all-sets (c .before .before .before .args .frame) (c .before .before .before .pre .0) (c .before .before .before .pre .1), c .before .before .before .pre .1)
 
--- src/bits.rt:27:1
+-- src/bits.rt:26:1
 returns : tie.Need-returns
 returns c = (end-is (c .before .before .before .args .frame), omega (arith, all-sets (c .before .before .before .args .frame) (c .before .before .before .pre .0) (c .before .before .before .pre .1), c .before .before .before .pre .1))
 
