@@ -5,7 +5,7 @@ mod variable;
 
 pub use variable::change_of;
 
-// The size after a step, and the rows under which a variable is set and cleared, never both; or that there was no room.
+// The rows under which a variable is set and cleared, never both; or that there was no room.
 pub struct Change {
     pub adds: u16,
     pub deletes: u16,

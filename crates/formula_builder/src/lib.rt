@@ -1,4 +1,5 @@
-// Building the formula table of a compiled task: a row or a twin is found in the tables that are lent, or appended.
+// Building the formula table of a compiled task: a row or a twin is found in the tables that are lent, or appended. A step changes the counts of
+// rows and twins in place and answers the number of its row, or 65535 if there was no room; so do the steps built on these, of images and conditions.
 mod index;
 mod joins;
 mod rows;
@@ -36,7 +37,7 @@ pub struct Size {
     pub twins: usize,
 }
 
-// What a step answers: the size after it and the row that it built; or that there was no room.
+// A step from one size to another, for the parts of compiling: the size after it and the row that it built; or that there was no room.
 pub struct Step {
     pub rows: usize,
     pub twins: usize,
