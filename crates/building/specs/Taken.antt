@@ -27,7 +27,7 @@ Zeros l = (j : ℕ) → getD l j 0 ≡ 0
 
 -- A formula table that nothing stands in, with room for the frame's rows and their index.
 pub record Fresh (frame : Frame) (table : List ℕ) : Type 0 where
-  pub room : 6 * frame .rows ≤ length table
+  pub room : 9 * frame .rows ≤ length table
   pub limit : frame .rows ≤ 4096
   pub blank : Zeros table
 

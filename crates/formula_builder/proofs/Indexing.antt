@@ -19,10 +19,10 @@ use Rattle.formula_builder.proofs.Found.{row-found, row-none}
 use Rattle.formula_builder.proofs.Stored.{length-three, three-other, three-before, three-at, upto-same, upto-more}
 
 -- the hash times the heads' number; and a head
-pub hash-small : (most key : ℕ) → 0 < most → key * 2654435769 % 4294967296 * most < 4294967296 * most
-hash-small most key h = mul-lt-mul-of-pos-right (omega arith) h
+pub hash-small : (most key : ℕ) → 0 < most → key * 2654435769 % 4294967296 * (4 * most) < 4294967296 * (4 * most)
+hash-small most key h = mul-lt-mul-of-pos-right (omega arith) (omega arith)
 
-head-small : (most key : ℕ) → 0 < most → head-of most key < most
+head-small : (most key : ℕ) → 0 < most → head-of most key < 4 * most
 unfolding head-of
 head-small most key h = omega (arith, hash-small most key h)
 
@@ -40,7 +40,7 @@ none-indexed {most} e =
     }
 
 pub searchable :
-    {most n : ℕ} {t : List ℕ} → 0 < most → most ≤ 4096 → 6 * most ≤ length t → n ≤ most → Indexed most n t → Searchable most t
+    {most n : ℕ} {t : List ℕ} → 0 < most → most ≤ 4096 → 9 * most ≤ length t → n ≤ most → Indexed most n t → Searchable most t
 searchable some limit room few x =
     record {
       some = some;
@@ -67,7 +67,7 @@ module _ {most n : ℕ} {t : List ℕ} (x : Trees most n t) (p : ℕ) where
       leads-own (link-word most i bits) (bits / 2) l (omega arith) (λ _. omega (arith, x .within w i h e)) k
 
 -- Row r stored behind n rows, and named by word p, where its walk ended.
-module _ (most n : ℕ) (t : List ℕ) (r : Row) (p : ℕ) (few : n < most) (room : 6 * most ≤ length t) (f : Found most t r p) where
+module _ (most n : ℕ) (t : List ℕ) (r : Row) (p : ℕ) (few : n < most) (room : 9 * most ≤ length t) (f : Found most t r p) where
   pub length-appended : length (appended t n r p) ≡ length t
   length-appended = length-set (three t n r) p (n + 1) ∙ length-three t n r
 
@@ -176,7 +176,7 @@ module _ (most n : ℕ) (t : List ℕ) (r : Row) (p : ℕ) (few : n < most) (roo
 -- and is reached is still ahead.
 pub record Walks (most : ℕ) (t : List ℕ) (r : Row) (p bits s : ℕ) : Type 0 where
   pub low : 3 * most ≤ p
-  pub high : p < 6 * most
+  pub high : p < 9 * most
   pub names : getD t p 0 ≡ s
   pub leads : (q : ℕ) → Leads most t q p bits → Leads most t q (head-word most r) (key-of r)
   pub ahead : (i : ℕ) → Reached most t i → row-at t i ≡ r → Comes most t p bits i
@@ -302,7 +302,7 @@ module _ {most : ℕ} {t : List ℕ} (e : Empty most t) where
     few : 0 < most
     few = omega (arith, e .two)
 
-    one-room : 6 * most ≤ length (appended t 0 false-row p)
+    one-room : 9 * most ≤ length (appended t 0 false-row p)
     one-room = omega (arith, e .room, length-appended most 0 t false-row p few (e .room) f)
 
     one-indexed : Indexed most 1 (appended t 0 false-row p)

@@ -54,7 +54,7 @@ pub record RowsReady (most stand : ℕ) (table : List ℕ) : Type 0 where
   pub within : stand ≤ most
   pub some : 0 < most
   pub limit : most ≤ 4096
-  pub room : 6 * most ≤ length table
+  pub room : 9 * most ≤ length table
   pub index : Indexed most stand table
 
 pub record JoinReady (most stand : ℕ) (table : List ℕ) (a b : ℕ) : Type 0 where

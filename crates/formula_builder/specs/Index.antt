@@ -1,5 +1,5 @@
 -- The index of the rows that are built, with room for so many rows at most: behind their words stand two links for each row, and behind the links
--- as many heads. A link or a head names a row by its number and 1; 0 names none. The rows under one head are a tree: behind a row that is not the one
+-- four heads for each. A link or a head names a row by its number and 1; 0 names none. The rows under one head are a tree: behind a row that is not the one
 -- looked for, the next bit of the key says which of its links goes on.
 use Prim.Native.Nat.{ℕ, suc, _+_, _*_, _/_, _%_, _≤_, _<_}
 use mathlib.Core.Path.{_≡_}
@@ -17,7 +17,7 @@ key-of r = (r .kind % 8 * 4096 + r .b) * 4096 + r .a
 
 -- The head of a key: Knuth's multiplicative hash, by 2^32 over the golden ratio, and of its 32 bits the part that is below the heads' number.
 unfoldable pub head-of : (most key : ℕ) → ℕ
-head-of most key = key * 2654435769 % 4294967296 * most / 4294967296
+head-of most key = key * 2654435769 % 4294967296 * (4 * most) / 4294967296
 
 -- the word of a row's head, and that of the link of row i that the lowest of these bits says
 abbrev pub head-word : (most : ℕ) → Row → ℕ
@@ -56,13 +56,13 @@ pub record Indexed (most n : ℕ) (t : List ℕ) : Type 0 where
 pub record Searchable (most : ℕ) (t : List ℕ) : Type 0 where
   pub some : 0 < most
   pub limit : most ≤ 4096
-  pub room : 6 * most ≤ length t
+  pub room : 9 * most ≤ length t
   pub trees : Trees most most t
 
 -- The walk for r ends at word p: it names a row that is r, or none; then no row that is reached is r.
 pub record Found (most : ℕ) (t : List ℕ) (r : Row) (p : ℕ) : Type 0 where
   pub low : 3 * most ≤ p
-  pub high : p < 6 * most
+  pub high : p < 9 * most
   pub leads : Leads most t p (head-word most r) (key-of r)
   pub stands : (i : ℕ) → getD t p 0 ≡ suc i → row-at t i ≡ r
   pub missing : getD t p 0 ≡ 0 → (i : ℕ) → Reached most t i → row-at t i ≡ r → ⊥
@@ -96,11 +96,11 @@ rows-after n k = cond (eqb k n) (n + 1) n
 pub record Empty (most : ℕ) (t : List ℕ) : Type 0 where
   pub two : 2 ≤ most
   pub limit : most ≤ 4096
-  pub room : 6 * most ≤ length t
+  pub room : 9 * most ≤ length t
   pub blank : (j : ℕ) → getD t j 0 ≡ 0
 
 -- False and true stand in it, and are found.
 pub record FirstTwo (most : ℕ) (t : List ℕ) : Type 0 where
-  pub room : 6 * most ≤ length t
+  pub room : 9 * most ≤ length t
   pub rows : upto 2 (row-at t) ≡ start .rows
   pub index : Indexed most 2 t

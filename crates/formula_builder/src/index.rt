@@ -12,13 +12,14 @@ pub fn key(r: Words) -> usize
     ((r.kind as usize) % 8 * 4096 + (r.b as usize)) * 4096 + (r.a as usize)
 }
 
-// The word of a key's head, with room for so many rows. Constant time, and no division by their number.
+// The word of a key's head, with room for so many rows. There are four heads for each: most rows that are looked for are new, and a head that names
+// none says so at once. Constant time, and no division by the heads' number.
 pub fn head_word(most: usize, key: usize) -> usize
     requires { ⌜ (0 < most) × (most ≤ 4096) × (key < 536870912) ⌝ }
-    ensures { λ p. ⌜ (p ≡ 5 * most + head-of most key) × (p < 6 * most) ⌝ }
+    ensures { λ p. ⌜ (p ≡ 5 * most + head-of most key) × (p < 9 * most) ⌝ }
 {
     let hash = key * 2654435769 % 4294967296;
-    5 * most + hash * most / 4294967296
+    5 * most + hash * (4 * most) / 4294967296
 }
 
 // The word of the link of row i that the lowest of these bits says.

@@ -43,7 +43,7 @@ fn same(table: &[u16], i: usize, r: Words) -> bool
 }
 
 // The word that names the row with these words; if no row has them, the word, now 0, that is to name it. The row that is compared after d
-// others has the first d bits of this one's key, of 27: so 28 are compared at the most whatever the task (cost alone, not proved), and 1 or 2 as a rule.
+// others has the first d bits of this one's key, of 27: so 28 are compared at the most whatever the task (cost alone, not proved), and none or 1 as a rule.
 fn find_word(table: &[u16], most: usize, r: Words) -> usize
     requires { ⌜ Searchable most (now table) ⌝ }
     ensures { λ p. ⌜ Found most (now (table .entry)) (row-of r) p ⌝ }
