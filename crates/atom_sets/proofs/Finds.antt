@@ -16,25 +16,22 @@ use Rattle.formula_builder.specs.declared.Frame.{Frame}
 use Rattle.formula_builder.specs.Held.{row-of}
 use Rattle.atom_sets.specs.Sets.{set-words, set-place, sets-end, atom-bit, lacks, InSet, Sets}
 use Rattle.atom_sets.specs.Finds.{set-start, united, copied, Room, Written, Within, FindsSets, FindsSet, SetOf, FoundSet, FoundSets}
-use Rattle.atom_sets.proofs.Places.{product-small, row-more, place-within, byte-small, bit-is}
+use Rattle.atom_sets.proofs.Places.{row-more, place-within, word-within, byte-small, bit-is}
 use Rattle.atom_sets.proofs.Words.{or-lacks, one-shifted, one-stands}
 
 -- Where sets begin and end.
 module _ (frame : Frame) where
-  pub start-is : (e : ℕ) → 4 * frame .effects + (frame .variables + 7) / 8 * e ≡ set-start frame e
-  unfolding set-start set-words
-  start-is e = refl
-
-  pub start-small : (e : ℕ) → Within frame e → (frame .variables + 7) / 8 * e ≤ 262144
-  start-small e a = product-small ((frame .variables + 7) / 8) e (omega (arith, a .variables)) (omega (arith, a .effect, a .limit))
+  pub start-is : (e s : ℕ) → s ≡ set-words frame → 4 * frame .effects + s * e ≡ set-start frame e
+  unfolding set-start
+  start-is e s q = rw q
 
   -- the set of a lower row ends where this one begins, or before
-  start-order : (d e : ℕ) → d < e → set-start frame d + (frame .variables + 7) / 8 ≤ set-start frame e
-  unfolding set-start set-words
-  start-order d e h = omega (arith, row-more ((frame .variables + 7) / 8) d e h)
+  start-order : (d e : ℕ) → d < e → set-start frame d + set-words frame ≤ set-start frame e
+  unfolding set-start
+  start-order d e h = omega (arith, row-more (set-words frame) d e h)
 
-  start-next : (e : ℕ) → set-start frame (e + 1) ≡ set-start frame e + (frame .variables + 7) / 8
-  unfolding set-start set-words
+  start-next : (e : ℕ) → set-start frame (e + 1) ≡ set-start frame e + set-words frame
+  unfolding set-start
   start-next e = omega arith
 
   start-end : set-start frame (frame .effects) ≡ sets-end frame
@@ -119,27 +116,27 @@ module _ {frame : Frame} {effects before : List ℕ} {i : ℕ} (f : FindsSet fra
       low : row-at effects i .kind < 3
       low = omega (arith, f .finds .known i (f .effect), kind-is, three, four)
 
-  -- The set of row i begins at `to`.
-  module _ {to : ℕ} (t : to ≡ set-start frame i) where
+  -- The set of row i begins at `to`, and takes n words.
+  module _ {n to : ℕ} (m : n ≡ set-words frame) (t : to ≡ set-start frame i) where
     -- that of a lower row e begins at a
-    pub row-room : {a : ℕ} (e : ℕ) → e < i → a ≡ set-start frame e → Room ((frame .variables + 7) / 8) a to before
+    pub row-room : {a : ℕ} (e : ℕ) → e < i → a ≡ set-start frame e → Room n a to before
     row-room {a} e h p =
         record {
-          apart = omega (arith, start-order frame e i h, t, p);
-          room = omega (arith, start-order frame i (frame .effects) (f .effect), start-end frame, t, f .finds .room);
+          apart = omega (arith, start-order frame e i h, m, t, p);
+          room = omega (arith, start-order frame i (frame .effects) (f .effect), start-end frame, m, t, f .finds .room);
         }
 
     -- only row i's set was written
     written-around :
         {word : ℕ → ℕ} {after : List ℕ}
-        → Written ((frame .variables + 7) / 8) to word before after
+        → Written n to word before after
         → SetOf frame effects after i
         → FoundSet frame effects i before after
     written-around x s =
         record {
           set = s;
           ahead = λ j h. x .ahead j (omega (arith, t));
-          behind = λ j h. x .behind j (omega (arith, t, start-next frame i));
+          behind = λ j h. x .behind j (omega (arith, m, t, start-next frame i));
         }
 
     -- what a lower row's set lacks now, if it did before
@@ -148,28 +145,28 @@ module _ {frame : Frame} {effects before : List ℕ} {i : ℕ} (f : FindsSet fra
         → v < frame .variables
         → e < i
         → a ≡ set-start frame e
-        → Written ((frame .variables + 7) / 8) to word before after
+        → Written n to word before after
         → getD before (a + v / 8) 0 / 2 ^ atom-bit clear v % 2 ≡ 0
         → lacks frame after clear v e ≡ true
     lower-lacks {after = after} clear v e a h l p x z =
-        lacks-of frame after clear v e (getD before (a + v / 8) 0) (rw (← p) (x .ahead (a + v / 8) (omega (arith, start-order frame e i l, t, p)))) z
+        lacks-of frame after clear v e (getD before (a + v / 8) 0) (rw (← p) (x .ahead (a + v / 8) (omega (arith, start-order frame e i l, word-within frame v h, t, p)))) z
 
     -- what row i's set lacks
     row-lacks :
         {word : ℕ → ℕ} {after : List ℕ} (clear : Bool) (v : ℕ)
         → v < frame .variables
-        → Written ((frame .variables + 7) / 8) to word before after
+        → Written n to word before after
         → lacks frame after clear v i ≡ true
         → word (v / 8) / 2 ^ atom-bit clear v % 2 ≡ 0
     row-lacks {word} {after} clear v h x z =
-        of-lacks frame after clear v i (word (v / 8)) (rw (← t) (x .here (v / 8) (omega arith))) z
+        of-lacks frame after clear v i (word (v / 8)) (rw (← t) (x .here (v / 8) (omega (arith, word-within frame v h, m)))) z
 
     pub found-both :
         {after : List ℕ} {a b : ℕ}
         → w .kind ≡ 3
         → a ≡ set-start frame (w .a)
         → b ≡ set-start frame (w .b)
-        → Written ((frame .variables + 7) / 8) to (united before a b) before after
+        → Written n to (united before a b) before after
         → FoundSet frame effects i before after
     unfolding united
     found-both {after} {a} {b} k p r x =
@@ -189,7 +186,7 @@ module _ {frame : Frame} {effects before : List ℕ} {i : ℕ} (f : FindsSet fra
         {after : List ℕ} {b : ℕ}
         → w .kind ≡ 4
         → b ≡ set-start frame (w .b)
-        → Written ((frame .variables + 7) / 8) to (copied before b) before after
+        → Written n to (copied before b) before after
         → FoundSet frame effects i before after
     unfolding copied
     found-under {after} {b} k r x =
@@ -230,7 +227,7 @@ module _ {frame : Frame} {effects before : List ℕ} {i : ℕ} (f : FindsSet fra
               atom = λ clear z l. stands clear (sym kind-is ∙ z) (rw a-is at l);
             };
         ahead = λ j h. other j (λ z. omega (arith, place-start frame (w .a) i));
-        behind = λ j h. other j (λ z. omega (arith, place-start frame (w .a) i, start-next frame i, within .variable));
+        behind = λ j h. other j (λ z. omega (arith, place-start frame (w .a) i, start-next frame i, word-within frame (w .a) (within .variable)));
       }
     where
       within : InSet frame (w .a) i
@@ -289,7 +286,7 @@ same-lacks :
     → lacks frame after clear v e ≡ lacks frame notes clear v e
 unfolding lacks
 same-lacks {frame} {i = i} clear v e h l o =
-    rw (o .ahead (set-place frame v e) (omega (arith, place-start frame v e, start-order frame e i l)))
+    rw (o .ahead (set-place frame v e) (omega (arith, place-start frame v e, word-within frame v h, start-order frame e i l)))
 
 pub finding-more :
     {frame : Frame} {effects first notes after : List ℕ} {i : ℕ}

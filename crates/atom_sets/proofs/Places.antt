@@ -17,12 +17,19 @@ use Rattle.atom_sets.specs.Sets.{set-words, set-place, sets-end, atom-bi
 pub product-small : (s e : ℕ) → s ≤ 64 → e ≤ 4096 → s * e ≤ 262144
 product-small s e h g = mul-le-mul {n₂ = 64} {m₂ = 4096} h g
 
-pub products : {frame : Frame} {v e : ℕ} → InSet frame v e → (frame .variables + 7) / 8 * e ≤ 262144
-products {frame} {v} {e} a =
-    product-small ((frame .variables + 7) / 8) e (omega (arith, a .variables)) (omega (arith, a .effect, a .limit))
+-- the code's number of words is the definition's, and 64 at the most
+pub words-are : (frame : Frame) → frame .variables ≤ 512 → ((frame .variables + 31) / 32 * 4 ≡ set-words frame) × ((frame .variables + 31) / 32 * 4 ≤ 64)
+unfolding set-words
+words-are frame h = (refl, omega (arith, h))
 
-pub all-sets : (frame : Frame) → frame .variables ≤ 512 → frame .effects ≤ 4096 → (frame .variables + 7) / 8 * frame .effects ≤ 262144
-all-sets frame h g = product-small ((frame .variables + 7) / 8) (frame .effects) (omega (arith, h)) g
+-- there is a word for each variable, and the words are whole fours
+pub word-within : (frame : Frame) (v : ℕ) → v < frame .variables → v / 8 < set-words frame
+unfolding set-words
+word-within frame v h = omega (arith, h)
+
+pub whole-fours : (frame : Frame) → set-words frame % 4 ≡ 0
+unfolding set-words
+whole-fours frame = omega arith
 
 -- one row more is one set more
 pub row-more : (s e n : ℕ) → e < n → s * e + s ≤ s * n
@@ -41,10 +48,10 @@ pub place-before :
     → v < frame .variables
     → e < frame .effects
     → (4 * frame .effects ≤ set-place frame v e) × (set-place frame v e < sets-end frame)
-unfolding set-place sets-end set-words
+unfolding set-place sets-end
 place-before frame v e h g =
-    let x = row-more ((frame .variables + 7) / 8) e (frame .effects) g in
-    (omega arith, omega (arith, x, h))
+    let x = row-more (set-words frame) e (frame .effects) g in
+    (omega arith, omega (arith, x, word-within frame v h))
 
 pub place-within : {frame : Frame} {v e : ℕ} → InSet frame v e → set-place frame v e < sets-end frame
 place-within {frame} {v} {e} a = place-before frame v e (a .variable) (a .effect) .1
@@ -63,9 +70,9 @@ lacks-same frame notes notes' clear v e h g same =
 
 -- the code's word is the definition's
 pub place-is :
-    (frame : Frame) (v e : ℕ) → 4 * frame .effects + ((frame .variables + 7) / 8 * e + v / 8) ≡ set-place frame v e
-unfolding set-place set-words
-place-is frame v e = refl
+    (frame : Frame) (v e s : ℕ) → s ≡ set-words frame → 4 * frame .effects + (s * e + v / 8) ≡ set-place frame v e
+unfolding set-place
+place-is frame v e s q = rw q
 
 pub byte-small : (b : Bool) → boolByte b ≤ 1
 byte-small true = omega arith
@@ -85,9 +92,9 @@ unfolding lacks
 lacks-by frame notes clear v e k q = rw (q, bit-is clear v)
 
 -- the code's end is the definition's
-pub end-is : (frame : Frame) → 4 * frame .effects + (frame .variables + 7) / 8 * frame .effects ≡ sets-end frame
-unfolding sets-end set-words
-end-is frame = refl
+pub end-is : (frame : Frame) (s : ℕ) → s ≡ set-words frame → 4 * frame .effects + s * frame .effects ≡ sets-end frame
+unfolding sets-end
+end-is frame s q = rw q
 
 -- the code's word is the definition's
 pub from-by :

@@ -8,9 +8,9 @@ use lib.ListN.{length, getD}
 use Rattle.task.specs.Table.{row-at}
 use Rattle.formula_builder.specs.declared.Frame.{Frame}
 
--- how many words a set takes: eight variables a word
+-- how many words a set takes: eight variables a word, and whole fours of words, since four are taken at once
 unfoldable pub set-words : Frame → ℕ
-set-words frame = (frame .variables + 7) / 8
+set-words frame = (frame .variables + 31) / 32 * 4
 
 -- where the word of variable v in the set of row e stands: behind four other words for each row
 unfoldable pub set-place : Frame → ℕ → ℕ → ℕ

@@ -3,14 +3,22 @@ use formula_builder::Frame;
 ghost use mathlib.Core.Path.{_≡_};
 ghost use Prim.Native.Nat.{_≤_};
 ghost use lib.ListN.{length};
-ghost use Rattle.atom_sets.specs.Sets.{set-place, sets-end, lacks, set-from, InSet};
+ghost use Rattle.atom_sets.specs.Sets.{set-words, set-place, sets-end, lacks, set-from, InSet};
+
+// How many words a set takes: four for each 32 variables.
+pub fn set_words(frame: Frame) -> usize
+    requires { ⌜ frame .variables ≤ 512 ⌝ }
+    ensures { λ k. ⌜ (k ≡ set-words frame) × (k ≤ 64) ⌝ }
+{
+    (frame.variables + 31) / 32 * 4
+}
 
 // The word of variable v in the set of row e.
 pub fn set_word(frame: Frame, v: usize, e: usize) -> usize
     requires { ⌜ InSet frame v e ⌝ }
     ensures { λ k. ⌜ k ≡ set-place frame v e ⌝ }
 {
-    4 * frame.effects + ((frame.variables + 7) / 8 * e + v / 8)
+    4 * frame.effects + (set_words(frame) * e + v / 8)
 }
 
 // Whether the set of row e lacks set v, or clear v.
@@ -28,7 +36,7 @@ pub fn sets_end(frame: Frame) -> usize
     requires { ⌜ (frame .variables ≤ 512) × (frame .effects ≤ 4096) ⌝ }
     ensures { λ k. ⌜ (k ≡ sets-end frame) × (k ≤ 278528) ⌝ }
 {
-    4 * frame.effects + (frame.variables + 7) / 8 * frame.effects
+    4 * frame.effects + set_words(frame) * frame.effects
 }
 
 // The atoms of variable v and of the later variables of its word, in the set of row e: the lowest bit says set v, the next clear v.

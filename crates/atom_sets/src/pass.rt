@@ -1,34 +1,66 @@
 // The sets of all rows: one pass over the effects, upwards, since the rows that a row names are lower.
 use crate::bits::set_word;
+use crate::bits::set_words;
 use formula_builder::Frame;
 use formula_builder::read_row;
 ghost use mathlib.Core.Path.{_≡_};
 ghost use lib.ListN.{length, set};
-ghost use Prim.Native.Nat.{_^_, _≤_};
+ghost use Prim.Native.Nat.{_%_, _^_, _≤_};
 ghost use Rattle.atom_sets.specs.Sets.{set-place, sets-end, atom-bit, InSet};
 ghost use Rattle.atom_sets.specs.Finds.{set-start, united, copied, Room, Written, Within, FindsSets, FindsSet, FoundSet, FoundSets};
 
-// The n words at i become those at a together with those at b. n steps.
+// The four words at i become those at a together with those at b. All are read before one is written, so that one access of memory can take
+// four. Constant cost.
+fn unite_four(notes: &mut [u16], a: usize, b: usize, i: usize)
+    requires { ⌜ Room 4 a i (now notes) × Room 4 b i (now notes) ⌝ }
+    ensures { λ _. ⌜ Written 4 i (united (now (notes .entry)) a b) (now (notes .entry)) (now (notes .exit)) ⌝ }
+{
+    let p = notes[a] | notes[b];
+    let q = notes[a + 1] | notes[b + 1];
+    let r = notes[a + 2] | notes[b + 2];
+    let s = notes[a + 3] | notes[b + 3];
+    notes[i] = p;
+    notes[i + 1] = q;
+    notes[i + 2] = r;
+    notes[i + 3] = s;
+}
+
+// The n words at i become those at a together with those at b. A step for four words.
 fn unite(notes: &mut [u16], n: usize, a: usize, b: usize, i: usize)
-    requires { ⌜ Room n a i (now notes) × Room n b i (now notes) ⌝ }
+    requires { ⌜ (n % 4 ≡ 0) × Room n a i (now notes) × Room n b i (now notes) ⌝ }
     ensures { λ _. ⌜ Written n i (united (now (notes .entry)) a b) (now (notes .entry)) (now (notes .exit)) ⌝ }
 {
     let mut k = 0;
     while k < n {
-        notes[i + k] = notes[a + k] | notes[b + k];
-        k += 1;
+        unite_four(notes, a + k, b + k, i + k);
+        k += 4;
     }
 }
 
-// The n words at i become those at a. n steps.
+// The four words at i become those at a. All are read before one is written, so that one access of memory can take four. Constant cost.
+fn copy_four(notes: &mut [u16], a: usize, i: usize)
+    requires { ⌜ Room 4 a i (now notes) ⌝ }
+    ensures { λ _. ⌜ Written 4 i (copied (now (notes .entry)) a) (now (notes .entry)) (now (notes .exit)) ⌝ }
+{
+    let p = notes[a];
+    let q = notes[a + 1];
+    let r = notes[a + 2];
+    let s = notes[a + 3];
+    notes[i] = p;
+    notes[i + 1] = q;
+    notes[i + 2] = r;
+    notes[i + 3] = s;
+}
+
+// The n words at i become those at a. A step for four words.
 fn copy(notes: &mut [u16], n: usize, a: usize, i: usize)
-    requires { ⌜ Room n a i (now notes) ⌝ }
+    requires { ⌜ (n % 4 ≡ 0) × Room n a i (now notes) ⌝ }
     ensures { λ _. ⌜ Written n i (copied (now (notes .entry)) a) (now (notes .entry)) (now (notes .exit)) ⌝ }
 {
     let mut k = 0;
     while k < n {
-        notes[i + k] = notes[a + k];
-        k += 1;
+        copy_four(notes, a + k, i + k);
+        k += 4;
     }
 }
 
@@ -47,16 +79,16 @@ fn set_start(frame: Frame, e: usize) -> usize
     requires { ⌜ Within frame e ⌝ }
     ensures { λ k. ⌜ k ≡ set-start frame e ⌝ }
 {
-    4 * frame.effects + (frame.variables + 7) / 8 * e
+    4 * frame.effects + set_words(frame) * e
 }
 
-// The set of row i, from those of the rows that it names. At the most as many steps as a set has words.
+// The set of row i, from those of the rows that it names. At the most a step for four words of a set.
 fn set_of(effects: &[u16], frame: Frame, i: usize, notes: &mut [u16])
     requires { ⌜ FindsSet frame (now effects) (now notes) i ⌝ }
     ensures { λ _. ⌜ FoundSet frame (now (effects .entry)) i (now (notes .entry)) (now (notes .exit)) ⌝ }
 {
     let w = read_row(effects, i);
-    let n = (frame.variables + 7) / 8;
+    let n = set_words(frame);
     let to = set_start(frame, i);
     if w.kind == 3 {
         let a = set_start(frame, w.a as usize);
@@ -75,7 +107,7 @@ fn set_of(effects: &[u16], frame: Frame, i: usize, notes: &mut [u16])
     put_atom(notes, frame, w.kind == 2, w.a as usize, i);
 }
 
-// The sets of all rows; the words around them stay. As many steps as there are effects and words of their sets.
+// The sets of all rows; the words around them stay. As many steps as there are effects and fours of words in their sets.
 pub fn find_sets(effects: &[u16], frame: Frame, notes: &mut [u16])
     requires { ⌜ FindsSets frame (now effects) (now notes) ⌝ }
     ensures { λ _. ⌜ FoundSets frame (now (effects .entry)) (now (notes .entry)) (now (notes .exit)) ⌝ }

@@ -18,12 +18,12 @@ use Rattle.own_tables.specs.Few.{Few, BeginsSmall, BeginsFew}
 -- so much room the sets take, with the words before them and the path
 sets-room :
     (l : Lent) (rows twins s e : ℕ)
-    → (l .head .variables + 7) / 8 ≤ s
+    → (l .head .variables + 31) / 32 * 4 ≤ s
     → l .head .effects ≤ e
     → sets-end (frame-of (l .head) rows twins) + l .head .effects ≤ s * e + 5 * e
 unfolding sets-end set-words
 sets-room l rows twins s e h g =
-    let x : (l .head .variables + 7) / 8 * l .head .effects ≤ s * e = mul-le-mul {n₂ = s} {m₂ = e} h g in
+    let x : (l .head .variables + 31) / 32 * 4 * l .head .effects ≤ s * e = mul-le-mul {n₂ = s} {m₂ = e} h g in
     omega (arith, x, g)
 
 module _ {l : Lent} {rows twins effects : ℕ} {x : Tables} where

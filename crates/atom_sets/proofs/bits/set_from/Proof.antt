@@ -7,31 +7,31 @@ use Rattle.atom_sets.proofs.bits.set_word.Reads as set-word-reads
 use native.Mathlib.Omega.{arith}
 use Rattle.atom_sets.proofs.Places.{place-within, from-by}
 
--- src/bits.rt:39:9
+-- src/bits.rt:47:9
 set-word-requires : tie.Need-set-word-requires
 set-word-requires c κs = search needs
 
--- src/bits.rt:40:15
+-- src/bits.rt:48:15
 mul-bit : tie.Need-mul-bit
 mul-bit c = search needs
 
--- src/bits.rt:41:5
+-- src/bits.rt:49:5
 mul-result : tie.Need-mul-result
 mul-result c = omega (arith, place-within (c .before .before .pre .0), c .set-word .ensures, c .before .before .good)
 
--- src/bits.rt:41:5
+-- src/bits.rt:49:5
 shared-slice-read-result : tie.Need-shared-slice-read-result
 shared-slice-read-result c = omega (arith, place-within (c .before .before .before .pre .0), c .before .set-word .ensures, c .before .before .before .pre .1)
 
--- src/bits.rt:41:17
+-- src/bits.rt:49:17
 cast-result : tie.Need-cast-result
 cast-result c = search needs
 
--- src/bits.rt:41:5
+-- src/bits.rt:49:5
 shr-result : tie.Need-shr-result
 shr-result c = search needs
 
--- src/bits.rt:35:1
+-- src/bits.rt:43:1
 returns : tie.Need-returns
 returns c = from-by (c .before .before .before .args .frame) (c .before .before .before .args .notes .now) (c .before .before .before .args .v) (c .before .before .before .args .e) (c .before .set-word .result) (c .before .set-word .ensures)
 

@@ -3,28 +3,29 @@ use Rattle.atom_sets.proofs.bits.sets_end.Statement.{statement}
 use Rattle.atom_sets.proofs.bits.sets_end.Tie as tie
 use Rattle.atom_sets.proofs.bits.sets_end.Reads as reads
 use Rattle.atom_sets.proofs.bits.sets_end.Lts as lts
+use Rattle.atom_sets.proofs.bits.set_words.Reads as set-words-reads
 use native.Mathlib.Omega.{arith}
-use Rattle.atom_sets.proofs.Places.{all-sets, end-is}
+use Rattle.atom_sets.proofs.Places.{product-small, end-is}
 
--- src/bits.rt:30:5
+-- src/bits.rt:39:5
 mul-result : tie.Need-mul-result
 mul-result c = search needs
 
--- src/bits.rt:30:26
-add-result : tie.Need-add-result
-add-result c = search needs
+-- src/bits.rt:39:25
+set-words-requires : tie.Need-set-words-requires
+set-words-requires c κs = search needs
 
--- src/bits.rt:30:25
+-- src/bits.rt:39:25
 mul-result-2 : tie.Need-mul-result-2
-mul-result-2 c = omega (arith, all-sets (c .before .before .before .args .frame) (c .before .before .before .pre .0) (c .before .before .before .pre .1))
+mul-result-2 c = let p = product-small (c .before .set-words .result) (c .before .before .before .args .frame .effects) (c .before .set-words .ensures .1) (c .before .before .before .pre .1) in omega (arith, p)
 
--- src/bits.rt:30:5
-add-result-2 : tie.Need-add-result-2
-add-result-2 c = omega (arith, all-sets (c .before .before .before .args .frame) (c .before .before .before .pre .0) (c .before .before .before .pre .1), c .before .before .before .pre .1)
+-- src/bits.rt:39:5
+add-result : tie.Need-add-result
+add-result c = let p = product-small (c .before .set-words .result) (c .before .before .before .args .frame .effects) (c .before .set-words .ensures .1) (c .before .before .before .pre .1) in omega (arith, p, c .before .before .before .pre)
 
--- src/bits.rt:26:1
+-- src/bits.rt:35:1
 returns : tie.Need-returns
-returns c = (end-is (c .before .before .before .args .frame), omega (arith, all-sets (c .before .before .before .args .frame) (c .before .before .before .pre .0) (c .before .before .before .pre .1), c .before .before .before .pre .1))
+returns c = let p = product-small (c .before .set-words .result) (c .before .before .before .args .frame .effects) (c .before .set-words .ensures .1) (c .before .before .before .pre .1) in (end-is (c .before .before .before .args .frame) (c .before .set-words .result) (c .before .set-words .ensures .0), omega (arith, p, c .before .before .before .pre))
 
 pub sets-end-spec : {M : Type 1} → statement M
-sets-end-spec = tie.close (tie.spec mul-result add-result mul-result-2 add-result-2 returns)
+sets-end-spec = tie.close (tie.spec mul-result set-words-requires mul-result-2 add-result returns)

@@ -2,66 +2,55 @@ use Rattle.atom_sets.proofs.pass.copy.Statement.{statement}
 use Rattle.atom_sets.proofs.pass.copy.Tie as tie
 use Rattle.atom_sets.proofs.pass.copy.Reads as reads
 use Rattle.atom_sets.proofs.pass.copy.Lts as lts
-use Prim.Native.Nat.{_-_, _≤_}
+use Rattle.atom_sets.proofs.pass.copy_four.Reads as copy-four-reads
+use Prim.Native.Nat.{_+_, _-_, _%_, _≤_}
 use native.Mathlib.Omega.{arith}
-use mathlib.Core.Path.{_≡_, refl}
-use lib.ListN.{length, length-set}
+use mathlib.Core.Path.{_≡_, refl, _∙_}
+use lib.ListN.{length}
 use Rattle.atom_sets.specs.Finds.{copied, Written}
-use Rattle.atom_sets.proofs.Words.{written-none, copied-more, written-all}
+use Rattle.atom_sets.proofs.Words.{written-none, room-four, copied-more, written-all}
 
 abbrev Inv-loop : tie.InvT-loop
-Inv-loop notes₀ n a i k₀ notes k = (k ≤ n) × (length notes ≡ length notes₀) × Written k i (copied notes₀ a) notes₀ notes
+Inv-loop notes₀ n a i k₀ notes k = (k ≤ n) × (k % 4 ≡ 0) × (length notes ≡ length notes₀) × Written k i (copied notes₀ a) notes₀ notes
 
 abbrev μ-loop : tie.MeasureT-loop
 μ-loop notes₀ n a i k₀ notes k = n - k
 
--- src/pass.rt:29:5
+-- src/pass.rt:61:5
 loop-holds : tie.Need-loop-holds Inv-loop μ-loop
-loop-holds c = (omega arith, refl, written-none (c .args .i) (copied (c .args .notes .now) (c .args .a)) (c .args .notes .now))
+loop-holds c = (omega arith, omega arith, refl, written-none (c .before .args .i) (copied (c .before .args .notes .now) (c .before .args .a)) (c .before .args .notes .now))
 
--- src/pass.rt:30:30
-add-notes : tie.Need-add-notes Inv-loop μ-loop
-add-notes c = omega (arith, c .before .before .pre, c .before .before .good)
+-- src/pass.rt:62:26
+add-copy-four : tie.Need-add-copy-four Inv-loop μ-loop
+add-copy-four c = omega (arith, c .before .before .before .before .pre, c .before .before .before .before .good)
 
--- src/pass.rt:30:24
-mul-notes : tie.Need-mul-notes Inv-loop μ-loop
-mul-notes c = omega (arith, c .before .before .pre, c .before .before .good)
+-- src/pass.rt:62:33
+add-copy-four-2 : tie.Need-add-copy-four-2 Inv-loop μ-loop
+add-copy-four-2 c = omega (arith, c .before .before .before .before .pre, c .before .before .before .before .good)
 
--- src/pass.rt:30:24
-slice-read-notes : tie.Need-slice-read-notes Inv-loop μ-loop
-slice-read-notes c = omega (arith, c .before .before .before .pre, c .before .before .loop .inv)
+-- src/pass.rt:62:9
+copy-four-requires : tie.Need-copy-four-requires Inv-loop μ-loop
+copy-four-requires c κs = room-four (c .before .before .loop .k) (c .before .before .before .before .pre .1) (omega (arith, c .before .before .before .before .pre .0, c .before .before .loop .inv)) (c .before .before .loop .inv .2)
 
--- src/pass.rt:30:15
-add-notes-2 : tie.Need-add-notes-2 Inv-loop μ-loop
-add-notes-2 c = omega (arith, c .before .before .before .pre, c .before .before .before .good)
-
--- src/pass.rt:30:9
-mul-notes-2 : tie.Need-mul-notes-2 Inv-loop μ-loop
-mul-notes-2 c = omega (arith, c .before .before .before .pre, c .before .before .before .good)
-
--- src/pass.rt:30:9
-slice-write-notes : tie.Need-slice-write-notes Inv-loop μ-loop
-slice-write-notes c = omega (arith, c .before .before .before .pre, c .before .before .loop .inv)
-
--- src/pass.rt:31:9
+-- src/pass.rt:63:9
 add-k : tie.Need-add-k Inv-loop μ-loop
-add-k c = omega (arith, c .before .before .before .pre, c .before .before .before .good)
+add-k c = omega (arith, c .before .before .before .before .before .before .before .pre, c .before .before .before .before .before .before .before .good)
 
--- src/pass.rt:29:5
+-- src/pass.rt:61:5
 loop-less : tie.Need-loop-less Inv-loop μ-loop
 loop-less c = omega arith
 
--- src/pass.rt:29:5
+-- src/pass.rt:61:5
 loop-again : tie.Need-loop-again Inv-loop μ-loop
-loop-again c = (omega arith, simp length-set (c .before .before .loop .inv .1), copied-more (c .before .before .before .pre) (omega arith) (c .before .before .loop .inv .1) (c .before .before .loop .inv .2))
+loop-again c = (omega (arith, c .before .before .before .before .before .before .before .pre .0, c .before .before .before .before .before .loop .inv), omega (arith, c .before .before .before .before .before .loop .inv), c .before .before .copy-four .kept .0 ∙ c .before .before .before .before .before .loop .inv .2, copied-more (c .before .before .before .before .before .loop .k) (c .before .before .before .before .before .before .before .pre .1) (omega (arith, c .before .before .before .before .before .before .before .pre .0, c .before .before .before .before .before .loop .inv)) (c .before .before .before .before .before .loop .inv .3) (c .before .before .copy-four .ensures))
 
--- src/pass.rt:24:1
+-- src/pass.rt:56:1
 same-length : tie.Need-same-length Inv-loop μ-loop
-same-length c = c .before .loop .inv .1
+same-length c = c .before .loop .inv .2
 
--- src/pass.rt:24:1
+-- src/pass.rt:56:1
 returns : tie.Need-returns Inv-loop μ-loop
-returns c = written-all (c .before .loop .inv .0) (omega arith) (c .before .loop .inv .2)
+returns c = written-all (c .before .loop .inv .0) (omega arith) (c .before .loop .inv .3)
 
 pub copy-spec : {M : Type 1} → statement M
 copy-spec =
@@ -70,12 +59,9 @@ copy-spec =
     Inv-loop
     μ-loop
     loop-holds
-    add-notes
-    mul-notes
-    slice-read-notes
-    add-notes-2
-    mul-notes-2
-    slice-write-notes
+    add-copy-four
+    add-copy-four-2
+    copy-four-requires
     add-k
     loop-less
     loop-again

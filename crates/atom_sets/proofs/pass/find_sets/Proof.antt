@@ -15,31 +15,31 @@ Inv-loop effects frame notes₀ i₀ notes i = (length notes ≡ length notes₀
 abbrev μ-loop : tie.MeasureT-loop
 μ-loop effects frame notes₀ i₀ notes i = frame .effects - i
 
--- src/pass.rt:84:5
+-- src/pass.rt:116:5
 loop-holds : tie.Need-loop-holds Inv-loop μ-loop
 loop-holds c = (refl, finding-none (c .before .before .args .frame) (c .before .before .args .effects .now) (c .before .before .args .notes .now))
 
--- src/pass.rt:85:9
+-- src/pass.rt:117:9
 set-of-requires : tie.Need-set-of-requires Inv-loop μ-loop
 set-of-requires c κs = finding-asks (c .before .before .before .before .before .before .pre) (c .before .before .before .loop .inv .0) (omega arith)
 
--- src/pass.rt:86:9
+-- src/pass.rt:118:9
 add-i : tie.Need-add-i Inv-loop μ-loop
 add-i c = omega (arith, c .before .before .before .before .before .before .before .before .before .pre .limit)
 
--- src/pass.rt:84:5
+-- src/pass.rt:116:5
 loop-less : tie.Need-loop-less Inv-loop μ-loop
 loop-less c = omega arith
 
--- src/pass.rt:84:5
+-- src/pass.rt:116:5
 loop-again : tie.Need-loop-again Inv-loop μ-loop
 loop-again c = (c .before .before .set-of .kept .1 .1 .1 .0 ∙ c .before .before .before .before .before .before .loop .inv .0, finding-more (c .before .before .before .before .before .before .before .before .before .pre) (omega arith) (c .before .before .before .before .before .before .loop .inv .1) (c .before .before .set-of .ensures))
 
--- src/pass.rt:79:1
+-- src/pass.rt:111:1
 same-length : tie.Need-same-length Inv-loop μ-loop
 same-length c = c .before .before .loop .inv .0
 
--- src/pass.rt:79:1
+-- src/pass.rt:111:1
 returns : tie.Need-returns Inv-loop μ-loop
 returns c = finding-all (c .before .before .before .before .before .pre) (c .before .before .loop .inv .0) (c .before .before .loop .inv .1) (omega arith)
 

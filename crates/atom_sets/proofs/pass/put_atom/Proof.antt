@@ -8,43 +8,43 @@ use native.Mathlib.Omega.{arith}
 use Rattle.atom_sets.proofs.Places.{place-within, byte-small}
 use Rattle.atom_sets.proofs.Finds.{put-by}
 
--- src/pass.rt:40:9
+-- src/pass.rt:72:9
 set-word-requires : tie.Need-set-word-requires
 set-word-requires c κs = search needs
 
--- src/pass.rt:41:15
+-- src/pass.rt:73:15
 mul-bit : tie.Need-mul-bit
 mul-bit c = search needs
 
--- src/pass.rt:41:29
+-- src/pass.rt:73:29
 cast-bit : tie.Need-cast-bit
 cast-bit c = search needs
 
--- src/pass.rt:41:15
+-- src/pass.rt:73:15
 add-bit : tie.Need-add-bit
 add-bit c = omega (arith, byte-small (c .before .before .args .clear))
 
--- src/pass.rt:42:21
+-- src/pass.rt:74:21
 cast-notes : tie.Need-cast-notes
 cast-notes c = omega (arith, byte-small (c .before .before .args .clear))
 
--- src/pass.rt:42:16
+-- src/pass.rt:74:16
 shl-notes : tie.Need-shl-notes
 shl-notes c = omega (arith, byte-small (c .before .before .args .clear))
 
--- src/pass.rt:42:5
+-- src/pass.rt:74:5
 mul-notes : tie.Need-mul-notes
 mul-notes c = omega (arith, place-within (c .before .before .pre .0), c .set-word .ensures, c .before .before .good)
 
--- src/pass.rt:42:5
+-- src/pass.rt:74:5
 slice-write-notes : tie.Need-slice-write-notes
 slice-write-notes c = omega (arith, place-within (c .before .before .pre .0), c .set-word .ensures, c .before .before .pre .1)
 
--- src/pass.rt:36:1
+-- src/pass.rt:68:1
 same-length : tie.Need-same-length
 same-length c = search needs
 
--- src/pass.rt:36:1
+-- src/pass.rt:68:1
 returns : tie.Need-returns
 returns c = put-by (c .before .before .args .frame) (c .before .before .args .notes .now) (c .before .before .args .clear) (c .before .before .args .v) (c .before .before .args .i) (c .set-word .result) (c .set-word .ensures)
 

@@ -3,29 +3,30 @@ use Rattle.atom_sets.proofs.pass.set_start.Statement.{statement}
 use Rattle.atom_sets.proofs.pass.set_start.Tie as tie
 use Rattle.atom_sets.proofs.pass.set_start.Reads as reads
 use Rattle.atom_sets.proofs.pass.set_start.Lts as lts
-use Prim.Native.Nat.{_+_, _/_}
+use Rattle.atom_sets.proofs.bits.set_words.Reads as set-words-reads
 use native.Mathlib.Omega.{arith}
-use Rattle.atom_sets.proofs.Finds.{start-is, start-small}
+use Rattle.atom_sets.proofs.Places.{product-small}
+use Rattle.atom_sets.proofs.Finds.{start-is}
 
--- src/pass.rt:50:5
+-- src/pass.rt:82:5
 mul-result : tie.Need-mul-result
 mul-result c = search needs
 
--- src/pass.rt:50:26
-add-result : tie.Need-add-result
-add-result c = search needs
+-- src/pass.rt:82:25
+set-words-requires : tie.Need-set-words-requires
+set-words-requires c κs = search needs
 
--- src/pass.rt:50:25
+-- src/pass.rt:82:25
 mul-result-2 : tie.Need-mul-result-2
-mul-result-2 c = omega (arith, start-small (c .before .before .args .frame) (c .before .before .args .e) (c .before .before .pre))
+mul-result-2 c = let p = product-small (c .set-words .result) (c .before .before .args .e) (c .set-words .ensures .1) (omega (arith, c .before .before .pre)) in omega (arith, p)
 
--- src/pass.rt:50:5
-add-result-2 : tie.Need-add-result-2
-add-result-2 c = omega (arith, start-small (c .before .before .args .frame) (c .before .before .args .e) (c .before .before .pre), c .before .before .pre .limit)
+-- src/pass.rt:82:5
+add-result : tie.Need-add-result
+add-result c = let p = product-small (c .set-words .result) (c .before .before .args .e) (c .set-words .ensures .1) (omega (arith, c .before .before .pre)) in omega (arith, p, c .before .before .pre)
 
--- src/pass.rt:46:1
+-- src/pass.rt:78:1
 returns : tie.Need-returns
-returns c = start-is (c .before .before .args .frame) (c .before .before .args .e)
+returns c = start-is (c .before .before .args .frame) (c .before .before .args .e) (c .set-words .result) (c .set-words .ensures .0)
 
 pub set-start-spec : {M : Type 1} → statement M
-set-start-spec = tie.close (tie.spec mul-result add-result mul-result-2 add-result-2 returns)
+set-start-spec = tie.close (tie.spec mul-result set-words-requires mul-result-2 add-result returns)

@@ -2,78 +2,59 @@ use Rattle.atom_sets.proofs.pass.unite.Statement.{statement}
 use Rattle.atom_sets.proofs.pass.unite.Tie as tie
 use Rattle.atom_sets.proofs.pass.unite.Reads as reads
 use Rattle.atom_sets.proofs.pass.unite.Lts as lts
-use Prim.Native.Nat.{_-_, _≤_}
+use Rattle.atom_sets.proofs.pass.unite_four.Reads as unite-four-reads
+use Prim.Native.Nat.{_+_, _-_, _%_, _≤_}
 use native.Mathlib.Omega.{arith}
-use mathlib.Core.Path.{_≡_, refl}
-use lib.ListN.{length, length-set}
+use mathlib.Core.Path.{_≡_, refl, _∙_}
+use lib.ListN.{length}
 use Rattle.atom_sets.specs.Finds.{united, Written}
-use Rattle.atom_sets.proofs.Words.{written-none, united-more, written-all}
+use Rattle.atom_sets.proofs.Words.{written-none, room-four, united-more, written-all}
 
 abbrev Inv-loop : tie.InvT-loop
-Inv-loop notes₀ n a b i k₀ notes k = (k ≤ n) × (length notes ≡ length notes₀) × Written k i (united notes₀ a b) notes₀ notes
+Inv-loop notes₀ n a b i k₀ notes k = (k ≤ n) × (k % 4 ≡ 0) × (length notes ≡ length notes₀) × Written k i (united notes₀ a b) notes₀ notes
 
 abbrev μ-loop : tie.MeasureT-loop
 μ-loop notes₀ n a b i k₀ notes k = n - k
 
--- src/pass.rt:17:5
+-- src/pass.rt:34:5
 loop-holds : tie.Need-loop-holds Inv-loop μ-loop
-loop-holds c = (omega arith, refl, written-none (c .args .i) (united (c .args .notes .now) (c .args .a) (c .args .b)) (c .args .notes .now))
+loop-holds c = (omega arith, omega arith, refl, written-none (c .before .args .i) (united (c .before .args .notes .now) (c .before .args .a) (c .before .args .b)) (c .before .args .notes .now))
 
--- src/pass.rt:18:30
-add-notes : tie.Need-add-notes Inv-loop μ-loop
-add-notes c = omega (arith, c .before .before .pre, c .before .before .good)
+-- src/pass.rt:35:27
+add-unite-four : tie.Need-add-unite-four Inv-loop μ-loop
+add-unite-four c = omega (arith, c .before .before .before .before .pre, c .before .before .before .before .good)
 
--- src/pass.rt:18:24
-mul-notes : tie.Need-mul-notes Inv-loop μ-loop
-mul-notes c = omega (arith, c .before .before .pre, c .before .before .good)
+-- src/pass.rt:35:34
+add-unite-four-2 : tie.Need-add-unite-four-2 Inv-loop μ-loop
+add-unite-four-2 c = omega (arith, c .before .before .before .before .pre, c .before .before .before .before .good)
 
--- src/pass.rt:18:24
-slice-read-notes : tie.Need-slice-read-notes Inv-loop μ-loop
-slice-read-notes c = omega (arith, c .before .before .before .pre, c .before .before .loop .inv)
+-- src/pass.rt:35:41
+add-unite-four-3 : tie.Need-add-unite-four-3 Inv-loop μ-loop
+add-unite-four-3 c = omega (arith, c .before .before .before .before .pre, c .before .before .before .before .good)
 
--- src/pass.rt:18:45
-add-notes-2 : tie.Need-add-notes-2 Inv-loop μ-loop
-add-notes-2 c = omega (arith, c .before .before .before .pre, c .before .before .before .good)
+-- src/pass.rt:35:9
+unite-four-requires : tie.Need-unite-four-requires Inv-loop μ-loop
+unite-four-requires c κs = let h : c .before .before .loop .k + 4 ≤ c .before .before .before .before .args .n = omega (arith, c .before .before .before .before .pre .0, c .before .before .loop .inv) in (room-four (c .before .before .loop .k) (c .before .before .before .before .pre .1) h (c .before .before .loop .inv .2), room-four (c .before .before .loop .k) (c .before .before .before .before .pre .2) h (c .before .before .loop .inv .2))
 
--- src/pass.rt:18:39
-mul-notes-2 : tie.Need-mul-notes-2 Inv-loop μ-loop
-mul-notes-2 c = omega (arith, c .before .before .before .pre, c .before .before .before .good)
-
--- src/pass.rt:18:39
-slice-read-notes-2 : tie.Need-slice-read-notes-2 Inv-loop μ-loop
-slice-read-notes-2 c = omega (arith, c .before .before .before .before .pre, c .before .before .before .loop .inv)
-
--- src/pass.rt:18:15
-add-notes-3 : tie.Need-add-notes-3 Inv-loop μ-loop
-add-notes-3 c = omega (arith, c .before .before .before .before .pre, c .before .before .before .before .good)
-
--- src/pass.rt:18:9
-mul-notes-3 : tie.Need-mul-notes-3 Inv-loop μ-loop
-mul-notes-3 c = omega (arith, c .before .before .before .before .pre, c .before .before .before .before .good)
-
--- src/pass.rt:18:9
-slice-write-notes : tie.Need-slice-write-notes Inv-loop μ-loop
-slice-write-notes c = omega (arith, c .before .before .before .before .pre, c .before .before .before .loop .inv)
-
--- src/pass.rt:19:9
+-- src/pass.rt:36:9
 add-k : tie.Need-add-k Inv-loop μ-loop
-add-k c = omega (arith, c .before .before .before .before .pre, c .before .before .before .before .good)
+add-k c = omega (arith, c .before .before .before .before .before .before .before .pre, c .before .before .before .before .before .before .before .good)
 
--- src/pass.rt:17:5
+-- src/pass.rt:34:5
 loop-less : tie.Need-loop-less Inv-loop μ-loop
 loop-less c = omega arith
 
--- src/pass.rt:17:5
+-- src/pass.rt:34:5
 loop-again : tie.Need-loop-again Inv-loop μ-loop
-loop-again c = (omega arith, simp length-set (c .before .before .before .loop .inv .1), united-more (c .before .before .before .before .pre .0) (omega arith) (c .before .before .before .loop .inv .1) (c .before .before .before .before .pre .1) (c .before .before .before .loop .inv .2))
+loop-again c = let h : c .before .before .before .before .before .loop .k + 4 ≤ c .before .before .before .before .before .before .before .args .n = omega (arith, c .before .before .before .before .before .before .before .pre .0, c .before .before .before .before .before .loop .inv) in (h, omega (arith, c .before .before .before .before .before .loop .inv), c .before .before .unite-four .kept .0 ∙ c .before .before .before .before .before .loop .inv .2, united-more (c .before .before .before .before .before .before .before .pre .1) (c .before .before .before .before .before .before .before .pre .2) h (c .before .before .before .before .before .loop .inv .3) (c .before .before .unite-four .ensures))
 
--- src/pass.rt:12:1
+-- src/pass.rt:29:1
 same-length : tie.Need-same-length Inv-loop μ-loop
-same-length c = c .before .loop .inv .1
+same-length c = c .before .loop .inv .2
 
--- src/pass.rt:12:1
+-- src/pass.rt:29:1
 returns : tie.Need-returns Inv-loop μ-loop
-returns c = written-all (c .before .loop .inv .0) (omega arith) (c .before .loop .inv .2)
+returns c = written-all (c .before .loop .inv .0) (omega arith) (c .before .loop .inv .3)
 
 pub unite-spec : {M : Type 1} → statement M
 unite-spec =
@@ -82,15 +63,10 @@ unite-spec =
     Inv-loop
     μ-loop
     loop-holds
-    add-notes
-    mul-notes
-    slice-read-notes
-    add-notes-2
-    mul-notes-2
-    slice-read-notes-2
-    add-notes-3
-    mul-notes-3
-    slice-write-notes
+    add-unite-four
+    add-unite-four-2
+    add-unite-four-3
+    unite-four-requires
     add-k
     loop-less
     loop-again
