@@ -1,10 +1,9 @@
 // D and N of one variable.
 use conditions::Target;
 use conditions::condition;
-use formula_builder::Frame;
 use formula_builder::join;
 ghost use Rattle.normal_form.specs.Operators.{deletes-of};
-ghost use Rattle.formula_builder.specs.Held.{store, sized, stepped};
+ghost use Rattle.formula_builder.specs.Held.{store, sized, stepped, framed};
 ghost use Rattle.conditions.specs.Conditions.{effect-tree, Conditions};
 ghost use Rattle.changes.specs.Stands.{Deletes};
 
@@ -17,15 +16,15 @@ pub fn deletes(
     v: u16,
     a: u16,
     d: u16,
-    frame: Frame,
+    frame: &[usize; 5],
     rows: &mut usize,
     twins: &mut usize,
     table: &mut [u16],
     originals: &mut [u16],
     scratch: &mut [u16],
 ) -> u16
-    requires { ⌜ Deletes frame (now formulas) (now effects) (now notes) (sized (now rows) (now twins)) (store (now table) (now originals)) (now scratch) e v d ⌝ }
-    ensures { λ r. ⌜ Conditions (deletes-of (frame .variables) (effect-tree frame (now (formulas .entry)) (now (effects .entry)) e) v a d) frame (now (formulas .entry)) (now (effects .entry)) (now (notes .exit)) (sized (now (rows .entry)) (now (twins .entry))) (store (now (table .entry)) (now (originals .entry))) (store (now (table .exit)) (now (originals .exit))) (now (scratch .exit)) (stepped (now (rows .exit)) (now (twins .exit)) r) ⌝ }
+    requires { ⌜ Deletes (framed (now frame)) (now formulas) (now effects) (now notes) (sized (now rows) (now twins)) (store (now table) (now originals)) (now scratch) e v d ⌝ }
+    ensures { λ r. ⌜ Conditions (deletes-of (framed (now (frame .entry)) .variables) (effect-tree (framed (now (frame .entry))) (now (formulas .entry)) (now (effects .entry)) e) v a d) (framed (now (frame .entry))) (now (formulas .entry)) (now (effects .entry)) (now (notes .exit)) (sized (now (rows .entry)) (now (twins .entry))) (store (now (table .entry)) (now (originals .entry))) (store (now (table .exit)) (now (originals .exit))) (now (scratch .exit)) (stepped (now (rows .exit)) (now (twins .exit)) r) ⌝ }
 {
     if a == 0 {
         return d;
@@ -54,5 +53,5 @@ pub fn deletes(
     if n == 65535 {
         return n;
     }
-    join(rows, table, frame.rows, false, d, n)
+    join(rows, table, frame[3], false, d, n)
 }

@@ -1,12 +1,11 @@
 // The condition of an effect for an atom that it may name.
 use conditions::Target;
 use conditions::condition;
-use formula_builder::Frame;
 use formula_builder::falsity;
 ghost use mathlib.Core.Path.{_≡_};
 ghost use mathlib.Core.Bool.{false};
 ghost use Prim.Native.Nat.{_<_};
-ghost use Rattle.formula_builder.specs.Held.{store, sized, stepped};
+ghost use Rattle.formula_builder.specs.Held.{store, sized, stepped, framed};
 ghost use Rattle.conditions.specs.Conditions.{condition-at, Unnamed, Conditions};
 ghost use Rattle.changes.specs.Stands.{StandsAt};
 
@@ -18,15 +17,15 @@ pub fn condition_if(
     e: usize,
     t: Target,
     named: bool,
-    frame: Frame,
+    frame: &[usize; 5],
     rows: &mut usize,
     twins: &mut usize,
     table: &mut [u16],
     originals: &mut [u16],
     scratch: &mut [u16],
 ) -> u16
-    requires { ⌜ StandsAt frame (now formulas) (now effects) (now notes) (sized (now rows) (now twins)) (store (now table) (now originals)) (now scratch) e × (t .variable < frame .variables) × (named ≡ false → Unnamed frame (now formulas) (now effects) (t .clear) (t .variable) e) ⌝ }
-    ensures { λ r. ⌜ Conditions (condition-at frame (now (formulas .entry)) (now (effects .entry)) t e) frame (now (formulas .entry)) (now (effects .entry)) (now (notes .exit)) (sized (now (rows .entry)) (now (twins .entry))) (store (now (table .entry)) (now (originals .entry))) (store (now (table .exit)) (now (originals .exit))) (now (scratch .exit)) (stepped (now (rows .exit)) (now (twins .exit)) r) ⌝ }
+    requires { ⌜ StandsAt (framed (now frame)) (now formulas) (now effects) (now notes) (sized (now rows) (now twins)) (store (now table) (now originals)) (now scratch) e × (t .variable < framed (now frame) .variables) × (named ≡ false → Unnamed (framed (now frame)) (now formulas) (now effects) (t .clear) (t .variable) e) ⌝ }
+    ensures { λ r. ⌜ Conditions (condition-at (framed (now (frame .entry))) (now (formulas .entry)) (now (effects .entry)) t e) (framed (now (frame .entry))) (now (formulas .entry)) (now (effects .entry)) (now (notes .exit)) (sized (now (rows .entry)) (now (twins .entry))) (store (now (table .entry)) (now (originals .entry))) (store (now (table .exit)) (now (originals .exit))) (now (scratch .exit)) (stepped (now (rows .exit)) (now (twins .exit)) r) ⌝ }
 {
     if named {
         return condition(

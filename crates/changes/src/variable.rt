@@ -3,12 +3,11 @@ use crate::Change;
 use crate::conflict::deletes;
 use crate::named::condition_if;
 use conditions::Target;
-use formula_builder::Frame;
 ghost use mathlib.Core.Path.{_≡_};
 ghost use mathlib.Core.Bool.{true, false};
 ghost use Prim.Native.Nat.{_<_};
 ghost use Rattle.normal_form.specs.Operators.{changes-of};
-ghost use Rattle.formula_builder.specs.Held.{store, sized};
+ghost use Rattle.formula_builder.specs.Held.{store, sized, framed};
 ghost use Rattle.conditions.specs.Conditions.{effect-tree, Unnamed};
 ghost use Rattle.changes.specs.Stands.{StandsAt, Makes, Leaves, made};
 
@@ -22,15 +21,15 @@ pub fn change_of(
     v: u16,
     sets: bool,
     clears: bool,
-    frame: Frame,
+    frame: &[usize; 5],
     rows: &mut usize,
     twins: &mut usize,
     table: &mut [u16],
     originals: &mut [u16],
     scratch: &mut [u16],
 ) -> Change
-    requires { ⌜ StandsAt frame (now formulas) (now effects) (now notes) (sized (now rows) (now twins)) (store (now table) (now originals)) (now scratch) e × (sets ≡ false → Unnamed frame (now formulas) (now effects) false v e) × (clears ≡ false → Unnamed frame (now formulas) (now effects) true v e) × (v < frame .variables) ⌝ }
-    ensures { λ r. ⌜ Makes (changes-of (frame .variables) (effect-tree frame (now (formulas .entry)) (now (effects .entry)) e) v) frame (now (formulas .entry)) (now (effects .entry)) (sized (now (rows .entry)) (now (twins .entry))) (store (now (table .entry)) (now (originals .entry))) (store (now (table .exit)) (now (originals .exit))) (now (scratch .exit)) (r .full) (sized (now (rows .exit)) (now (twins .exit))) (made v r) × Leaves (r .full) frame (now (formulas .entry)) (now (effects .entry)) (now (notes .exit)) (sized (now (rows .exit)) (now (twins .exit))) (store (now (table .exit)) (now (originals .exit))) ⌝ }
+    requires { ⌜ StandsAt (framed (now frame)) (now formulas) (now effects) (now notes) (sized (now rows) (now twins)) (store (now table) (now originals)) (now scratch) e × (sets ≡ false → Unnamed (framed (now frame)) (now formulas) (now effects) false v e) × (clears ≡ false → Unnamed (framed (now frame)) (now formulas) (now effects) true v e) × (v < framed (now frame) .variables) ⌝ }
+    ensures { λ r. ⌜ Makes (changes-of (framed (now (frame .entry)) .variables) (effect-tree (framed (now (frame .entry))) (now (formulas .entry)) (now (effects .entry)) e) v) (framed (now (frame .entry))) (now (formulas .entry)) (now (effects .entry)) (sized (now (rows .entry)) (now (twins .entry))) (store (now (table .entry)) (now (originals .entry))) (store (now (table .exit)) (now (originals .exit))) (now (scratch .exit)) (r .full) (sized (now (rows .exit)) (now (twins .exit))) (made v r) × Leaves (r .full) (framed (now (frame .entry))) (now (formulas .entry)) (now (effects .entry)) (now (notes .exit)) (sized (now (rows .exit)) (now (twins .exit))) (store (now (table .exit)) (now (originals .exit))) ⌝ }
 {
     let set = Target {
         clear: false,

@@ -38,19 +38,15 @@ asks-descent x =
     record {
       seen = asks-seen (x .asks);
       sets = x .asks .noted .sets;
-      composed = x .composed;
       room = x .room;
     }
 
--- a row of which nothing is known names effects
 pub asks-below :
-    {frame : Frame} {formulas effects notes : List ℕ} {t : Target} {at : Size} {before : Store} {scratch : List ℕ} {e w : ℕ} (from : ℕ)
+    {frame : Frame} {formulas effects notes : List ℕ} {t : Target} {at : Size} {before : Store} {scratch : List ℕ} {e : ℕ} (from : ℕ)
     → Asks frame formulas effects notes t at before scratch e
-    → Sees frame effects notes scratch t e w
-    → w ≤ 0
     → e + from < frame .effects
     → AsksBelow frame formulas effects notes t at before scratch e from
-asks-below from a s h room = record { asks = a; composed = s .composed (omega (arith, h)); room = room }
+asks-below from a room = record { asks = a; room = room }
 
 -- the last entry: its row, and whether it is passed
 abbrev row-over : Frame → List ℕ → ℕ → ℕ
@@ -182,7 +178,6 @@ module _ {frame : Frame} {formulas effects notes : List ℕ} {t : Target} {at : 
             below =
                 record {
                   asks = asks-next (row-over frame notes₁ depth) (a .asks) (x .climbs .conditions) (x .going) long (omega (arith, entry-lower (x .descent) h));
-                  composed = entry-leads (x .descent) h .composed;
                   room = entry-lower (x .descent) h;
                 };
             going = x .going;

@@ -413,7 +413,7 @@ module _ {frame : Frame} {formulas effects notes : List ℕ} {t : Target} {s : S
         let a = x .below .asks in
         record {
           asks = a;
-          under = under-else frame formulas effects scratch (a .effect-source) e (a .effect) (x .below .composed) (λ k. other (kind-read ∙ k));
+          under = under-else frame formulas effects scratch (a .effect-source) e (a .effect) (x .leads .composed) (λ k. other (kind-read ∙ k));
           inner = row-within x;
           going = x .going;
         }

@@ -1,10 +1,11 @@
 -- The path while it goes down: each turn writes an entry, and the notes stay right. Assumes nothing.
-use Prim.Native.Nat.{ℕ, _+_, _-_, _*_, _/_, _≤_, _<_}
+use Prim.Native.Nat.{ℕ, _+_, _-_, _*_, _≤_, _<_}
 use native.Mathlib.Omega.{arith}
-use native.Mathlib.Decide.{ℕ-discrete, decLt}
+use native.Mathlib.Decide.{ℕ-discrete}
 use mathlib.Core.Path.{_≡_, refl, sym, ap, _∙_}
-use mathlib.Core.Bool.{true, false}
+use mathlib.Core.Bool.{Bool, true, false}
 use mathlib.Core.List.{List}
+use mir.Val.{boolByte}
 use lib.ListN.{length, getD, set, length-set}
 use lib.Seq.{getD-set-same, getD-set-other}
 use borrow.Author.Tests.{lt-ltb, le-ltb}
@@ -17,33 +18,24 @@ use Rattle.atom_sets.specs.Sets.{sets-end, lacks, InSet}
 use Rattle.atom_sets.proofs.Places.{sets-behind}
 use Rattle.conditions.specs.declared.Target.{Target}
 use Rattle.conditions.specs.Conditions.{condition-at, AtomSets, Noted, path-at}
-use Rattle.conditions.specs.Paths.{Leads, entry-row, entry-pass, AsksSeen, Sees, Follows, AsksTurn, Turns, AsksDescent, Descending, Descended}
+use Rattle.conditions.specs.Paths.{Leads, entry-row, entry-pass, AsksSeen, Sees, Follows, AsksTurn, AsksDescent, Descending, Descended}
 use Rattle.conditions.proofs.Rows.{both-lower, known-kind, leads-under, leads-both, leads-right, leads-left}
 use Rattle.conditions.proofs.Notes.{sets-stay, columns-stay, kept-stay, joins-stay, stays-refl}
+
+-- a frame that is the same, as five numbers
+pub lacks-framed :
+    {f g : Frame} (notes : List ℕ) (clear : Bool) (v e : ℕ) {b : Bool} → f ≡ g → b ≡ lacks f notes clear v e → b ≡ lacks g notes clear v e
+lacks-framed notes clear v e p h = rw (← p) h
 
 -- The way from row e, by its words w.
 module _ {frame : Frame} {effects notes : List ℕ} {t : Target} {e : ℕ} (a : AsksTurn frame effects notes t e) (w : Words) (q : row-of w ≡ row-at effects e) where
   kind-read : row-at effects e .kind ≡ w .kind
   kind-read = ap (λ (r : Row). r .kind) (sym q)
 
-  -- to a row without the flag, and with it
-  plain-word : (i : ℕ) → i < e → Leads frame effects t false e i → Turns frame effects t e i
-  plain-word i low x =
-      let small : i < 8192 = omega (arith, low, a .effect, a .source .limit) in
-      let row : entry-row i ≡ i = omega arith in
-      record { small = omega arith; leads = rw (row, le-ltb 8191 i (omega arith)) x }
-
-  pass-word : (i : ℕ) → i < e → Leads frame effects t true e i → Turns frame effects t e (i + 8192)
-  pass-word i low x =
-      let small : i < 8192 = omega (arith, low, a .effect, a .source .limit) in
-      let row : entry-row (i + 8192) ≡ i = omega arith in
-      record { small = omega arith; leads = rw (row, lt-ltb 8191 (i + 8192) (omega arith)) x }
-
-  pub turns-under : w .kind ≡ 4 → Turns frame effects t e (w .b)
+  pub turns-under : w .kind ≡ 4 → Leads frame effects t false e (w .b)
   turns-under k =
       let x = leads-under frame effects (a .scratch) (a .source) e (a .effect) t (kind-read ∙ k) in
-      let y : Leads frame effects t false e (w .b) = rw (ap (λ (r : Row). r .b) q) x in
-      plain-word (w .b) (y .lower) y
+      rw (ap (λ (r : Row). r .b) q) x
 
   module _ (other : w .kind ≡ 4 → ⊥) where
     three : row-at effects e .kind ≡ 3
@@ -76,40 +68,27 @@ module _ {frame : Frame} {effects notes : List ℕ} {t : Target} {e : ℕ} (a : 
     idle i low h formulas =
         a .sets .alone formulas (t .clear) (t .variable) i (a .variable) (omega (arith, low, a .effect)) (sym h) .idle t refl refl
 
-    pub turns-right : true ≡ lacks frame notes (t .clear) (t .variable) (w .a) → Turns frame effects t e (w .b + 8192)
+    pub turns-right : true ≡ lacks frame notes (t .clear) (t .variable) (w .a) → Leads frame effects t true e (w .b)
     turns-right h =
         let x =
         leads-right frame effects (a .scratch) (a .source) e (a .effect) t three
         (rw (ap (λ (r : Row). r .a) q) at (idle (w .a) (lower .0) h)) in
-        pass-word (w .b) (lower .1) (rw (ap (λ (r : Row). r .b) q) x)
+        rw (ap (λ (r : Row). r .b) q) x
 
-    pub turns-left : true ≡ lacks frame notes (t .clear) (t .variable) (w .b) → Turns frame effects t e (w .a + 8192)
-    turns-left h =
+    pub turns-left : (b : Bool) → b ≡ lacks frame notes (t .clear) (t .variable) (w .b) → Leads frame effects t b e (w .a)
+    turns-left true h =
         let x =
         leads-left frame effects (a .scratch) (a .source) e (a .effect) t three
         (rw (ap (λ (r : Row). r .b) q) at (idle (w .b) (lower .1) h)) in
-        pass-word (w .a) (lower .0) (rw (ap (λ (r : Row). r .a) q) x)
-
-    pub turns-both : Turns frame effects t e (w .a)
-    turns-both =
+        rw (ap (λ (r : Row). r .a) q) x
+    turns-left false h =
         let x = leads-both frame effects (a .scratch) (a .source) e (a .effect) t three in
-        plain-word (w .a) (lower .0) (rw (ap (λ (r : Row). r .a) q) x)
+        rw (ap (λ (r : Row). r .a) q) x
 
 -- an entry is read as it was written
-pub entry-written :
-    (i n : ℕ)
-    → i < 8192
-    → n < 16384
-    → (entry-row (i + n / 8192 * 8192) ≡ i) × (entry-pass (i + n / 8192 * 8192) ≡ entry-pass n)
-entry-written i n h g = go (decLt 8191 n)
-  where
-    go : Dec (8191 < n) → (entry-row (i + n / 8192 * 8192) ≡ i) × (entry-pass (i + n / 8192 * 8192) ≡ entry-pass n)
-    go (yes l) =
-        let one : n / 8192 ≡ 1 = omega arith in
-        rw one (omega arith, lt-ltb 8191 (i + 8192) (omega arith) ∙ sym (lt-ltb 8191 n l))
-    go (no l) =
-        let none : n / 8192 ≡ 0 = omega arith in
-        rw none (omega arith, le-ltb 8191 (i + 0) (omega arith) ∙ sym (le-ltb 8191 n (omega arith)))
+pub entry-written : (i : ℕ) (pass : Bool) → i < 8192 → (entry-row (i + 8192 * boolByte pass) ≡ i) × (entry-pass (i + 8192 * boolByte pass) ≡ pass)
+entry-written i true h = (omega arith, lt-ltb 8191 (i + 8192) (omega arith))
+entry-written i false h = (omega arith, le-ltb 8191 (i + 0) (omega arith))
 
 -- where an entry is read
 pub path-read :
@@ -176,8 +155,10 @@ follows-as same q f =
 pub descending-none :
     {frame : Frame} {effects notes scratch : List ℕ} {t : Target} {e from : ℕ}
     → AsksDescent frame effects notes scratch t e from
-    → Descending frame effects notes notes scratch t e from from e 0
-descending-none {frame} {effects} {notes} {scratch} {t} {e} {from} a =
+    → {known : ℕ}
+    → Sees frame effects notes scratch t e known
+    → Descending frame effects notes notes scratch t e from from e known
+descending-none {frame} {effects} {notes} {scratch} {t} {e} {from} a sees =
     record {
       descent =
           record {
@@ -185,7 +166,7 @@ descending-none {frame} {effects} {notes} {scratch} {t} {e} {from} a =
             last = record { first = λ q. refl; next = λ h. absurd (omega (arith, h)); falls = omega arith };
             entries = λ d g h. absurd (omega (arith, g, h));
           };
-      sees = record { known = λ formulas at before b h. absurd (omega (arith, h)); composed = λ _. a .composed };
+      sees = sees;
       stays = stays-refl frame notes from;
       sets = a .sets;
       noted = λ formulas s n. n;
@@ -211,9 +192,9 @@ module _ {frame : Frame} {effects notes notes' scratch : List ℕ} {t : Target} 
         composed = x .sees .composed none;
       }
 
-  -- on to the row of word n, with the entry w
-  module _ (n : ℕ) (on : Turns frame effects t i n) (base w : ℕ) (q : base ≡ length notes' - frame .effects) where
-    pub descending-asks : AsksSeen frame effects (set notes' (base + depth) w) scratch t (entry-row n)
+  -- on to row n, with the entry w
+  module _ (n : ℕ) (pass : Bool) (on : Leads frame effects t pass i n) (base w : ℕ) (q : base ≡ length notes' - frame .effects) where
+    pub descending-asks : AsksSeen frame effects (set notes' (base + depth) w) scratch t n
     descending-asks =
         record {
           source = a .seen .source;
@@ -224,7 +205,7 @@ module _ {frame : Frame} {effects notes notes' scratch : List ℕ} {t : Target} 
                       words = omega (arith, length-set notes' (base + depth) w, x .stays .long, a .seen .kept .looks .words);
                       limit = a .seen .kept .looks .limit;
                       variables = a .seen .kept .looks .variables;
-                      effect = omega (arith, descending-room, on .leads .lower);
+                      effect = omega (arith, descending-room, on .lower);
                     };
                 variable = a .seen .kept .variable;
                 formulas = a .seen .kept .formulas;
@@ -232,7 +213,7 @@ module _ {frame : Frame} {effects notes notes' scratch : List ℕ} {t : Target} 
               };
         }
 
-    module _ (written : (entry-row w ≡ i) × (entry-pass w ≡ entry-pass n)) where
+    module _ (written : (entry-row w ≡ i) × (entry-pass w ≡ pass)) where
       words : sets-end frame + frame .effects ≤ length notes'
       words = omega (arith, x .stays .long, a .seen .kept .looks .words)
 
@@ -245,7 +226,7 @@ module _ {frame : Frame} {effects notes notes' scratch : List ℕ} {t : Target} 
       there-row : entry-row (path-at frame (set notes' (base + depth) w) depth) ≡ i
       there-row = ap (λ v. entry-row v) there ∙ written .0
 
-      there-pass : entry-pass (path-at frame (set notes' (base + depth) w) depth) ≡ entry-pass n
+      there-pass : entry-pass (path-at frame (set notes' (base + depth) w) depth) ≡ pass
       there-pass = ap (λ v. entry-pass v) there ∙ written .1
 
       entry :
@@ -262,8 +243,8 @@ module _ {frame : Frame} {effects notes notes' scratch : List ℕ} {t : Target} 
 
       pub descending-more :
           {v : ℕ}
-          → Sees frame effects (set notes' (base + depth) w) scratch t (entry-row n) v
-          → Descending frame effects notes (set notes' (base + depth) w) scratch t e from (depth + 1) (entry-row n) v
+          → Sees frame effects (set notes' (base + depth) w) scratch t n v
+          → Descending frame effects notes (set notes' (base + depth) w) scratch t e from (depth + 1) n v
       descending-more sees =
           record {
             descent =
@@ -274,8 +255,8 @@ module _ {frame : Frame} {effects notes notes' scratch : List ℕ} {t : Target} 
                         first = λ z. absurd (omega (arith, z, x .descent .begins));
                         next = λ h.
                             let same : depth + 1 - 1 ≡ depth = omega arith in
-                            rw (same, there-row, there-pass) (on .leads);
-                        falls = omega (arith, on .leads .lower, x .descent .last .falls);
+                            rw (same, there-row, there-pass) on;
+                        falls = omega (arith, on .lower, x .descent .last .falls);
                       };
                   entries = λ d g h. entry d g h (ℕ-discrete d depth);
                 };

@@ -24,7 +24,7 @@ use Rattle.images.proofs.Memos.{known-grows}
 use Rattle.atom_sets.specs.Sets.{sets-end}
 use Rattle.atom_sets.proofs.Places.{sets-behind, lacks-same}
 use Rattle.conditions.specs.declared.Target.{Target}
-use Rattle.conditions.specs.Conditions.{atom-of, effect-tree, condition-at, AtomSets, column, kept-place, Columns, Kept, join-place, Joins, Noted, Looks, KeptAt, Recalls, path-at, PathStays, Keeps, Asks}
+use Rattle.conditions.specs.Conditions.{atom-of, effect-tree, condition-at, AtomSets, column, part, kept-place, Columns, Kept, join-place, Joins, Noted, Looks, KeptAt, Recalls, path-at, PathStays, Keeps, Asks}
 
 pub steady-condition-at :
     (frame : Frame) (formulas effects : List ℕ) (t : Target) (e : ℕ) → Steady (condition-at frame formulas effects t e)
@@ -87,7 +87,7 @@ behind a b = omega arith
 
 place-behind : (frame : Frame) (c : ℕ) (t : Target) → sets-end frame ≤ kept-place frame c t
 unfolding kept-place
-place-behind frame c t = behind (sets-end frame) (c * (2 * frame .variables) + (2 * t .variable + cond (t .clear) 1 0))
+place-behind frame c t = behind (sets-end frame) (c * (3 * frame .variables) + (3 * t .variable + part t))
 
 -- the conditions that are kept stay right while their words and the columns stay
 pub kept-stay :
@@ -175,8 +175,8 @@ small-row b q =
     omega (arith, d .below, d .ready .rows .within, d .ready .rows .limit)
 
 -- a place fits a word of the machine
-pub place-small : (c n : ℕ) → c < 65536 → n ≤ 512 → c * (2 * n) ≤ 67107840
-place-small c n h g = mul-le-mul {n₂ = 65535} {m₂ = 1024} (omega arith) (omega arith)
+pub place-small : (c n : ℕ) → c < 65536 → n ≤ 512 → c * (3 * n) ≤ 100661760
+place-small c n h g = mul-le-mul {n₂ = 65535} {m₂ = 1536} (omega arith) (omega arith)
 
 pub byte-small : (b : Bool) → boolByte b ≤ 1
 byte-small true = omega arith
@@ -186,28 +186,33 @@ pub byte-is : (b : Bool) → boolByte b ≡ cond b 1 0
 byte-is true = refl
 byte-is false = refl
 
+-- the code's sum is the part
+pub part-made : (t : Target) → (boolByte (t .clear) + 2 * boolByte (t .negated) ≡ part t) × (boolByte (t .clear) + 2 * boolByte (t .negated) ≤ 3)
+unfolding part
+part-made t =
+    (rw (byte-is (t .clear), byte-is (t .negated)) refl, omega (arith, byte-small (t .clear), byte-small (t .negated)))
+
+-- the code's sum is the place
+pub place-sum :
+    (frame whole : Frame) (t : Target) (c k p : ℕ)
+    → whole ≡ frame
+    → k ≡ sets-end whole
+    → p ≡ part t
+    → k + (c * (3 * frame .variables) + (3 * t .variable + p))
+    ≡ sets-end frame + (c * (3 * frame .variables) + (3 * t .variable + part t))
+place-sum frame whole t c k p f s q = rw (s, q, f) refl
+
 pub place-found :
     (frame : Frame) (notes : List ℕ) (t : Target) (e k : ℕ)
     → (getD notes e 0 ≡ 0 → ⊥)
-    → t .negated ≡ false
+    → part t < 3
     → t .variable < frame .variables
-    → k
-    ≡ sets-end frame + (getD notes e 0 * (2 * frame .variables) + (2 * t .variable + boolByte (t .clear)))
+    → k ≡ sets-end frame + (getD notes e 0 * (3 * frame .variables) + (3 * t .variable + part t))
     → k + frame .effects < length notes
     → KeptAt frame notes t e k
 unfolding column kept-place
 place-found frame notes t e k c p v q w =
-    record {
-      plain = p;
-      variable = v;
-      has-column = omega (arith, c);
-      place =
-          q
-          ∙ ap
-          (λ x. sets-end frame + (getD notes e 0 * (2 * frame .variables) + (2 * t .variable + x)))
-          (byte-is (t .clear));
-      within = w;
-    }
+    record { one = p; variable = v; has-column = omega (arith, c); place = q; within = w }
 
 pub place-none : (frame : Frame) (notes : List ℕ) (t : Target) (e : ℕ) → 0 < 0 → KeptAt frame notes t e 0
 place-none frame notes t e h = absurd (omega (arith, h))
@@ -227,28 +232,46 @@ atoms v w false false q = (omega arith, refl)
 atoms v w true false q = absurd (omega (arith, q))
 atoms v w false true q = absurd (omega (arith, q))
 
-atom-within : (n v : ℕ) (a : Bool) → v < n → 2 * v + cond a 1 0 < 2 * n
-atom-within n v true h = omega arith
-atom-within n v false h = omega arith
+part-within : (n v p : ℕ) → v < n → p < 3 → 3 * v + p < 3 * n
+part-within n v p h g = omega arith
+
+thirds : (v w p q : ℕ) → p < 3 → q < 3 → 3 * v + p ≡ 3 * w + q → (v ≡ w) × (p ≡ q)
+thirds v w p q g h e = (omega arith, omega arith)
+
+-- a part that is below 3 tells the target's two flags
+part-flags : (t u : Target) → part t < 3 → part u < 3 → part t ≡ part u → (t .clear ≡ u .clear) × (t .negated ≡ u .negated)
+unfolding part
+part-flags t u g h q =
+    let x = atoms (cond (t .negated) 1 0) (cond (u .negated) 1 0) (t .clear) (u .clear) (omega (arith, q)) in
+    (x .1, flag (t .negated) (u .negated) (x .0))
+  where
+    flag : (a b : Bool) → _≡_ {A = ℕ} (cond a 1 0) (cond b 1 0) → a ≡ b
+    flag true true e = refl
+    flag false false e = refl
+    flag true false e = absurd (omega (arith, e))
+    flag false true e = absurd (omega (arith, e))
 
 cancel : (a b c : ℕ) → a + b ≡ a + c → b ≡ c
 cancel a b c q = omega (arith, q)
 
--- One word is kept for one column and one atom.
+-- One word is kept for one column and one target.
 places-apart :
     (frame : Frame) (c d : ℕ) (t u : Target)
     → t .variable < frame .variables
     → u .variable < frame .variables
+    → part t < 3
+    → part u < 3
     → kept-place frame c t ≡ kept-place frame d u
-    → (c ≡ d) × (t .variable ≡ u .variable) × (t .clear ≡ u .clear)
+    → (c ≡ d) × (t .variable ≡ u .variable) × (t .clear ≡ u .clear) × (t .negated ≡ u .negated)
 unfolding kept-place
-places-apart frame c d t u g h q =
+places-apart frame c d t u g h m n q =
     let x =
-    quotients (2 * frame .variables) c d (2 * t .variable + cond (t .clear) 1 0) (2 * u .variable + cond (u .clear) 1 0)
-    (atom-within (frame .variables) (t .variable) (t .clear) g) (atom-within (frame .variables) (u .variable) (u .clear) h)
+    quotients (3 * frame .variables) c d (3 * t .variable + part t) (3 * u .variable + part u)
+    (part-within (frame .variables) (t .variable) (part t) g m) (part-within (frame .variables) (u .variable) (part u) h n)
     (cancel (sets-end frame) _ _ q) in
-    let y = atoms (t .variable) (u .variable) (t .clear) (u .clear) (x .1) in
-    (x .0, y .0, y .1)
+    let y = thirds (t .variable) (u .variable) (part t) (part u) m n (x .1) in
+    let z = part-flags t u m n (y .1) in
+    (x .0, y .0, z .0, z .1)
 
 pub same-condition :
     (frame : Frame) (formulas effects : List ℕ) (t u : Target) (d e : ℕ)
@@ -300,7 +323,7 @@ module _ {frame : Frame} {notes : List ℕ} {t : Target} {e k : ℕ} (h : e < fr
         (u : Target) (d x : ℕ)
         → d < frame .effects
         → u .variable < frame .variables
-        → u .negated ≡ false
+        → part u < 3
         → 0 < column notes d
         → kept-place frame (column notes d) u + frame .effects < length notes
         → Dec (kept-place frame (column notes d) u ≡ k)
@@ -310,12 +333,12 @@ module _ {frame : Frame} {notes : List ℕ} {t : Target} {e k : ℕ} (h : e < fr
         n .kept .known u d x g v m c i
         (sym (getD-set-other notes k (kept-place frame (column notes d) u) (r + 1) 0 other) ∙ w)
     read-back u d x g v m c i (yes same) w =
-        let z = places-apart frame (column notes d) (column notes e) u t v (p .variable) (same ∙ p .place) in
+        let z = places-apart frame (column notes d) (column notes e) u t v (p .variable) m (p .one) (same ∙ p .place) in
         let row : d ≡ e = n .columns .apart d e g h (p .has-column) (z .0) in
         let there : getD (set notes k (r + 1)) (kept-place frame (column notes d) u) 0 ≡ r + 1 =
         rw same (getD-set-same notes k (r + 1) 0 (omega (arith, p .within))) in
         let value : x ≡ r = omega (arith, there, w) in
-        rw (same-condition frame formulas effects u t d e (m ∙ sym (p .plain)) (z .1) (z .2) row, value) now
+        rw (same-condition frame formulas effects u t d e (z .3) (z .1) (z .2) row, value) now
 
     kept-noted : Noted frame formulas effects (set notes k (r + 1)) s
     kept-noted =
@@ -336,7 +359,7 @@ module _ {frame : Frame} {notes : List ℕ} {t : Target} {e k : ℕ} (h : e < fr
   recall-kept scratch =
       record {
         known = λ formulas effects s n m w.
-            n .kept .known t e (getD notes k 0 - 1) h (p .variable) (p .plain) (p .has-column)
+            n .kept .known t e (getD notes k 0 - 1) h (p .variable) (p .one) (p .has-column)
             (rw (p .place) at (p .within))
             (ap (λ j. getD notes j 0) (sym (p .place)) ∙ omega (arith, w));
       }

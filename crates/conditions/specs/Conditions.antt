@@ -99,9 +99,13 @@ pub record AtomSets (frame : Frame) (effects notes : List ℕ) : Type 0 where
 unfoldable pub column : List ℕ → ℕ → ℕ
 column notes e = getD notes e 0
 
--- where the condition of target t is kept in column c: behind the sets, two words for each variable
+-- which of its variable's words in a column is a target's: set, clear, or the dual of set; the dual of clear, which is never built, has none
+unfoldable pub part : Target → ℕ
+part t = cond (t .clear) 1 0 + 2 * cond (t .negated) 1 0
+
+-- where the condition of target t is kept in column c: behind the sets, three words for each variable
 unfoldable pub kept-place : Frame → ℕ → Target → ℕ
-kept-place frame c t = sets-end frame + (c * (2 * frame .variables) + (2 * t .variable + cond (t .clear) 1 0))
+kept-place frame c t = sets-end frame + (c * (3 * frame .variables) + (3 * t .variable + part t))
 
 -- Each row has a word for its column, and one of the last words for a path down the rows; no two rows have the same column.
 pub record Columns (frame : Frame) (notes : List ℕ) : Type 0 where
@@ -120,7 +124,7 @@ pub record Kept (frame : Frame) (formulas effects notes : List ℕ) (s : St) : T
       (t : Target) (e r : ℕ)
       → e < frame .effects
       → t .variable < frame .variables
-      → t .negated ≡ false
+      → part t < 3
       → 0 < column notes e
       → kept-place frame (column notes e) t + frame .effects < length notes
       → getD notes (kept-place frame (column notes e) t) 0 ≡ r + 1
@@ -158,7 +162,7 @@ pub record Looks (frame : Frame) (notes : List ℕ) (e : ℕ) : Type 0 where
 
 -- The condition of target t and row e is kept in word k.
 pub record KeptAt (frame : Frame) (notes : List ℕ) (t : Target) (e k : ℕ) : Type 0 where
-  pub plain : t .negated ≡ false
+  pub one : part t < 3
   pub variable : t .variable < frame .variables
   pub has-column : 0 < column notes e
   pub place : k ≡ kept-place frame (column notes e) t

@@ -51,7 +51,7 @@ pub record Sees (frame : Frame) (effects notes scratch : List ℕ) (t : Target) 
       → Known (condition-at frame formulas effects t e) (held at before) (w - 1)
   pub composed : w ≡ 0 → 3 ≤ row-at effects e .kind
 
--- an entry of the path, and the row to which the way goes on: a row, and 8192 more if the row of the entry is passed
+-- an entry of the path: a row, and 8192 more if it is passed
 abbrev pub entry-row : ℕ → ℕ
 entry-row w = w % 8192
 
@@ -80,16 +80,10 @@ pub record AsksTurn (frame : Frame) (effects notes : List ℕ) (t : Target) (e :
   pub effect : e < frame .effects
   pub composed : 3 ≤ row-at effects e .kind
 
--- The way goes on to the row of word n.
-pub record Turns (frame : Frame) (effects : List ℕ) (t : Target) (e n : ℕ) : Type 0 where
-  pub small : n < 16384
-  pub leads : Leads frame effects t (entry-pass n) e (entry-row n)
-
--- Row e names effects, and the path has room for it and for all below it.
+-- The path has room for row e and for all below it.
 pub record AsksDescent (frame : Frame) (effects notes scratch : List ℕ) (t : Target) (e from : ℕ) : Type 0 where
   pub seen : AsksSeen frame effects notes scratch t e
   pub sets : AtomSets frame effects notes
-  pub composed : 3 ≤ row-at effects e .kind
   pub room : e + from < frame .effects
 
 -- While the path goes down: row i is looked at.
@@ -106,10 +100,9 @@ pub record Descended (frame : Frame) (effects notes notes' scratch : List ℕ) (
   pub found : 0 < b .known
   pub descending : Descending frame effects notes notes' scratch t e from (b .depth) row (b .known)
 
--- What building the condition of a row that names effects asks.
+-- What building the condition of a row asks.
 pub record AsksBelow (frame : Frame) (formulas effects notes : List ℕ) (t : Target) (at : Size) (before : Store) (scratch : List ℕ) (e from : ℕ) : Type 0 where
   pub asks : Asks frame formulas effects notes t at before scratch e
-  pub composed : 3 ≤ row-at effects e .kind
   pub room : e + from < frame .effects
 
 -- Row e is both. With s built for its left effect: what the right one, d, and the join ask.

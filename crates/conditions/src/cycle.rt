@@ -3,13 +3,12 @@
 use crate::Target;
 use crate::joined::joined;
 use crate::kept::keep;
+use crate::kept::recall;
 use crate::path::descend;
-use crate::seen::seen;
 use crate::under::under;
-use formula_builder::Frame;
 use formula_builder::read_row;
 ghost use mathlib.Core.Bool.{false};
-ghost use Rattle.formula_builder.specs.Held.{store, sized, stepped};
+ghost use Rattle.formula_builder.specs.Held.{store, sized, stepped, framed};
 ghost use Rattle.conditions.specs.Conditions.{Asks, Conditions, condition-at};
 ghost use Rattle.conditions.specs.Paths.{right-of, onward, AsksBelow, AsksRight, AsksOnward, Climbs};
 
@@ -20,17 +19,17 @@ pub fn condition(
     notes: &mut [u16],
     e: usize,
     t: Target,
-    frame: Frame,
+    frame: &[usize; 5],
     rows: &mut usize,
     twins: &mut usize,
     table: &mut [u16],
     originals: &mut [u16],
     scratch: &mut [u16],
 ) -> u16
-    requires { ⌜ Asks frame (now formulas) (now effects) (now notes) t (sized (now rows) (now twins)) (store (now table) (now originals)) (now scratch) e ⌝ }
-    ensures { λ r. ⌜ Conditions (condition-at frame (now (formulas .entry)) (now (effects .entry)) t e) frame (now (formulas .entry)) (now (effects .entry)) (now (notes .exit)) (sized (now (rows .entry)) (now (twins .entry))) (store (now (table .entry)) (now (originals .entry))) (store (now (table .exit)) (now (originals .exit))) (now (scratch .exit)) (stepped (now (rows .exit)) (now (twins .exit)) r) ⌝ }
+    requires { ⌜ Asks (framed (now frame)) (now formulas) (now effects) (now notes) t (sized (now rows) (now twins)) (store (now table) (now originals)) (now scratch) e ⌝ }
+    ensures { λ r. ⌜ Conditions (condition-at (framed (now (frame .entry))) (now (formulas .entry)) (now (effects .entry)) t e) (framed (now (frame .entry))) (now (formulas .entry)) (now (effects .entry)) (now (notes .exit)) (sized (now (rows .entry)) (now (twins .entry))) (store (now (table .entry)) (now (originals .entry))) (store (now (table .exit)) (now (originals .exit))) (now (scratch .exit)) (stepped (now (rows .exit)) (now (twins .exit)) r) ⌝ }
 {
-    let known = seen(effects, notes, scratch, frame, t, e);
+    let known = recall(notes, scratch, frame, t, e);
     if 0 < known {
         return known - 1;
     }
@@ -50,7 +49,7 @@ pub fn condition(
     )
 }
 
-// The condition of effect e, which names effects: down to a row whose condition is known, and up again. The path begins at entry `from`.
+// The condition of effect e, which is not kept: down to a row whose condition is known, and up again. The path begins at entry `from`.
 fn below(
     formulas: &[u16],
     effects: &[u16],
@@ -58,18 +57,18 @@ fn below(
     e: usize,
     from: usize,
     t: Target,
-    frame: Frame,
+    frame: &[usize; 5],
     rows: &mut usize,
     twins: &mut usize,
     table: &mut [u16],
     originals: &mut [u16],
     scratch: &mut [u16],
 ) -> u16
-    requires { ⌜ AsksBelow frame (now formulas) (now effects) (now notes) t (sized (now rows) (now twins)) (store (now table) (now originals)) (now scratch) e from ⌝ }
-    ensures { λ r. ⌜ Climbs (condition-at frame (now (formulas .entry)) (now (effects .entry)) t e) frame (now (formulas .entry)) (now (effects .entry)) (now (notes .entry)) (now (notes .exit)) from (sized (now (rows .entry)) (now (twins .entry))) (store (now (table .entry)) (now (originals .entry))) (store (now (table .exit)) (now (originals .exit))) (now (scratch .exit)) (stepped (now (rows .exit)) (now (twins .exit)) r) ⌝ }
+    requires { ⌜ AsksBelow (framed (now frame)) (now formulas) (now effects) (now notes) t (sized (now rows) (now twins)) (store (now table) (now originals)) (now scratch) e from ⌝ }
+    ensures { λ r. ⌜ Climbs (condition-at (framed (now (frame .entry))) (now (formulas .entry)) (now (effects .entry)) t e) (framed (now (frame .entry))) (now (formulas .entry)) (now (effects .entry)) (now (notes .entry)) (now (notes .exit)) from (sized (now (rows .entry)) (now (twins .entry))) (store (now (table .entry)) (now (originals .entry))) (store (now (table .exit)) (now (originals .exit))) (now (scratch .exit)) (stepped (now (rows .exit)) (now (twins .exit)) r) ⌝ }
 {
     let bottom = descend(effects, notes, scratch, frame, t, e, from);
-    let base = notes.len() - frame.effects;
+    let base = notes.len() - frame[2];
     let mut depth = bottom.depth;
     let mut s = bottom.known - 1;
     while from < depth {
@@ -109,7 +108,7 @@ fn raise(
     pass: bool,
     from: usize,
     t: Target,
-    frame: Frame,
+    frame: &[usize; 5],
     s: u16,
     rows: &mut usize,
     twins: &mut usize,
@@ -117,8 +116,8 @@ fn raise(
     originals: &mut [u16],
     scratch: &mut [u16],
 ) -> u16
-    requires { ⌜ AsksOnward frame (now formulas) (now effects) (now notes) t (stepped (now rows) (now twins) s) (store (now table) (now originals)) (now scratch) pass e from ⌝ }
-    ensures { λ r. ⌜ Climbs (onward frame (now (formulas .entry)) (now (effects .entry)) t pass e s) frame (now (formulas .entry)) (now (effects .entry)) (now (notes .entry)) (now (notes .exit)) from (sized (now (rows .entry)) (now (twins .entry))) (store (now (table .entry)) (now (originals .entry))) (store (now (table .exit)) (now (originals .exit))) (now (scratch .exit)) (stepped (now (rows .exit)) (now (twins .exit)) r) ⌝ }
+    requires { ⌜ AsksOnward (framed (now frame)) (now formulas) (now effects) (now notes) t (stepped (now rows) (now twins) s) (store (now table) (now originals)) (now scratch) pass e from ⌝ }
+    ensures { λ r. ⌜ Climbs (onward (framed (now (frame .entry))) (now (formulas .entry)) (now (effects .entry)) t pass e s) (framed (now (frame .entry))) (now (formulas .entry)) (now (effects .entry)) (now (notes .entry)) (now (notes .exit)) from (sized (now (rows .entry)) (now (twins .entry))) (store (now (table .entry)) (now (originals .entry))) (store (now (table .exit)) (now (originals .exit))) (now (scratch .exit)) (stepped (now (rows .exit)) (now (twins .exit)) r) ⌝ }
 {
     if pass {
         keep(notes, scratch, frame, t, e, s);
@@ -154,7 +153,7 @@ fn above(
     e: usize,
     from: usize,
     t: Target,
-    frame: Frame,
+    frame: &[usize; 5],
     s: u16,
     rows: &mut usize,
     twins: &mut usize,
@@ -162,8 +161,8 @@ fn above(
     originals: &mut [u16],
     scratch: &mut [u16],
 ) -> u16
-    requires { ⌜ AsksOnward frame (now formulas) (now effects) (now notes) t (stepped (now rows) (now twins) s) (store (now table) (now originals)) (now scratch) false e from ⌝ }
-    ensures { λ r. ⌜ Climbs (onward frame (now (formulas .entry)) (now (effects .entry)) t false e s) frame (now (formulas .entry)) (now (effects .entry)) (now (notes .entry)) (now (notes .exit)) from (sized (now (rows .entry)) (now (twins .entry))) (store (now (table .entry)) (now (originals .entry))) (store (now (table .exit)) (now (originals .exit))) (now (scratch .exit)) (stepped (now (rows .exit)) (now (twins .exit)) r) ⌝ }
+    requires { ⌜ AsksOnward (framed (now frame)) (now formulas) (now effects) (now notes) t (stepped (now rows) (now twins) s) (store (now table) (now originals)) (now scratch) false e from ⌝ }
+    ensures { λ r. ⌜ Climbs (onward (framed (now (frame .entry))) (now (formulas .entry)) (now (effects .entry)) t false e s) (framed (now (frame .entry))) (now (formulas .entry)) (now (effects .entry)) (now (notes .entry)) (now (notes .exit)) from (sized (now (rows .entry)) (now (twins .entry))) (store (now (table .entry)) (now (originals .entry))) (store (now (table .exit)) (now (originals .exit))) (now (scratch .exit)) (stepped (now (rows .exit)) (now (twins .exit)) r) ⌝ }
 {
     let w = read_row(effects, e);
     if w.kind == 3 {
@@ -201,7 +200,7 @@ fn above(
     )
 }
 
-// The condition of row e's right effect d, then the join with that of the left one, s. Nothing is called for d if its condition is known.
+// The condition of row e's right effect d, then the join with that of the left one, s. Nothing is called for d if its condition is kept.
 fn both(
     formulas: &[u16],
     effects: &[u16],
@@ -210,7 +209,7 @@ fn both(
     e: usize,
     from: usize,
     t: Target,
-    frame: Frame,
+    frame: &[usize; 5],
     s: u16,
     rows: &mut usize,
     twins: &mut usize,
@@ -218,10 +217,10 @@ fn both(
     originals: &mut [u16],
     scratch: &mut [u16],
 ) -> u16
-    requires { ⌜ AsksRight frame (now formulas) (now effects) (now notes) t (stepped (now rows) (now twins) s) (store (now table) (now originals)) (now scratch) e d from ⌝ }
-    ensures { λ r. ⌜ Climbs (right-of frame (now (formulas .entry)) (now (effects .entry)) t d s) frame (now (formulas .entry)) (now (effects .entry)) (now (notes .entry)) (now (notes .exit)) from (sized (now (rows .entry)) (now (twins .entry))) (store (now (table .entry)) (now (originals .entry))) (store (now (table .exit)) (now (originals .exit))) (now (scratch .exit)) (stepped (now (rows .exit)) (now (twins .exit)) r) ⌝ }
+    requires { ⌜ AsksRight (framed (now frame)) (now formulas) (now effects) (now notes) t (stepped (now rows) (now twins) s) (store (now table) (now originals)) (now scratch) e d from ⌝ }
+    ensures { λ r. ⌜ Climbs (right-of (framed (now (frame .entry))) (now (formulas .entry)) (now (effects .entry)) t d s) (framed (now (frame .entry))) (now (formulas .entry)) (now (effects .entry)) (now (notes .entry)) (now (notes .exit)) from (sized (now (rows .entry)) (now (twins .entry))) (store (now (table .entry)) (now (originals .entry))) (store (now (table .exit)) (now (originals .exit))) (now (scratch .exit)) (stepped (now (rows .exit)) (now (twins .exit)) r) ⌝ }
 {
-    let known = seen(effects, notes, scratch, frame, t, d);
+    let known = recall(notes, scratch, frame, t, d);
     if 0 < known {
         return joined(notes, e, t, !t.negated, frame, rows, s, known - 1, table);
     }

@@ -2,27 +2,37 @@
 // memo. Constant cost.
 use crate::Target;
 use atom_sets::sets_end;
-use formula_builder::Frame;
+use formula_builder::frame_of;
 ghost use mathlib.Core.Path.{_≡_};
-ghost use Prim.Native.Nat.{_<_};
-ghost use Rattle.conditions.specs.Conditions.{tag, Looks, KeptAt, AsksKept, Recalls, Keeps};
+ghost use Prim.Native.Nat.{_≤_, _<_};
+ghost use Rattle.formula_builder.specs.Held.{framed};
+ghost use Rattle.conditions.specs.Conditions.{part, tag, Looks, KeptAt, AsksKept, Recalls, Keeps};
 
-// The word of the notes that keeps the condition of target t and effect e; 0, if none does. Only plain conditions are kept there, and only
-// as far as the notes reach: their last E words are for a path.
-fn place(notes: &[u16], frame: Frame, t: Target, e: usize) -> usize
-    requires { ⌜ Looks frame (now notes) e × (t .variable < frame .variables) ⌝ }
-    ensures { λ k. ⌜ (0 < k → KeptAt frame (now (notes .entry)) t e k) ⌝ }
+// Which of its variable's words in a column is a target's: set, clear, or the dual of set; 3, which has none, is the dual of clear.
+fn part_of(t: Target) -> usize
+    ensures { λ r. ⌜ (r ≡ part t) × (r ≤ 3) ⌝ }
+{
+    t.clear as usize + 2 * (t.negated as usize)
+}
+
+// The word of the notes that keeps the condition of target t and effect e; 0, if none does. They keep as far as they reach: their last
+// E words are for a path.
+fn place(notes: &[u16], frame: &[usize; 5], t: Target, e: usize) -> usize
+    requires { ⌜ Looks (framed (now frame)) (now notes) e × (t .variable < framed (now frame) .variables) ⌝ }
+    ensures { λ k. ⌜ (0 < k → KeptAt (framed (now (frame .entry))) (now (notes .entry)) t e k) ⌝ }
 {
     let c = notes[e];
     if c == 0 {
         return 0;
     }
-    if t.negated {
+    let part = part_of(t);
+    if part == 3 {
         return 0;
     }
-    let a = 2 * (t.variable as usize) + t.clear as usize;
-    let k = sets_end(frame) + ((c as usize) * (2 * frame.variables) + a);
-    if notes.len() - frame.effects <= k {
+    let a = 3 * (t.variable as usize) + part;
+    let whole = frame_of(frame);
+    let k = sets_end(whole) + ((c as usize) * (3 * frame[0]) + a);
+    if notes.len() - frame[2] <= k {
         return 0;
     }
     k
@@ -37,32 +47,39 @@ fn tag_of(t: Target) -> u16
 }
 
 // What is kept of target t and effect e: its row plus 1, or 0.
-pub fn recall(notes: &[u16], scratch: &[u16], frame: Frame, t: Target, e: usize) -> u16
-    requires { ⌜ AsksKept frame (now notes) (now scratch) t e ⌝ }
-    ensures { λ w. ⌜ Recalls frame (now (notes .entry)) (now (scratch .entry)) t e w ⌝ }
+pub fn recall(notes: &[u16], scratch: &[u16], frame: &[usize; 5], t: Target, e: usize) -> u16
+    requires { ⌜ AsksKept (framed (now frame)) (now notes) (now scratch) t e ⌝ }
+    ensures { λ w. ⌜ Recalls (framed (now (frame .entry))) (now (notes .entry)) (now (scratch .entry)) t e w ⌝ }
 {
     let k = place(notes, frame, t, e);
     if 0 < k {
         return notes[k];
     }
-    let m = 2 * frame.formulas + e;
-    if scratch[m + frame.effects] != tag_of(t) {
+    let m = 2 * frame[1] + e;
+    if scratch[m + frame[2]] != tag_of(t) {
         return 0;
     }
     scratch[m]
 }
 
 // Keeps the row of the condition of target t and effect e.
-pub fn keep(notes: &mut [u16], scratch: &mut [u16], frame: Frame, t: Target, e: usize, row: u16)
-    requires { ⌜ AsksKept frame (now notes) (now scratch) t e × (row < 4096) ⌝ }
-    ensures { λ _. ⌜ Keeps frame (now (notes .entry)) (now (notes .exit)) (now (scratch .entry)) (now (scratch .exit)) t e row ⌝ }
+pub fn keep(
+    notes: &mut [u16],
+    scratch: &mut [u16],
+    frame: &[usize; 5],
+    t: Target,
+    e: usize,
+    row: u16,
+)
+    requires { ⌜ AsksKept (framed (now frame)) (now notes) (now scratch) t e × (row < 4096) ⌝ }
+    ensures { λ _. ⌜ Keeps (framed (now (frame .entry))) (now (notes .entry)) (now (notes .exit)) (now (scratch .entry)) (now (scratch .exit)) t e row ⌝ }
 {
     let k = place(notes, frame, t, e);
     if 0 < k {
         notes[k] = row + 1;
         return;
     }
-    let m = 2 * frame.formulas + e;
-    scratch[m + frame.effects] = tag_of(t);
+    let m = 2 * frame[1] + e;
+    scratch[m + frame[2]] = tag_of(t);
     scratch[m] = row + 1;
 }

@@ -1,13 +1,12 @@
 // A formula over an effect's condition.
 use crate::Target;
 use crate::joined::joined;
-use formula_builder::Frame;
 use formula_builder::falsity;
 use formula_builder::read_row;
 use images::sided;
 ghost use Rattle.task.specs.Table.{row-at};
 ghost use Rattle.normal_form.specs.Conditions.{guarded};
-ghost use Rattle.formula_builder.specs.Held.{store, side, sized, stepped};
+ghost use Rattle.formula_builder.specs.Held.{store, side, sized, stepped, framed};
 ghost use Rattle.images.specs.Images.{tree};
 ghost use Rattle.conditions.specs.Paths.{AsksUnder, Climbs};
 
@@ -18,7 +17,7 @@ pub fn under(
     notes: &mut [u16],
     e: usize,
     t: Target,
-    frame: Frame,
+    frame: &[usize; 5],
     s: u16,
     rows: &mut usize,
     twins: &mut usize,
@@ -26,8 +25,8 @@ pub fn under(
     originals: &mut [u16],
     scratch: &mut [u16],
 ) -> u16
-    requires { ⌜ AsksUnder frame (now formulas) (now effects) (now notes) t (stepped (now rows) (now twins) s) (store (now table) (now originals)) (now scratch) e ⌝ }
-    ensures { λ r. ⌜ Climbs (guarded (frame .variables) (side (t .negated)) (tree frame (now (formulas .entry)) (row-at (now (effects .entry)) e .a)) s) frame (now (formulas .entry)) (now (effects .entry)) (now (notes .entry)) (now (notes .exit)) (frame .effects) (sized (now (rows .entry)) (now (twins .entry))) (store (now (table .entry)) (now (originals .entry))) (store (now (table .exit)) (now (originals .exit))) (now (scratch .exit)) (stepped (now (rows .exit)) (now (twins .exit)) r) ⌝ }
+    requires { ⌜ AsksUnder (framed (now frame)) (now formulas) (now effects) (now notes) t (stepped (now rows) (now twins) s) (store (now table) (now originals)) (now scratch) e ⌝ }
+    ensures { λ r. ⌜ Climbs (guarded (framed (now (frame .entry)) .variables) (side (t .negated)) (tree (framed (now (frame .entry))) (now (formulas .entry)) (row-at (now (effects .entry)) e .a)) s) (framed (now (frame .entry))) (now (formulas .entry)) (now (effects .entry)) (now (notes .entry)) (now (notes .exit)) (framed (now (frame .entry)) .effects) (sized (now (rows .entry)) (now (twins .entry))) (store (now (table .entry)) (now (originals .entry))) (store (now (table .exit)) (now (originals .exit))) (now (scratch .exit)) (stepped (now (rows .exit)) (now (twins .exit)) r) ⌝ }
 {
     if s == falsity(t.negated) {
         return s;

@@ -122,12 +122,12 @@ fn number_rows(
     last
 }
 
-// How many columns there is room for, each of two words a variable; no row has column 0, so its place is lost. Nothing is promised of it.
+// How many columns there is room for, each of three words a variable; no row has column 0, so its place is lost. Nothing is promised of it.
 fn most_columns(variables: usize, room: usize) -> usize {
     if variables == 0 {
         return 4096;
     }
-    let places = room / 2 / variables;
+    let places = room / 3 / variables;
     if places == 0 {
         return 0;
     }

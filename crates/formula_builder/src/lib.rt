@@ -1,11 +1,14 @@
 // Building the formula table of a compiled task: a row or a twin is found in the tables that are lent, or appended. A step changes the counts of
 // rows and twins in place and answers the number of its row, or 65535 if there was no room; so do the steps built on these, of images and conditions.
+mod frames;
 mod index;
 mod joins;
 mod rows;
 mod sizes;
 mod twins;
 
+pub use frames::frame_of;
+pub use frames::words_of;
 pub use joins::falsity;
 pub use joins::join;
 pub use joins::truth;

@@ -1,12 +1,11 @@
 // Twins, and their rows.
-use crate::Frame;
 use crate::rows::variable_row;
 ghost use mathlib.Core.Path.{_≡_};
 ghost use Prim.Native.Nat.{ℕ, _≤_};
 ghost use lib.ListN.{length, take};
 ghost use lib.Dec.{eqb};
 ghost use Rattle.normal_form.specs.Builder.{place, twin-row};
-ghost use Rattle.formula_builder.specs.Held.{store, sized, stepped, Ready, Builds};
+ghost use Rattle.formula_builder.specs.Held.{store, sized, stepped, framed, Ready, Builds};
 
 // Where v's twin stands among w twins; w if it has none. w steps.
 fn find_twin(originals: &[u16], w: usize, v: u16) -> usize
@@ -30,22 +29,22 @@ pub fn twin_row(
     twins: &mut usize,
     table: &mut [u16],
     originals: &mut [u16],
-    frame: Frame,
+    frame: &[usize; 5],
     v: u16,
 ) -> u16
-    requires { ⌜ Ready frame (sized (now rows) (now twins)) (store (now table) (now originals)) ⌝ }
-    ensures { λ k. ⌜ Builds (twin-row (frame .variables) v) frame (sized (now (rows .entry)) (now (twins .entry))) (store (now (table .entry)) (now (originals .entry))) (store (now (table .exit)) (now (originals .exit))) (stepped (now (rows .exit)) (now (twins .exit)) k) ⌝ }
+    requires { ⌜ Ready (framed (now frame)) (sized (now rows) (now twins)) (store (now table) (now originals)) ⌝ }
+    ensures { λ k. ⌜ Builds (twin-row (framed (now (frame .entry)) .variables) v) (framed (now (frame .entry))) (sized (now (rows .entry)) (now (twins .entry))) (store (now (table .entry)) (now (originals .entry))) (store (now (table .exit)) (now (originals .exit))) (stepped (now (rows .exit)) (now (twins .exit)) k) ⌝ }
 {
     let w = *twins;
     let k = find_twin(originals, w, v);
-    let t = frame.variables + k;
+    let t = frame[0] + k;
     if k < w {
-        return variable_row(rows, table, frame.rows, t as u16);
+        return variable_row(rows, table, frame[3], t as u16);
     }
-    if w == frame.twins {
+    if w == frame[4] {
         return 65535;
     }
     originals[w] = v;
     *twins = w + 1;
-    variable_row(rows, table, frame.rows, t as u16)
+    variable_row(rows, table, frame[3], t as u16)
 }

@@ -65,6 +65,21 @@ pub asks-lower :
 asks-lower a h =
     record { source = a .source; ready = a .ready; memo = a .memo; formula = omega (arith, a .formula) }
 
+-- a frame that is the same, as five numbers
+pub asks-framed :
+    {f g : Frame} {formulas : List ℕ} {at : Size} {before : Store} {scratch : List ℕ} {i : ℕ}
+    → f ≡ g
+    → Asks g formulas at before scratch i
+    → Asks f formulas at before scratch i
+asks-framed e a = rw e a
+
+pub reaches-framed :
+    {f g : Frame} {formulas : List ℕ} {at : Size} {before after : Store} {scratch scratch' : List ℕ} {r : Step} {n : ℕ} (p : Polarity) (i : ℕ)
+    → f ≡ g
+    → Reaches (image-at f formulas p i) n f formulas at before after scratch scratch' r
+    → Reaches (image-at g formulas p i) n g formulas at before after scratch scratch' r
+reaches-framed p i e x = rw (← e) x
+
 pub asks-row :
     {frame : Frame} {formulas : List ℕ} {at : Size} {before : Store} {scratch : List ℕ} {i : ℕ}
     → Asks frame formulas at before scratch i

@@ -6,27 +6,26 @@ use crate::memo::note;
 use crate::spine::descend;
 use crate::spine::keeps_side;
 use crate::spine::over;
-use formula_builder::Frame;
 use formula_builder::join;
 use formula_builder::read_row;
 ghost use Prim.Native.Nat.{_+_};
 ghost use Rattle.normal_form.specs.Builder.{plain, negated};
-ghost use Rattle.formula_builder.specs.Held.{store, side, sized, stepped};
+ghost use Rattle.formula_builder.specs.Held.{store, side, sized, stepped, framed};
 ghost use Rattle.images.specs.Images.{image-at, first-at, pair-at, equivalent-at, Asks, AsksPair, AsksEquivalent, AsksUp, Reaches, Rises};
 
 // The image of formula i: constant time if the memo has it, else what building it costs.
 pub fn image(
     formulas: &[u16],
     i: usize,
-    frame: Frame,
+    frame: &[usize; 5],
     rows: &mut usize,
     twins: &mut usize,
     table: &mut [u16],
     originals: &mut [u16],
     scratch: &mut [u16],
 ) -> u16
-    requires { ⌜ Asks frame (now formulas) (sized (now rows) (now twins)) (store (now table) (now originals)) (now scratch) i ⌝ }
-    ensures { λ r. ⌜ Reaches (image-at frame (now (formulas .entry)) plain i) (i + 1) frame (now (formulas .entry)) (sized (now (rows .entry)) (now (twins .entry))) (store (now (table .entry)) (now (originals .entry))) (store (now (table .exit)) (now (originals .exit))) (now (scratch .entry)) (now (scratch .exit)) (stepped (now (rows .exit)) (now (twins .exit)) r) ⌝ }
+    requires { ⌜ Asks (framed (now frame)) (now formulas) (sized (now rows) (now twins)) (store (now table) (now originals)) (now scratch) i ⌝ }
+    ensures { λ r. ⌜ Reaches (image-at (framed (now (frame .entry))) (now (formulas .entry)) plain i) (i + 1) (framed (now (frame .entry))) (now (formulas .entry)) (sized (now (rows .entry)) (now (twins .entry))) (store (now (table .entry)) (now (originals .entry))) (store (now (table .exit)) (now (originals .exit))) (now (scratch .entry)) (now (scratch .exit)) (stepped (now (rows .exit)) (now (twins .exit)) r) ⌝ }
 {
     let known = scratch[i];
     if is_row(known) {
@@ -39,15 +38,15 @@ pub fn image(
 pub fn image_anew(
     formulas: &[u16],
     i: usize,
-    frame: Frame,
+    frame: &[usize; 5],
     rows: &mut usize,
     twins: &mut usize,
     table: &mut [u16],
     originals: &mut [u16],
     scratch: &mut [u16],
 ) -> u16
-    requires { ⌜ Asks frame (now formulas) (sized (now rows) (now twins)) (store (now table) (now originals)) (now scratch) i ⌝ }
-    ensures { λ r. ⌜ Reaches (image-at frame (now (formulas .entry)) plain i) (i + 1) frame (now (formulas .entry)) (sized (now (rows .entry)) (now (twins .entry))) (store (now (table .entry)) (now (originals .entry))) (store (now (table .exit)) (now (originals .exit))) (now (scratch .entry)) (now (scratch .exit)) (stepped (now (rows .exit)) (now (twins .exit)) r) ⌝ }
+    requires { ⌜ Asks (framed (now frame)) (now formulas) (sized (now rows) (now twins)) (store (now table) (now originals)) (now scratch) i ⌝ }
+    ensures { λ r. ⌜ Reaches (image-at (framed (now (frame .entry))) (now (formulas .entry)) plain i) (i + 1) (framed (now (frame .entry))) (now (formulas .entry)) (sized (now (rows .entry)) (now (twins .entry))) (store (now (table .entry)) (now (originals .entry))) (store (now (table .exit)) (now (originals .exit))) (now (scratch .entry)) (now (scratch .exit)) (stepped (now (rows .exit)) (now (twins .exit)) r) ⌝ }
 {
     let mut j = descend(formulas, i, false, frame, scratch);
     let mut s = image_start(formulas, j, frame, rows, twins, table, originals, scratch);
@@ -74,15 +73,15 @@ pub fn image_anew(
 fn image_start(
     formulas: &[u16],
     j: usize,
-    frame: Frame,
+    frame: &[usize; 5],
     rows: &mut usize,
     twins: &mut usize,
     table: &mut [u16],
     originals: &mut [u16],
     scratch: &mut [u16],
 ) -> u16
-    requires { ⌜ Asks frame (now formulas) (sized (now rows) (now twins)) (store (now table) (now originals)) (now scratch) j ⌝ }
-    ensures { λ r. ⌜ Reaches (first-at frame (now (formulas .entry)) plain j) j frame (now (formulas .entry)) (sized (now (rows .entry)) (now (twins .entry))) (store (now (table .entry)) (now (originals .entry))) (store (now (table .exit)) (now (originals .exit))) (now (scratch .entry)) (now (scratch .exit)) (stepped (now (rows .exit)) (now (twins .exit)) r) ⌝ }
+    requires { ⌜ Asks (framed (now frame)) (now formulas) (sized (now rows) (now twins)) (store (now table) (now originals)) (now scratch) j ⌝ }
+    ensures { λ r. ⌜ Reaches (first-at (framed (now (frame .entry))) (now (formulas .entry)) plain j) j (framed (now (frame .entry))) (now (formulas .entry)) (sized (now (rows .entry)) (now (twins .entry))) (store (now (table .entry)) (now (originals .entry))) (store (now (table .exit)) (now (originals .exit))) (now (scratch .entry)) (now (scratch .exit)) (stepped (now (rows .exit)) (now (twins .exit)) r) ⌝ }
 {
     let r = read_row(formulas, j);
     if r.kind < 3 {
@@ -117,15 +116,15 @@ fn image_up(
     formulas: &[u16],
     j: usize,
     l: u16,
-    frame: Frame,
+    frame: &[usize; 5],
     rows: &mut usize,
     twins: &mut usize,
     table: &mut [u16],
     originals: &mut [u16],
     scratch: &mut [u16],
 ) -> u16
-    requires { ⌜ AsksUp frame (now formulas) (store (now table) (now originals)) (now scratch) j (stepped (now rows) (now twins) l) ⌝ }
-    ensures { λ r. ⌜ Rises plain frame (now (formulas .entry)) (store (now (table .entry)) (now (originals .entry))) (store (now (table .exit)) (now (originals .exit))) (now (scratch .entry)) (now (scratch .exit)) j (stepped (now (rows .entry)) (now (twins .entry)) l) (stepped (now (rows .exit)) (now (twins .exit)) r) ⌝ }
+    requires { ⌜ AsksUp (framed (now frame)) (now formulas) (store (now table) (now originals)) (now scratch) j (stepped (now rows) (now twins) l) ⌝ }
+    ensures { λ r. ⌜ Rises plain (framed (now (frame .entry))) (now (formulas .entry)) (store (now (table .entry)) (now (originals .entry))) (store (now (table .exit)) (now (originals .exit))) (now (scratch .entry)) (now (scratch .exit)) j (stepped (now (rows .entry)) (now (twins .entry)) l) (stepped (now (rows .exit)) (now (twins .exit)) r) ⌝ }
 {
     if l == 65535 {
         return l;
@@ -165,24 +164,24 @@ fn image_up(
             scratch,
         );
     }
-    join(rows, table, frame.rows, w.kind != 4, l, b)
+    join(rows, table, frame[3], w.kind != 4, l, b)
 }
 
 // The negated image of formula i: constant time if the memo has it, else what building it costs.
 pub fn negated_image(
     formulas: &[u16],
     i: usize,
-    frame: Frame,
+    frame: &[usize; 5],
     rows: &mut usize,
     twins: &mut usize,
     table: &mut [u16],
     originals: &mut [u16],
     scratch: &mut [u16],
 ) -> u16
-    requires { ⌜ Asks frame (now formulas) (sized (now rows) (now twins)) (store (now table) (now originals)) (now scratch) i ⌝ }
-    ensures { λ r. ⌜ Reaches (image-at frame (now (formulas .entry)) negated i) (i + 1) frame (now (formulas .entry)) (sized (now (rows .entry)) (now (twins .entry))) (store (now (table .entry)) (now (originals .entry))) (store (now (table .exit)) (now (originals .exit))) (now (scratch .entry)) (now (scratch .exit)) (stepped (now (rows .exit)) (now (twins .exit)) r) ⌝ }
+    requires { ⌜ Asks (framed (now frame)) (now formulas) (sized (now rows) (now twins)) (store (now table) (now originals)) (now scratch) i ⌝ }
+    ensures { λ r. ⌜ Reaches (image-at (framed (now (frame .entry))) (now (formulas .entry)) negated i) (i + 1) (framed (now (frame .entry))) (now (formulas .entry)) (sized (now (rows .entry)) (now (twins .entry))) (store (now (table .entry)) (now (originals .entry))) (store (now (table .exit)) (now (originals .exit))) (now (scratch .entry)) (now (scratch .exit)) (stepped (now (rows .exit)) (now (twins .exit)) r) ⌝ }
 {
-    let known = scratch[frame.formulas + i];
+    let known = scratch[frame[1] + i];
     if is_row(known) {
         return known - 1;
     }
@@ -193,20 +192,20 @@ pub fn negated_image(
 pub fn negated_image_anew(
     formulas: &[u16],
     i: usize,
-    frame: Frame,
+    frame: &[usize; 5],
     rows: &mut usize,
     twins: &mut usize,
     table: &mut [u16],
     originals: &mut [u16],
     scratch: &mut [u16],
 ) -> u16
-    requires { ⌜ Asks frame (now formulas) (sized (now rows) (now twins)) (store (now table) (now originals)) (now scratch) i ⌝ }
-    ensures { λ r. ⌜ Reaches (image-at frame (now (formulas .entry)) negated i) (i + 1) frame (now (formulas .entry)) (sized (now (rows .entry)) (now (twins .entry))) (store (now (table .entry)) (now (originals .entry))) (store (now (table .exit)) (now (originals .exit))) (now (scratch .entry)) (now (scratch .exit)) (stepped (now (rows .exit)) (now (twins .exit)) r) ⌝ }
+    requires { ⌜ Asks (framed (now frame)) (now formulas) (sized (now rows) (now twins)) (store (now table) (now originals)) (now scratch) i ⌝ }
+    ensures { λ r. ⌜ Reaches (image-at (framed (now (frame .entry))) (now (formulas .entry)) negated i) (i + 1) (framed (now (frame .entry))) (now (formulas .entry)) (sized (now (rows .entry)) (now (twins .entry))) (store (now (table .entry)) (now (originals .entry))) (store (now (table .exit)) (now (originals .exit))) (now (scratch .entry)) (now (scratch .exit)) (stepped (now (rows .exit)) (now (twins .exit)) r) ⌝ }
 {
     let mut j = descend(formulas, i, true, frame, scratch);
     let mut s = negated_image_start(formulas, j, frame, rows, twins, table, originals, scratch);
     while j <= i {
-        let k = frame.formulas + j;
+        let k = frame[1] + j;
         let word = scratch[k] as usize;
         s = negated_image_up(
             formulas,
@@ -229,15 +228,15 @@ pub fn negated_image_anew(
 fn negated_image_start(
     formulas: &[u16],
     j: usize,
-    frame: Frame,
+    frame: &[usize; 5],
     rows: &mut usize,
     twins: &mut usize,
     table: &mut [u16],
     originals: &mut [u16],
     scratch: &mut [u16],
 ) -> u16
-    requires { ⌜ Asks frame (now formulas) (sized (now rows) (now twins)) (store (now table) (now originals)) (now scratch) j ⌝ }
-    ensures { λ r. ⌜ Reaches (first-at frame (now (formulas .entry)) negated j) j frame (now (formulas .entry)) (sized (now (rows .entry)) (now (twins .entry))) (store (now (table .entry)) (now (originals .entry))) (store (now (table .exit)) (now (originals .exit))) (now (scratch .entry)) (now (scratch .exit)) (stepped (now (rows .exit)) (now (twins .exit)) r) ⌝ }
+    requires { ⌜ Asks (framed (now frame)) (now formulas) (sized (now rows) (now twins)) (store (now table) (now originals)) (now scratch) j ⌝ }
+    ensures { λ r. ⌜ Reaches (first-at (framed (now (frame .entry))) (now (formulas .entry)) negated j) j (framed (now (frame .entry))) (now (formulas .entry)) (sized (now (rows .entry)) (now (twins .entry))) (store (now (table .entry)) (now (originals .entry))) (store (now (table .exit)) (now (originals .exit))) (now (scratch .entry)) (now (scratch .exit)) (stepped (now (rows .exit)) (now (twins .exit)) r) ⌝ }
 {
     let r = read_row(formulas, j);
     if r.kind < 3 {
@@ -272,15 +271,15 @@ fn negated_image_up(
     formulas: &[u16],
     j: usize,
     l: u16,
-    frame: Frame,
+    frame: &[usize; 5],
     rows: &mut usize,
     twins: &mut usize,
     table: &mut [u16],
     originals: &mut [u16],
     scratch: &mut [u16],
 ) -> u16
-    requires { ⌜ AsksUp frame (now formulas) (store (now table) (now originals)) (now scratch) j (stepped (now rows) (now twins) l) ⌝ }
-    ensures { λ r. ⌜ Rises negated frame (now (formulas .entry)) (store (now (table .entry)) (now (originals .entry))) (store (now (table .exit)) (now (originals .exit))) (now (scratch .entry)) (now (scratch .exit)) j (stepped (now (rows .entry)) (now (twins .entry)) l) (stepped (now (rows .exit)) (now (twins .exit)) r) ⌝ }
+    requires { ⌜ AsksUp (framed (now frame)) (now formulas) (store (now table) (now originals)) (now scratch) j (stepped (now rows) (now twins) l) ⌝ }
+    ensures { λ r. ⌜ Rises negated (framed (now (frame .entry))) (now (formulas .entry)) (store (now (table .entry)) (now (originals .entry))) (store (now (table .exit)) (now (originals .exit))) (now (scratch .entry)) (now (scratch .exit)) j (stepped (now (rows .entry)) (now (twins .entry)) l) (stepped (now (rows .exit)) (now (twins .exit)) r) ⌝ }
 {
     if l == 65535 {
         return l;
@@ -320,7 +319,7 @@ fn negated_image_up(
             scratch,
         );
     }
-    join(rows, table, frame.rows, r.kind == 4, l, b)
+    join(rows, table, frame[3], r.kind == 4, l, b)
 }
 
 // (a and b) or (not a and not b), with row i's operands, from the rows of a and b; crossed, (a and not b) or (not a and b).
@@ -330,17 +329,17 @@ fn equivalent(
     crossed: bool,
     left: u16,
     right: u16,
-    frame: Frame,
+    frame: &[usize; 5],
     rows: &mut usize,
     twins: &mut usize,
     table: &mut [u16],
     originals: &mut [u16],
     scratch: &mut [u16],
 ) -> u16
-    requires { ⌜ AsksEquivalent frame (now formulas) (sized (now rows) (now twins)) (store (now table) (now originals)) (now scratch) i left right ⌝ }
-    ensures { λ r. ⌜ Reaches (equivalent-at frame (now (formulas .entry)) i crossed left right) i frame (now (formulas .entry)) (sized (now (rows .entry)) (now (twins .entry))) (store (now (table .entry)) (now (originals .entry))) (store (now (table .exit)) (now (originals .exit))) (now (scratch .entry)) (now (scratch .exit)) (stepped (now (rows .exit)) (now (twins .exit)) r) ⌝ }
+    requires { ⌜ AsksEquivalent (framed (now frame)) (now formulas) (sized (now rows) (now twins)) (store (now table) (now originals)) (now scratch) i left right ⌝ }
+    ensures { λ r. ⌜ Reaches (equivalent-at (framed (now (frame .entry))) (now (formulas .entry)) i crossed left right) i (framed (now (frame .entry))) (now (formulas .entry)) (sized (now (rows .entry)) (now (twins .entry))) (store (now (table .entry)) (now (originals .entry))) (store (now (table .exit)) (now (originals .exit))) (now (scratch .entry)) (now (scratch .exit)) (stepped (now (rows .exit)) (now (twins .exit)) r) ⌝ }
 {
-    let l = join(rows, table, frame.rows, false, left, right);
+    let l = join(rows, table, frame[3], false, left, right);
     if l == 65535 {
         return l;
     }
@@ -358,7 +357,7 @@ fn equivalent(
     if r == 65535 {
         return r;
     }
-    join(rows, table, frame.rows, true, l, r)
+    join(rows, table, frame[3], true, l, r)
 }
 
 // Not a and not b, with row i's operands; crossed, not a and b.
@@ -366,15 +365,15 @@ fn pair(
     formulas: &[u16],
     i: usize,
     crossed: bool,
-    frame: Frame,
+    frame: &[usize; 5],
     rows: &mut usize,
     twins: &mut usize,
     table: &mut [u16],
     originals: &mut [u16],
     scratch: &mut [u16],
 ) -> u16
-    requires { ⌜ AsksPair frame (now formulas) (sized (now rows) (now twins)) (store (now table) (now originals)) (now scratch) i ⌝ }
-    ensures { λ r. ⌜ Reaches (pair-at frame (now (formulas .entry)) i crossed) i frame (now (formulas .entry)) (sized (now (rows .entry)) (now (twins .entry))) (store (now (table .entry)) (now (originals .entry))) (store (now (table .exit)) (now (originals .exit))) (now (scratch .entry)) (now (scratch .exit)) (stepped (now (rows .exit)) (now (twins .exit)) r) ⌝ }
+    requires { ⌜ AsksPair (framed (now frame)) (now formulas) (sized (now rows) (now twins)) (store (now table) (now originals)) (now scratch) i ⌝ }
+    ensures { λ r. ⌜ Reaches (pair-at (framed (now (frame .entry))) (now (formulas .entry)) i crossed) i (framed (now (frame .entry))) (now (formulas .entry)) (sized (now (rows .entry)) (now (twins .entry))) (store (now (table .entry)) (now (originals .entry))) (store (now (table .exit)) (now (originals .exit))) (now (scratch .entry)) (now (scratch .exit)) (stepped (now (rows .exit)) (now (twins .exit)) r) ⌝ }
 {
     let w = read_row(formulas, i);
     let l = negated_image(
@@ -404,7 +403,7 @@ fn pair(
     if r == 65535 {
         return r;
     }
-    join(rows, table, frame.rows, false, l, r)
+    join(rows, table, frame[3], false, l, r)
 }
 
 // The image of formula i, or its negated image.
@@ -412,15 +411,15 @@ fn operand(
     formulas: &[u16],
     i: usize,
     not: bool,
-    frame: Frame,
+    frame: &[usize; 5],
     rows: &mut usize,
     twins: &mut usize,
     table: &mut [u16],
     originals: &mut [u16],
     scratch: &mut [u16],
 ) -> u16
-    requires { ⌜ Asks frame (now formulas) (sized (now rows) (now twins)) (store (now table) (now originals)) (now scratch) i ⌝ }
-    ensures { λ r. ⌜ Reaches (image-at frame (now (formulas .entry)) (side not) i) (i + 1) frame (now (formulas .entry)) (sized (now (rows .entry)) (now (twins .entry))) (store (now (table .entry)) (now (originals .entry))) (store (now (table .exit)) (now (originals .exit))) (now (scratch .entry)) (now (scratch .exit)) (stepped (now (rows .exit)) (now (twins .exit)) r) ⌝ }
+    requires { ⌜ Asks (framed (now frame)) (now formulas) (sized (now rows) (now twins)) (store (now table) (now originals)) (now scratch) i ⌝ }
+    ensures { λ r. ⌜ Reaches (image-at (framed (now (frame .entry))) (now (formulas .entry)) (side not) i) (i + 1) (framed (now (frame .entry))) (now (formulas .entry)) (sized (now (rows .entry)) (now (twins .entry))) (store (now (table .entry)) (now (originals .entry))) (store (now (table .exit)) (now (originals .exit))) (now (scratch .entry)) (now (scratch .exit)) (stepped (now (rows .exit)) (now (twins .exit)) r) ⌝ }
 {
     if not {
         return negated_image(formulas, i, frame, rows, twins, table, originals, scratch);

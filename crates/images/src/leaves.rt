@@ -1,29 +1,28 @@
 // Rows without operands.
-use formula_builder::Frame;
 use formula_builder::Words;
 use formula_builder::row;
 use formula_builder::twin_row;
-ghost use Rattle.formula_builder.specs.Held.{row-of, store, side, sized, stepped, Builds};
+ghost use Rattle.formula_builder.specs.Held.{row-of, store, side, sized, stepped, Builds, framed};
 ghost use Rattle.images.specs.Images.{leaf-built, LeafReady};
 
 // A variable's row is copied, or negated, its twin's row is built; false and true stand.
 pub fn leaf(
     w: Words,
     not: bool,
-    frame: Frame,
+    frame: &[usize; 5],
     rows: &mut usize,
     twins: &mut usize,
     table: &mut [u16],
     originals: &mut [u16],
 ) -> u16
-    requires { ⌜ LeafReady frame (sized (now rows) (now twins)) (store (now table) (now originals)) (row-of w) ⌝ }
-    ensures { λ r. ⌜ Builds (leaf-built (frame .variables) (side not) (row-of w)) frame (sized (now (rows .entry)) (now (twins .entry))) (store (now (table .entry)) (now (originals .entry))) (store (now (table .exit)) (now (originals .exit))) (stepped (now (rows .exit)) (now (twins .exit)) r) ⌝ }
+    requires { ⌜ LeafReady (framed (now frame)) (sized (now rows) (now twins)) (store (now table) (now originals)) (row-of w) ⌝ }
+    ensures { λ r. ⌜ Builds (leaf-built (framed (now (frame .entry)) .variables) (side not) (row-of w)) (framed (now (frame .entry))) (sized (now (rows .entry)) (now (twins .entry))) (store (now (table .entry)) (now (originals .entry))) (store (now (table .exit)) (now (originals .exit))) (stepped (now (rows .exit)) (now (twins .exit)) r) ⌝ }
 {
     if w.kind == 2 {
         if not {
             return twin_row(rows, twins, table, originals, frame, w.a);
         }
-        return row(rows, table, frame.rows, w.kind, w.a, w.b);
+        return row(rows, table, frame[3], w.kind, w.a, w.b);
     }
     if not {
         return 1 - w.kind;

@@ -1,9 +1,8 @@
 // The memo.
-use formula_builder::Frame;
 ghost use mathlib.Core.Path.{_≡_};
 ghost use Prim.Native.Nat.{ℕ, _≤_, _<_};
 ghost use lib.ListN.{length};
-ghost use Rattle.formula_builder.specs.Held.{side, stepped};
+ghost use Rattle.formula_builder.specs.Held.{side, stepped, framed};
 ghost use Rattle.images.specs.Images.{is-row, memo-place, noted, Notes};
 
 // Whether a word of the memo is a row, plus 1.
@@ -17,11 +16,11 @@ pub fn is_row(w: u16) -> bool
 }
 
 // Where the memo has the image of formula i, or its negated image.
-pub fn word_of(frame: Frame, i: usize, not: bool) -> usize
-    requires { ⌜ (i < frame .formulas) × (frame .formulas ≤ 4096) ⌝ }
-    ensures { λ r. ⌜ r ≡ memo-place frame (side not) i ⌝ }
+pub fn word_of(frame: &[usize; 5], i: usize, not: bool) -> usize
+    requires { ⌜ (i < framed (now frame) .formulas) × (framed (now frame) .formulas ≤ 4096) ⌝ }
+    ensures { λ r. ⌜ r ≡ memo-place (framed (now (frame .entry))) (side not) i ⌝ }
 {
-    if not { frame.formulas + i } else { i }
+    if not { frame[1] + i } else { i }
 }
 
 // Notes the row that was built, unless there was no room.

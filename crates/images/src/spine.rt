@@ -1,11 +1,10 @@
 // The way along first operands that are taken on the row's own side: down by a loop, with links in the memo's words, and up again.
 use crate::memo::is_row;
 use crate::memo::word_of;
-use formula_builder::Frame;
 use formula_builder::read_row;
 ghost use mathlib.Core.Path.{_≡_};
 ghost use Prim.Native.Nat.{_≤_, _<_};
-ghost use Rattle.formula_builder.specs.Held.{side};
+ghost use Rattle.formula_builder.specs.Held.{side, framed};
 ghost use Rattle.images.specs.Images.{keeps, AsksRow, Lower, Descends, row-over};
 
 // Whether a row of this kind has its first operand on its own side.
@@ -22,8 +21,8 @@ pub fn keeps_side(kind: u16, not: bool) -> bool
 }
 
 // The row below j on the way; j itself where the way ends.
-fn below(formulas: &[u16], j: usize, not: bool, frame: Frame, scratch: &[u16]) -> usize
-    requires { ⌜ AsksRow frame (now formulas) (now scratch) j ⌝ }
+fn below(formulas: &[u16], j: usize, not: bool, frame: &[usize; 5], scratch: &[u16]) -> usize
+    requires { ⌜ AsksRow (framed (now frame)) (now formulas) (now scratch) j ⌝ }
     ensures { λ r. ⌜ Lower (now (formulas .entry)) (side not) j r ⌝ }
 {
     let w = read_row(formulas, j);
@@ -39,9 +38,15 @@ fn below(formulas: &[u16], j: usize, not: bool, frame: Frame, scratch: &[u16]) -
 }
 
 // The lowest row of the way down from i: one step for each row.
-pub fn descend(formulas: &[u16], i: usize, not: bool, frame: Frame, scratch: &mut [u16]) -> usize
-    requires { ⌜ AsksRow frame (now formulas) (now scratch) i ⌝ }
-    ensures { λ j. ⌜ Descends frame (now (formulas .entry)) (side not) i (now (scratch .entry)) (now (scratch .exit)) j ⌝ }
+pub fn descend(
+    formulas: &[u16],
+    i: usize,
+    not: bool,
+    frame: &[usize; 5],
+    scratch: &mut [u16],
+) -> usize
+    requires { ⌜ AsksRow (framed (now frame)) (now formulas) (now scratch) i ⌝ }
+    ensures { λ j. ⌜ Descends (framed (now (frame .entry))) (now (formulas .entry)) (side not) i (now (scratch .entry)) (now (scratch .exit)) j ⌝ }
 {
     let mut j = i;
     let mut a = below(formulas, i, not, frame, scratch);

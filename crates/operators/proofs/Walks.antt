@@ -21,7 +21,7 @@ use Rattle.formula_builder.proofs.Steps.{within-before}
 use Rattle.images.specs.Images.{image-at, Images, Asks}
 use Rattle.images.proofs.Memos.{steady-image-at}
 use Rattle.conditions.specs.Conditions.{effect-tree, Unnamed, Noted}
-use Rattle.changes.specs.Stands.{Stands, StandsAt, Reaches, Makes, made}
+use Rattle.changes.specs.Stands.{Stands, StandsAt, Leaves, Reaches, Makes, made}
 use Rattle.conditions.proofs.Memos.{conditions-of-images}
 use Rattle.changes.proofs.Standing.{stands-next, stands-at-next}
 use Rattle.atom_sets.specs.Sets.{lacks, InSet}
@@ -31,6 +31,28 @@ use Rattle.records.proofs.Keeping.{recorded-none, recorded-few, recorded-more}
 use Rattle.operators.specs.declared.Tally.{Tally}
 use Rattle.operators.specs.Operator.{all-changes, operator-built, LooksOn, NextTouched, BuildsOperator, size-behind, Walked, OperatorWalked}
 use Rattle.operators.proofs.Passing.{stretch-passed, reaches-alike, recorded-alike}
+
+-- One variable's change asks and leaves the same for a frame that is the same, as five numbers.
+module _ {f g : Frame} (same : f ≡ g) {formulas effects notes : List ℕ} {at : Size} {before : Store} {scratch : List ℕ} (v e : ℕ) where
+  pub change-asks :
+      {sets clears : Bool}
+      → StandsAt g formulas effects notes at before scratch e
+      × (sets ≡ false → Unnamed g formulas effects false v e)
+      × (clears ≡ false → Unnamed g formulas effects true v e)
+      × (v < g .variables)
+      → StandsAt f formulas effects notes at before scratch e
+      × (sets ≡ false → Unnamed f formulas effects false v e)
+      × (clears ≡ false → Unnamed f formulas effects true v e)
+      × (v < f .variables)
+  change-asks x = rw same x
+
+  pub change-made :
+      {after : Store} {full : Bool} {next : Size} {x : Changes}
+      → Makes (changes-of (f .variables) (effect-tree f formulas effects e) v) f formulas effects at before after scratch full next x
+      × Leaves full f formulas effects notes next after
+      → Makes (changes-of (g .variables) (effect-tree g formulas effects e) v) g formulas effects at before after scratch full next x
+      × Leaves full g formulas effects notes next after
+  change-made x = rw (← same) x
 
 -- nothing is built
 makes-give :

@@ -5,6 +5,7 @@ use atom_sets::set_from;
 use changes::change_of;
 use formula_builder::Frame;
 use formula_builder::Size;
+use formula_builder::words_of;
 use records::keep_change;
 use rule_writer::Changes;
 ghost use Prim.Native.Nat.{_≤_};
@@ -67,6 +68,7 @@ pub fn build_changes(
     ensures { λ r. ⌜ Walked (all-changes frame (now (formulas .entry)) (now (effects .entry)) e (frame .variables)) frame (now (formulas .entry)) (now (effects .entry)) at (store (now (table .entry)) (now (originals .entry))) (store (now (table .exit)) (now (originals .exit))) (now (scratch .exit)) from (now (records .entry)) (now (records .exit)) r × Leaves (r .full) frame (now (formulas .entry)) (now (effects .entry)) (now (notes .exit)) (size-behind r) (store (now (table .exit)) (now (originals .exit))) ⌝ }
 {
     let n = frame.variables;
+    let words = words_of(frame);
     let mut rows = at.rows;
     let mut twins = at.twins;
     let mut k = from;
@@ -83,7 +85,7 @@ pub fn build_changes(
             variable,
             sets,
             clears,
-            frame,
+            &words,
             &mut rows,
             &mut twins,
             table,

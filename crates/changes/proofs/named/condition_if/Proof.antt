@@ -9,35 +9,27 @@ use Rattle.changes.proofs.Standing.{asks-condition, condition-unnamed}
 use borrow.Author.Tests.{eq-eqb, ne-eqb}
 use Rattle.formula_builder.specs.Held.{sized}
 
--- src/named.rt:32:9
 condition-requires : tie.Need-condition-requires
 condition-requires c κs = asks-condition _ (c .before .before .before .before .before .before .before .before .before .before .before .before .before .pre .0) (c .before .before .before .before .before .before .before .before .before .before .before .before .before .pre .1)
 
--- src/named.rt:32:9
 same-length : tie.Need-same-length
 same-length c = search needs
 
--- src/named.rt:32:9
 same-length-2 : tie.Need-same-length-2
 same-length-2 c = search needs
 
--- src/named.rt:32:9
 same-length-3 : tie.Need-same-length-3
 same-length-3 c = search needs
 
--- src/named.rt:32:9
 same-length-4 : tie.Need-same-length-4
 same-length-4 c = search needs
 
--- src/named.rt:32:9
 returns : tie.Need-returns
 returns c = search needs
 
--- src/named.rt:46:5
 falsity-requires : tie.Need-falsity-requires
 falsity-requires c κs = search needs
 
--- src/named.rt:14:1
 returns-2 : tie.Need-returns-2
 returns-2 c = rw (c .falsity .ensures) (condition-unnamed (c .before .before .before .before .before .before .before .before .args .t) (c .before .before .before .before .before .before .before .before .pre .0) (c .before .before .before .before .before .before .before .before .pre .2 (c .before .if1 .left)))
 

@@ -7,64 +7,53 @@ use native.Mathlib.Omega.{arith}
 use lib.ListN.{length-set}
 use Rattle.conditions.proofs.Joins.{join-room, keep-join-kept, keep-join-none}
 use borrow.Author.Tests.{ne-eqb}
+use Rattle.formula_builder.specs.Held.{framed}
 
--- src/joined.rt:39:9
 returns : tie.Need-returns
-returns c = keep-join-none (c .before .args .frame) (c .before .args .notes .now) (c .before .args .t) (c .before .args .e) (c .before .args .l) (c .before .args .r) (c .before .args .x)
+returns c = keep-join-none (framed (c .before .args .frame .now)) (c .before .args .notes .now) (c .before .args .t) (c .before .args .e) (c .before .args .l) (c .before .args .r) (c .before .args .x)
 
--- src/joined.rt:42:9
 returns-2 : tie.Need-returns-2
-returns-2 c = keep-join-none (c .before .before .args .frame) (c .before .before .args .notes .now) (c .before .before .args .t) (c .before .before .args .e) (c .before .before .args .l) (c .before .before .args .r) (c .before .before .args .x)
+returns-2 c = keep-join-none (framed (c .before .before .args .frame .now)) (c .before .before .args .notes .now) (c .before .before .args .t) (c .before .before .args .e) (c .before .before .args .l) (c .before .before .args .r) (c .before .before .args .x)
 
--- src/joined.rt:44:29
+element-copy-out-k : tie.Need-element-copy-out-k
+element-copy-out-k c = search needs
+
 mul-k : tie.Need-mul-k
 mul-k c = search needs
 
--- src/joined.rt:44:13
 add-k : tie.Need-add-k
 add-k c = search needs
 
--- src/joined.rt:45:5
 mul-notes : tie.Need-mul-notes
 mul-notes c = search needs
 
--- src/joined.rt:45:5
 slice-write-notes : tie.Need-slice-write-notes
 slice-write-notes c = omega (arith, join-room (c .before .before .before .pre .0))
 
--- src/joined.rt:46:11
 add-notes : tie.Need-add-notes
 add-notes c = search needs
 
--- src/joined.rt:46:5
 mul-notes-2 : tie.Need-mul-notes-2
 mul-notes-2 c = search needs
 
--- src/joined.rt:46:5
 slice-write-notes-2 : tie.Need-slice-write-notes-2
 slice-write-notes-2 c = simp length-set (omega (arith, join-room (c .before .before .before .pre .0)))
 
--- src/joined.rt:47:20
 add-notes-2 : tie.Need-add-notes-2
 add-notes-2 c = omega (arith, c .before .before .before .pre .1 (ne-eqb _ 65535 (c .before .if2 .left)))
 
--- src/joined.rt:47:11
 add-notes-3 : tie.Need-add-notes-3
 add-notes-3 c = search needs
 
--- src/joined.rt:47:5
 mul-notes-3 : tie.Need-mul-notes-3
 mul-notes-3 c = search needs
 
--- src/joined.rt:47:5
 slice-write-notes-3 : tie.Need-slice-write-notes-3
 slice-write-notes-3 c = simp length-set (omega (arith, join-room (c .before .before .before .pre .0)))
 
--- src/joined.rt:34:1
 same-length : tie.Need-same-length
 same-length c = search needs
 
--- src/joined.rt:34:1
 returns-3 : tie.Need-returns-3
 returns-3 c = keep-join-kept (c .before .before .before .pre .0) (c .before .before .before .args .t) (c .before .before .before .args .l) (c .before .before .before .args .r) (c .before .before .before .args .x) (c .before .before .if1 .left)
 
@@ -74,6 +63,7 @@ keep-join-spec =
     (tie.spec
     returns
     returns-2
+    element-copy-out-k
     mul-k
     add-k
     mul-notes

@@ -5,9 +5,13 @@ use Rattle.conditions.proofs.joined.last_join.Reads as reads
 use Rattle.conditions.proofs.joined.last_join.Lts as lts
 use native.Mathlib.Omega.{arith}
 use Rattle.conditions.proofs.Joins.{rejoins-none, rejoins-kept, join-room}
+use Rattle.formula_builder.specs.Held.{framed}
 
 returns : tie.Need-returns
-returns c = rejoins-none (c .before .args .frame) (c .before .args .notes .now) (c .before .args .t) (c .before .args .e) (c .before .args .l) (c .before .args .r)
+returns c = rejoins-none (framed (c .before .args .frame .now)) (c .before .args .notes .now) (c .before .args .t) (c .before .args .e) (c .before .args .l) (c .before .args .r)
+
+element-copy-out-k : tie.Need-element-copy-out-k
+element-copy-out-k c = search needs
 
 mul-k : tie.Need-mul-k
 mul-k c = search needs
@@ -22,7 +26,7 @@ shared-slice-read-if2 : tie.Need-shared-slice-read-if2
 shared-slice-read-if2 c = omega (arith, join-room (c .before .before .before .pre))
 
 returns-2 : tie.Need-returns-2
-returns-2 c = rejoins-none (c .before .before .before .before .args .frame) (c .before .before .before .before .args .notes .now) (c .before .before .before .before .args .t) (c .before .before .before .before .args .e) (c .before .before .before .before .args .l) (c .before .before .before .before .args .r)
+returns-2 c = rejoins-none (framed (c .before .before .before .before .args .frame .now)) (c .before .before .before .before .args .notes .now) (c .before .before .before .before .args .t) (c .before .before .before .before .args .e) (c .before .before .before .before .args .l) (c .before .before .before .before .args .r)
 
 add-if3 : tie.Need-add-if3
 add-if3 c = search needs
@@ -34,7 +38,7 @@ shared-slice-read-if3 : tie.Need-shared-slice-read-if3
 shared-slice-read-if3 c = omega (arith, join-room (c .before .before .before .before .before .pre))
 
 returns-3 : tie.Need-returns-3
-returns-3 c = rejoins-none (c .before .before .before .before .before .before .args .frame) (c .before .before .before .before .before .before .args .notes .now) (c .before .before .before .before .before .before .args .t) (c .before .before .before .before .before .before .args .e) (c .before .before .before .before .before .before .args .l) (c .before .before .before .before .before .before .args .r)
+returns-3 c = rejoins-none (framed (c .before .before .before .before .before .before .args .frame .now)) (c .before .before .before .before .before .before .args .notes .now) (c .before .before .before .before .before .before .args .t) (c .before .before .before .before .before .before .args .e) (c .before .before .before .before .before .before .args .l) (c .before .before .before .before .before .before .args .r)
 
 add-result : tie.Need-add-result
 add-result c = search needs
@@ -46,13 +50,14 @@ shared-slice-read-result : tie.Need-shared-slice-read-result
 shared-slice-read-result c = omega (arith, join-room (c .before .before .before .before .before .before .before .pre))
 
 returns-4 : tie.Need-returns-4
-returns-4 c = rejoins-kept (c .before .before .before .before .before .before .before .args .frame) (c .before .before .before .before .before .before .before .args .notes .now) (c .before .before .before .before .before .before .before .args .t) (c .before .before .before .before .before .before .before .args .e) (c .before .before .before .before .before .before .before .args .l) (c .before .before .before .before .before .before .before .args .r) (c .before .before .before .before .before .before .before .pre .effect) (c .before .before .before .before .before .before .if1 .left) (c .before .before .before .if2 .left) (c .before .if3 .left)
+returns-4 c = rejoins-kept (framed (c .before .before .before .before .before .before .before .args .frame .now)) (c .before .before .before .before .before .before .before .args .notes .now) (c .before .before .before .before .before .before .before .args .t) (c .before .before .before .before .before .before .before .args .e) (c .before .before .before .before .before .before .before .args .l) (c .before .before .before .before .before .before .before .args .r) (c .before .before .before .before .before .before .before .pre .effect) (c .before .before .before .before .before .before .if1 .left) (c .before .before .before .if2 .left) (c .before .if3 .left)
 
 pub last-join-spec : {M : Type 1} → statement M
 last-join-spec =
     tie.close
     (tie.spec
     returns
+    element-copy-out-k
     mul-k
     add-k
     mul-if2

@@ -9,6 +9,7 @@ use native.Mathlib.Omega.{arith}
 use lib.ListN.{length-set}
 use Rattle.conditions.proofs.Notes.{keep-kept}
 use Rattle.conditions.proofs.Memos.{keep-row}
+use Rattle.formula_builder.specs.Held.{framed}
 
 place-requires : tie.Need-place-requires
 place-requires c κs = search needs
@@ -28,6 +29,9 @@ same-length c = search needs
 returns : tie.Need-returns
 returns c = keep-kept (c .before .before .before .before .before .pre .0 .looks .effect) (c .before .place .ensures (omega (arith, c .if1 .taken))) (c .before .before .before .before .before .args .scratch .now) (c .before .before .before .before .before .args .row)
 
+element-copy-out-m : tie.Need-element-copy-out-m
+element-copy-out-m c = search needs
+
 mul-m : tie.Need-mul-m
 mul-m c = search needs
 
@@ -36,6 +40,9 @@ add-m c = search needs
 
 tag-of-requires : tie.Need-tag-of-requires
 tag-of-requires c κs = search needs
+
+element-copy-out-scratch : tie.Need-element-copy-out-scratch
+element-copy-out-scratch c = search needs
 
 add-scratch : tie.Need-add-scratch
 add-scratch c = search needs
@@ -62,7 +69,7 @@ same-length-3 : tie.Need-same-length-3
 same-length-3 c = search needs
 
 returns-2 : tie.Need-returns-2
-returns-2 c = rw (c .before .tag-of .ensures) (keep-row (c .before .before .before .before .before .before .before .before .args .frame) (c .before .before .before .before .before .before .before .before .args .scratch .now) (c .before .before .before .before .before .before .before .before .args .t) (c .before .before .before .before .before .before .before .before .args .e) (c .before .before .before .before .before .before .before .before .args .row) (c .before .before .before .before .before .before .before .before .pre .0 .looks .effect) (c .before .before .before .before .before .before .before .before .pre .0 .memo) (c .before .before .before .before .before .before .before .before .args .notes .now))
+returns-2 c = rw (c .before .tag-of .ensures) (keep-row (framed (c .before .before .before .before .before .before .before .before .args .frame .now)) (c .before .before .before .before .before .before .before .before .args .scratch .now) (c .before .before .before .before .before .before .before .before .args .t) (c .before .before .before .before .before .before .before .before .args .e) (c .before .before .before .before .before .before .before .before .args .row) (c .before .before .before .before .before .before .before .before .pre .0 .looks .effect) (c .before .before .before .before .before .before .before .before .pre .0 .memo) (c .before .before .before .before .before .before .before .before .args .notes .now))
 
 pub keep-spec : {M : Type 1} → statement M
 keep-spec =
@@ -74,9 +81,11 @@ keep-spec =
     slice-write-notes
     same-length
     returns
+    element-copy-out-m
     mul-m
     add-m
     tag-of-requires
+    element-copy-out-scratch
     add-scratch
     mul-scratch
     slice-write-scratch

@@ -9,6 +9,7 @@ use native.Mathlib.Omega.{arith}
 use Rattle.conditions.proofs.Notes.{recall-kept}
 use Rattle.conditions.proofs.Memos.{recall-row, recall-none}
 use mathlib.Core.Path.{_∙_}
+use Rattle.formula_builder.specs.Held.{framed}
 
 place-requires : tie.Need-place-requires
 place-requires c κs = search needs
@@ -22,11 +23,17 @@ shared-slice-read-result c = omega (arith, c .before .before .place .ensures (om
 returns : tie.Need-returns
 returns c = recall-kept (c .before .before .before .before .before .pre .looks .effect) (c .before .before .place .ensures (omega (arith, c .before .if1 .taken))) (c .before .before .before .before .before .args .scratch .now)
 
+element-copy-out-m : tie.Need-element-copy-out-m
+element-copy-out-m c = search needs
+
 mul-m : tie.Need-mul-m
 mul-m c = search needs
 
 add-m : tie.Need-add-m
 add-m c = search needs
+
+element-copy-out-if2 : tie.Need-element-copy-out-if2
+element-copy-out-if2 c = search needs
 
 add-if2 : tie.Need-add-if2
 add-if2 c = search needs
@@ -41,7 +48,7 @@ tag-of-requires : tie.Need-tag-of-requires
 tag-of-requires c κs = search needs
 
 returns-2 : tie.Need-returns-2
-returns-2 c = recall-none (c .before .before .before .before .before .before .before .before .before .args .frame) (c .before .before .before .before .before .before .before .before .before .args .notes .now) (c .before .before .before .before .before .before .before .before .before .args .scratch .now) (c .before .before .before .before .before .before .before .before .before .args .t) (c .before .before .before .before .before .before .before .before .before .args .e)
+returns-2 c = recall-none (framed (c .before .before .before .before .before .before .before .before .before .args .frame .now)) (c .before .before .before .before .before .before .before .before .before .args .notes .now) (c .before .before .before .before .before .before .before .before .before .args .scratch .now) (c .before .before .before .before .before .before .before .before .before .args .t) (c .before .before .before .before .before .before .before .before .before .args .e)
 
 mul-result-2 : tie.Need-mul-result-2
 mul-result-2 c = search needs
@@ -50,7 +57,7 @@ shared-slice-read-result-2 : tie.Need-shared-slice-read-result-2
 shared-slice-read-result-2 c = search needs
 
 returns-3 : tie.Need-returns-3
-returns-3 c = recall-row (c .before .before .before .before .before .before .before .before .before .before .args .frame) (c .before .before .before .before .before .before .before .before .before .before .args .notes .now) (c .before .before .before .before .before .before .before .before .before .before .args .scratch .now) (c .before .before .before .before .before .before .before .before .before .before .args .t) (c .before .before .before .before .before .before .before .before .before .before .args .e) (c .before .before .before .before .before .before .before .before .before .before .pre .looks .effect) (c .before .if2 .left ∙ c .before .before .tag-of .ensures)
+returns-3 c = recall-row (framed (c .before .before .before .before .before .before .before .before .before .before .args .frame .now)) (c .before .before .before .before .before .before .before .before .before .before .args .notes .now) (c .before .before .before .before .before .before .before .before .before .before .args .scratch .now) (c .before .before .before .before .before .before .before .before .before .before .args .t) (c .before .before .before .before .before .before .before .before .before .before .args .e) (c .before .before .before .before .before .before .before .before .before .before .pre .looks .effect) (c .before .if2 .left ∙ c .before .before .tag-of .ensures)
 
 pub recall-spec : {M : Type 1} → statement M
 recall-spec =
@@ -60,8 +67,10 @@ recall-spec =
     mul-result
     shared-slice-read-result
     returns
+    element-copy-out-m
     mul-m
     add-m
+    element-copy-out-if2
     add-if2
     mul-if2
     shared-slice-read-if2

@@ -5,15 +5,12 @@ use Rattle.conditions.proofs.touch.touches.Lts as lts
 use Rattle.task.specs.Table.{effect-kind}
 use Rattle.conditions.proofs.Atoms.{touch-other, touch-clear, touch-set}
 
--- src/touch.rt:13:9
 returns : tie.Need-returns
 returns c = touch-other (c .before .before .before .args .t .clear) (c .before .before .before .args .t .variable) (c .before .before .before .args .w .a) (effect-kind (c .before .before .before .args .w .kind)) (c .if1 .taken)
 
--- src/touch.rt:16:9
 returns-2 : tie.Need-returns-2
 returns-2 c = rw (c .before .if2 .taken) (touch-clear (c .before .before .before .before .before .args .t .variable) (c .before .before .before .before .before .args .w .a) (c .before .before .before .before .before .args .w .kind) (c .before .before .if1 .left))
 
--- src/touch.rt:9:1
 returns-3 : tie.Need-returns-3
 returns-3 c = rw (c .before .if2 .left) (touch-set (c .before .before .before .before .before .args .t .variable) (c .before .before .before .before .before .args .w .a) (c .before .before .before .before .before .args .w .kind) (c .before .before .if1 .left))
 

@@ -11,63 +11,48 @@ use mathlib.Core.Path.{sym, _∙_}
 use Rattle.conditions.proofs.Cases.{under-folded, under-image-asks, under-full, under-join-asks, under-done}
 use borrow.Author.Tests.{eq-eqb, ne-eqb}
 
--- src/under.rt:32:13
 falsity-requires : tie.Need-falsity-requires
 falsity-requires c κs = search needs
 
--- src/under.rt:33:9
 returns : tie.Need-returns
 returns c = under-folded (c .before .before .before .before .before .before .before .before .pre) (c .if1 .taken ∙ c .before .falsity .ensures)
 
--- src/under.rt:35:9
 read-row-requires : tie.Need-read-row-requires
 read-row-requires c κs = search needs
 
--- src/under.rt:38:9
 cast-sided : tie.Need-cast-sided
 cast-sided c = search needs
 
--- src/under.rt:36:9
 sided-requires : tie.Need-sided-requires
 sided-requires c κs = under-image-asks (c .before .before .before .before .before .before .before .before .before .before .before .before .before .before .before .pre) (c .before .before .before .before .before .before .read-row .result) (c .before .before .before .before .before .before .read-row .ensures)
 
--- src/under.rt:48:9
 same-length : tie.Need-same-length
 same-length c = search needs
 
--- src/under.rt:48:9
 same-length-2 : tie.Need-same-length-2
 same-length-2 c = search needs
 
--- src/under.rt:48:9
 same-length-3 : tie.Need-same-length-3
 same-length-3 c = search needs
 
--- src/under.rt:48:9
 returns-2 : tie.Need-returns-2
 returns-2 c = under-full (c .before .before .before .before .before .before .before .before .before .before .before .before .before .before .before .before .before .before .before .before .before .before .before .pre) (c .before .before .before .before .before .before .before .before .before .before .before .before .before .before .read-row .result) (c .before .before .before .before .before .before .before .before .before .before .before .before .before .before .read-row .ensures) (λ z. c .before .before .before .before .before .before .before .before .before .before .before .before .before .before .before .if1 .left (z ∙ sym (c .before .before .before .before .before .before .before .before .before .before .before .before .before .before .before .before .falsity .ensures))) (c .before .before .before .before .before .before .before .sided .ensures) (eq-eqb _ 65535 (c .if2 .taken))
 
--- src/under.rt:50:5
 joined-requires : tie.Need-joined-requires
 joined-requires c κs = under-join-asks (c .before .before .before .before .before .before .before .before .before .before .before .before .before .before .before .before .before .before .before .before .before .before .before .before .before .before .pre) (c .before .before .before .before .before .before .before .before .before .before .before .before .before .before .before .before .before .read-row .result) (c .before .before .before .before .before .before .before .before .before .before .before .before .before .before .before .before .before .read-row .ensures) (λ z. c .before .before .before .before .before .before .before .before .before .before .before .before .before .before .before .before .before .before .if1 .left (z ∙ sym (c .before .before .before .before .before .before .before .before .before .before .before .before .before .before .before .before .before .before .before .falsity .ensures))) (c .before .before .before .before .before .before .before .before .before .before .sided .ensures) (ne-eqb _ 65535 (c .before .before .before .if2 .left))
 
--- src/under.rt:15:1
 same-length-4 : tie.Need-same-length-4
 same-length-4 c = search needs
 
--- src/under.rt:15:1
 same-length-5 : tie.Need-same-length-5
 same-length-5 c = search needs
 
--- src/under.rt:15:1
 same-length-6 : tie.Need-same-length-6
 same-length-6 c = search needs
 
--- src/under.rt:15:1
 same-length-7 : tie.Need-same-length-7
 same-length-7 c = search needs
 
--- src/under.rt:15:1
 returns-3 : tie.Need-returns-3
 returns-3 c = under-done (c .before .before .before .before .before .before .before .before .before .before .before .before .before .before .before .before .before .before .before .before .before .before .before .before .before .before .before .before .before .before .before .pre) (c .before .before .before .before .before .before .before .before .before .before .before .before .before .before .before .before .before .before .before .before .before .before .read-row .result) (c .before .before .before .before .before .before .before .before .before .before .before .before .before .before .before .before .before .before .before .before .before .before .read-row .ensures) (λ z. c .before .before .before .before .before .before .before .before .before .before .before .before .before .before .before .before .before .before .before .before .before .before .before .if1 .left (z ∙ sym (c .before .before .before .before .before .before .before .before .before .before .before .before .before .before .before .before .before .before .before .before .before .before .before .before .falsity .ensures))) (c .before .before .before .before .before .before .before .before .before .before .before .before .before .before .before .sided .ensures) (ne-eqb _ 65535 (c .before .before .before .before .before .before .before .before .if2 .left)) (c .before .before .before .before .joined .ensures _ _)
 

@@ -58,7 +58,7 @@ use lib.ListN.{getD}
 use Rattle.normal_form.specs.Builder.{plain, negated}
 use Rattle.normal_form.proofs.Growth.{steady-join}
 use Rattle.formula_builder.specs.declared.Size.{Size}
-use Rattle.formula_builder.specs.Held.{Store, store, side, sized, stepped}
+use Rattle.formula_builder.specs.Held.{Store, store, side, sized, stepped, framed}
 use borrow.Author.Tests.{eq-eqb, ne-eqb}
 use Rattle.images.specs.Images.{equivalent-at as equivalent-built}
 use Rattle.images.proofs.Memos.{steady-image-at, steady-pair-at, images-as, asks-next, images-leaf, pair-left-full, pair-right-full, pair-done, row-word}
@@ -66,520 +66,444 @@ use Rattle.images.proofs.Cases.{join-asks, kept-refl, kept-then, kept-f
 use Rattle.images.proofs.Rising.{up-full, up-not, up-leaf, up-right-full, up-join, up-equivalent}
 use Rattle.images.proofs.Climbing.{climb-within, asks-lowest, Climbing, climbing-begins, climbing-asks, climbing-notes, climbing-ends, climbing-word, climbing-rises, climbing-more}
 
-abbrev μ-equivalent : Measures 6 equivalent-kinds.ps ℕ
+abbrev μ-equivalent : Measures 7 equivalent-kinds.ps ℕ
 μ-equivalent κs a = 7 * a .1 .0 + 3
 
-abbrev μ-image : Measures 6 image-kinds.ps ℕ
+abbrev μ-image : Measures 7 image-kinds.ps ℕ
 μ-image κs a = 7 * a .1 .0 + 6
 
-abbrev μ-image-anew : Measures 6 image-anew-kinds.ps ℕ
+abbrev μ-image-anew : Measures 7 image-anew-kinds.ps ℕ
 μ-image-anew κs a = 7 * a .1 .0 + 5
 
-abbrev μ-image-start : Measures 6 image-start-kinds.ps ℕ
+abbrev μ-image-start : Measures 7 image-start-kinds.ps ℕ
 μ-image-start κs a = 7 * a .1 .0 + 4
 
-abbrev μ-image-up : Measures 6 image-up-kinds.ps ℕ
+abbrev μ-image-up : Measures 7 image-up-kinds.ps ℕ
 μ-image-up κs a = 7 * a .1 .0 + 4
 
-abbrev μ-negated-image : Measures 6 negated-image-kinds.ps ℕ
+abbrev μ-negated-image : Measures 7 negated-image-kinds.ps ℕ
 μ-negated-image κs a = 7 * a .1 .0 + 6
 
-abbrev μ-negated-image-anew : Measures 6 negated-image-anew-kinds.ps ℕ
+abbrev μ-negated-image-anew : Measures 7 negated-image-anew-kinds.ps ℕ
 μ-negated-image-anew κs a = 7 * a .1 .0 + 5
 
-abbrev μ-negated-image-start : Measures 6 negated-image-start-kinds.ps ℕ
+abbrev μ-negated-image-start : Measures 7 negated-image-start-kinds.ps ℕ
 μ-negated-image-start κs a = 7 * a .1 .0 + 4
 
-abbrev μ-negated-image-up : Measures 6 negated-image-up-kinds.ps ℕ
+abbrev μ-negated-image-up : Measures 7 negated-image-up-kinds.ps ℕ
 μ-negated-image-up κs a = 7 * a .1 .0 + 4
 
-abbrev μ-operand : Measures 6 operand-kinds.ps ℕ
+abbrev μ-operand : Measures 7 operand-kinds.ps ℕ
 μ-operand κs a = 7 * a .1 .0 + 7
 
-abbrev μ-pair : Measures 6 pair-kinds.ps ℕ
+abbrev μ-pair : Measures 7 pair-kinds.ps ℕ
 μ-pair κs a = 7 * a .1 .0 + 2
 
-abbrev equivalent-at : ℕ → In 6 equivalent-kinds.ps
+abbrev equivalent-at : ℕ → In 7 equivalent-kinds.ps
 equivalent-at t =
-    and 6 equivalent-kinds.ps (is 6 equivalent-kinds.ps μ-equivalent t) equivalent.Pre
+    and 7 equivalent-kinds.ps (is 7 equivalent-kinds.ps μ-equivalent t) equivalent.Pre
 
-abbrev equivalent-below : ℕ → In 6 equivalent-kinds.ps
+abbrev equivalent-below : ℕ → In 7 equivalent-kinds.ps
 equivalent-below t =
-    and 6 equivalent-kinds.ps (falls 6 equivalent-kinds.ps _<_ μ-equivalent t) equivalent.Pre
+    and 7 equivalent-kinds.ps (falls 7 equivalent-kinds.ps _<_ μ-equivalent t) equivalent.Pre
 
-abbrev image-at : ℕ → In 6 image-kinds.ps
-image-at t = and 6 image-kinds.ps (is 6 image-kinds.ps μ-image t) image.Pre
+abbrev image-at : ℕ → In 7 image-kinds.ps
+image-at t = and 7 image-kinds.ps (is 7 image-kinds.ps μ-image t) image.Pre
 
-abbrev image-below : ℕ → In 6 image-kinds.ps
-image-below t = and 6 image-kinds.ps (falls 6 image-kinds.ps _<_ μ-image t) image.Pre
+abbrev image-below : ℕ → In 7 image-kinds.ps
+image-below t = and 7 image-kinds.ps (falls 7 image-kinds.ps _<_ μ-image t) image.Pre
 
-abbrev image-anew-at : ℕ → In 6 image-anew-kinds.ps
+abbrev image-anew-at : ℕ → In 7 image-anew-kinds.ps
 image-anew-at t =
-    and 6 image-anew-kinds.ps (is 6 image-anew-kinds.ps μ-image-anew t) image-anew.Pre
+    and 7 image-anew-kinds.ps (is 7 image-anew-kinds.ps μ-image-anew t) image-anew.Pre
 
-abbrev image-anew-below : ℕ → In 6 image-anew-kinds.ps
+abbrev image-anew-below : ℕ → In 7 image-anew-kinds.ps
 image-anew-below t =
-    and 6 image-anew-kinds.ps (falls 6 image-anew-kinds.ps _<_ μ-image-anew t) image-anew.Pre
+    and 7 image-anew-kinds.ps (falls 7 image-anew-kinds.ps _<_ μ-image-anew t) image-anew.Pre
 
-abbrev image-start-at : ℕ → In 6 image-start-kinds.ps
+abbrev image-start-at : ℕ → In 7 image-start-kinds.ps
 image-start-at t =
-    and 6 image-start-kinds.ps (is 6 image-start-kinds.ps μ-image-start t) image-start.Pre
+    and 7 image-start-kinds.ps (is 7 image-start-kinds.ps μ-image-start t) image-start.Pre
 
-abbrev image-start-below : ℕ → In 6 image-start-kinds.ps
+abbrev image-start-below : ℕ → In 7 image-start-kinds.ps
 image-start-below t =
-    and 6 image-start-kinds.ps (falls 6 image-start-kinds.ps _<_ μ-image-start t) image-start.Pre
+    and 7 image-start-kinds.ps (falls 7 image-start-kinds.ps _<_ μ-image-start t) image-start.Pre
 
-abbrev image-up-at : ℕ → In 6 image-up-kinds.ps
-image-up-at t = and 6 image-up-kinds.ps (is 6 image-up-kinds.ps μ-image-up t) image-up.Pre
+abbrev image-up-at : ℕ → In 7 image-up-kinds.ps
+image-up-at t = and 7 image-up-kinds.ps (is 7 image-up-kinds.ps μ-image-up t) image-up.Pre
 
-abbrev image-up-below : ℕ → In 6 image-up-kinds.ps
+abbrev image-up-below : ℕ → In 7 image-up-kinds.ps
 image-up-below t =
-    and 6 image-up-kinds.ps (falls 6 image-up-kinds.ps _<_ μ-image-up t) image-up.Pre
+    and 7 image-up-kinds.ps (falls 7 image-up-kinds.ps _<_ μ-image-up t) image-up.Pre
 
-abbrev negated-image-at : ℕ → In 6 negated-image-kinds.ps
+abbrev negated-image-at : ℕ → In 7 negated-image-kinds.ps
 negated-image-at t =
-    and 6 negated-image-kinds.ps (is 6 negated-image-kinds.ps μ-negated-image t) negated-image.Pre
+    and 7 negated-image-kinds.ps (is 7 negated-image-kinds.ps μ-negated-image t) negated-image.Pre
 
-abbrev negated-image-below : ℕ → In 6 negated-image-kinds.ps
+abbrev negated-image-below : ℕ → In 7 negated-image-kinds.ps
 negated-image-below t =
     and
-    6
+    7
     negated-image-kinds.ps
-    (falls 6 negated-image-kinds.ps _<_ μ-negated-image t)
+    (falls 7 negated-image-kinds.ps _<_ μ-negated-image t)
     negated-image.Pre
 
-abbrev negated-image-anew-at : ℕ → In 6 negated-image-anew-kinds.ps
+abbrev negated-image-anew-at : ℕ → In 7 negated-image-anew-kinds.ps
 negated-image-anew-at t =
     and
-    6
+    7
     negated-image-anew-kinds.ps
-    (is 6 negated-image-anew-kinds.ps μ-negated-image-anew t)
+    (is 7 negated-image-anew-kinds.ps μ-negated-image-anew t)
     negated-image-anew.Pre
 
-abbrev negated-image-anew-below : ℕ → In 6 negated-image-anew-kinds.ps
+abbrev negated-image-anew-below : ℕ → In 7 negated-image-anew-kinds.ps
 negated-image-anew-below t =
     and
-    6
+    7
     negated-image-anew-kinds.ps
-    (falls 6 negated-image-anew-kinds.ps _<_ μ-negated-image-anew t)
+    (falls 7 negated-image-anew-kinds.ps _<_ μ-negated-image-anew t)
     negated-image-anew.Pre
 
-abbrev negated-image-start-at : ℕ → In 6 negated-image-start-kinds.ps
+abbrev negated-image-start-at : ℕ → In 7 negated-image-start-kinds.ps
 negated-image-start-at t =
     and
-    6
+    7
     negated-image-start-kinds.ps
-    (is 6 negated-image-start-kinds.ps μ-negated-image-start t)
+    (is 7 negated-image-start-kinds.ps μ-negated-image-start t)
     negated-image-start.Pre
 
-abbrev negated-image-start-below : ℕ → In 6 negated-image-start-kinds.ps
+abbrev negated-image-start-below : ℕ → In 7 negated-image-start-kinds.ps
 negated-image-start-below t =
     and
-    6
+    7
     negated-image-start-kinds.ps
-    (falls 6 negated-image-start-kinds.ps _<_ μ-negated-image-start t)
+    (falls 7 negated-image-start-kinds.ps _<_ μ-negated-image-start t)
     negated-image-start.Pre
 
-abbrev negated-image-up-at : ℕ → In 6 negated-image-up-kinds.ps
+abbrev negated-image-up-at : ℕ → In 7 negated-image-up-kinds.ps
 negated-image-up-at t =
     and
-    6
+    7
     negated-image-up-kinds.ps
-    (is 6 negated-image-up-kinds.ps μ-negated-image-up t)
+    (is 7 negated-image-up-kinds.ps μ-negated-image-up t)
     negated-image-up.Pre
 
-abbrev negated-image-up-below : ℕ → In 6 negated-image-up-kinds.ps
+abbrev negated-image-up-below : ℕ → In 7 negated-image-up-kinds.ps
 negated-image-up-below t =
     and
-    6
+    7
     negated-image-up-kinds.ps
-    (falls 6 negated-image-up-kinds.ps _<_ μ-negated-image-up t)
+    (falls 7 negated-image-up-kinds.ps _<_ μ-negated-image-up t)
     negated-image-up.Pre
 
-abbrev operand-at : ℕ → In 6 operand-kinds.ps
-operand-at t = and 6 operand-kinds.ps (is 6 operand-kinds.ps μ-operand t) operand.Pre
+abbrev operand-at : ℕ → In 7 operand-kinds.ps
+operand-at t = and 7 operand-kinds.ps (is 7 operand-kinds.ps μ-operand t) operand.Pre
 
-abbrev operand-below : ℕ → In 6 operand-kinds.ps
-operand-below t = and 6 operand-kinds.ps (falls 6 operand-kinds.ps _<_ μ-operand t) operand.Pre
+abbrev operand-below : ℕ → In 7 operand-kinds.ps
+operand-below t = and 7 operand-kinds.ps (falls 7 operand-kinds.ps _<_ μ-operand t) operand.Pre
 
-abbrev pair-at : ℕ → In 6 pair-kinds.ps
-pair-at t = and 6 pair-kinds.ps (is 6 pair-kinds.ps μ-pair t) pair.Pre
+abbrev pair-at : ℕ → In 7 pair-kinds.ps
+pair-at t = and 7 pair-kinds.ps (is 7 pair-kinds.ps μ-pair t) pair.Pre
 
-abbrev pair-below : ℕ → In 6 pair-kinds.ps
-pair-below t = and 6 pair-kinds.ps (falls 6 pair-kinds.ps _<_ μ-pair t) pair.Pre
+abbrev pair-below : ℕ → In 7 pair-kinds.ps
+pair-below t = and 7 pair-kinds.ps (falls 7 pair-kinds.ps _<_ μ-pair t) pair.Pre
 
--- src/cycle.rt:269:9
+equivalent-element-copy-out-join : (t : ℕ) → equivalent-lts.Need-element-copy-out-join (join-reads.Asked, join-reads.Learnt, pair-below t, pair.Post) (equivalent-at t) equivalent.Post
+equivalent-element-copy-out-join t c = search needs
+
 equivalent-join-requires : (t : ℕ) → equivalent-lts.Need-join-requires (join-reads.Asked, join-reads.Learnt, pair-below t, pair.Post) (equivalent-at t) equivalent.Post
-equivalent-join-requires t c κs = asks-join (c .before .before .before .before .before .before .pre .1)
+equivalent-join-requires t c κs = asks-join (c .before .before .before .before .before .before .before .pre .1)
 
--- src/cycle.rt:271:9
 equivalent-same-length : (t : ℕ) → equivalent-lts.Need-same-length (join-reads.Asked, join-reads.Learnt, pair-below t, pair.Post) (equivalent-at t) equivalent.Post
 equivalent-same-length t c = c .before .before .before .join .kept .1 .0
 
--- src/cycle.rt:271:9
 equivalent-returns : (t : ℕ) → equivalent-lts.Need-returns (join-reads.Asked, join-reads.Learnt, pair-below t, pair.Post) (equivalent-at t) equivalent.Post
 unfolding equivalent-built
-equivalent-returns t c = record { images = pair-left-full negated (steady-pair-at (c .before .before .before .before .before .before .before .before .before .before .args .frame) (c .before .before .before .before .before .before .before .before .before .before .args .formulas .now) (c .before .before .before .before .before .before .before .before .before .before .args .i) (c .before .before .before .before .before .before .before .before .before .before .args .crossed)) (images-leaf (steady-join plain (c .before .before .before .before .before .before .before .before .before .before .args .left) (c .before .before .before .before .before .before .before .before .before .before .args .right)) (c .before .before .before .before .before .before .before .before .before .before .pre .1 .pair .asks .memo) (c .before .before .before .join .ensures _ _ (c .before .before .before .before .before .before .before .before .before .before .args .originals .now) refl (c .before .before .before .before .before .before .before .before .before .before .pre .1 .pair .asks .ready))) (eq-eqb _ 65535 (c .if1 .taken)); above = kept-refl (c .before .before .before .before .before .before .before .before .before .before .args .i) (c .before .before .before .before .before .before .before .before .before .before .args .frame) (c .before .before .before .before .before .before .before .before .before .before .args .scratch .now) }
+equivalent-returns t c = record { images = pair-left-full negated (steady-pair-at (framed (c .before .before .before .before .before .before .before .before .before .before .before .args .frame .now)) (c .before .before .before .before .before .before .before .before .before .before .before .args .formulas .now) (c .before .before .before .before .before .before .before .before .before .before .before .args .i) (c .before .before .before .before .before .before .before .before .before .before .before .args .crossed)) (images-leaf (steady-join plain (c .before .before .before .before .before .before .before .before .before .before .before .args .left) (c .before .before .before .before .before .before .before .before .before .before .before .args .right)) (c .before .before .before .before .before .before .before .before .before .before .before .pre .1 .pair .asks .memo) (c .before .before .before .join .ensures _ _ (c .before .before .before .before .before .before .before .before .before .before .before .args .originals .now) refl (c .before .before .before .before .before .before .before .before .before .before .before .pre .1 .pair .asks .ready))) (eq-eqb _ 65535 (c .if1 .taken)); above = kept-refl (c .before .before .before .before .before .before .before .before .before .before .before .args .i) (framed (c .before .before .before .before .before .before .before .before .before .before .before .args .frame .now)) (c .before .before .before .before .before .before .before .before .before .before .before .args .scratch .now) }
 
--- src/cycle.rt:273:9
 equivalent-pair-requires : (t : ℕ) → equivalent-lts.Need-pair-requires (join-reads.Asked, join-reads.Learnt, pair-below t, pair.Post) (equivalent-at t) equivalent.Post
-equivalent-pair-requires t c κs = (omega (arith, c .before .before .before .before .before .before .before .before .before .before .before .before .before .before .before .pre .0), record { asks = asks-next (c .before .before .before .before .before .before .before .before .before .before .before .before .before .before .before .args .i) (c .before .before .before .before .before .before .before .before .before .before .before .before .before .before .before .pre .1 .pair .asks) (images-leaf (steady-join plain (c .before .before .before .before .before .before .before .before .before .before .before .before .before .before .before .args .left) (c .before .before .before .before .before .before .before .before .before .before .before .before .before .before .before .args .right)) (c .before .before .before .before .before .before .before .before .before .before .before .before .before .before .before .pre .1 .pair .asks .memo) (c .before .before .before .before .before .before .before .before .join .ensures _ _ (c .before .before .before .before .before .before .before .before .before .before .before .before .before .before .before .args .originals .now) refl (c .before .before .before .before .before .before .before .before .before .before .before .before .before .before .before .pre .1 .pair .asks .ready))) (ne-eqb _ 65535 (c .before .before .before .before .before .if1 .left)) refl (c .before .before .before .before .before .before .before .before .before .before .before .before .before .before .before .pre .1 .pair .asks .formula); left = c .before .before .before .before .before .before .before .before .before .before .before .before .before .before .before .pre .1 .pair .left; right = c .before .before .before .before .before .before .before .before .before .before .before .before .before .before .before .pre .1 .pair .right })
+equivalent-pair-requires t c κs = (omega (arith, c .before .before .before .before .before .before .before .before .before .before .before .before .before .before .before .before .pre .0), record { asks = asks-next (c .before .before .before .before .before .before .before .before .before .before .before .before .before .before .before .before .args .i) (c .before .before .before .before .before .before .before .before .before .before .before .before .before .before .before .before .pre .1 .pair .asks) (images-leaf (steady-join plain (c .before .before .before .before .before .before .before .before .before .before .before .before .before .before .before .before .args .left) (c .before .before .before .before .before .before .before .before .before .before .before .before .before .before .before .before .args .right)) (c .before .before .before .before .before .before .before .before .before .before .before .before .before .before .before .before .pre .1 .pair .asks .memo) (c .before .before .before .before .before .before .before .before .join .ensures _ _ (c .before .before .before .before .before .before .before .before .before .before .before .before .before .before .before .before .args .originals .now) refl (c .before .before .before .before .before .before .before .before .before .before .before .before .before .before .before .before .pre .1 .pair .asks .ready))) (ne-eqb _ 65535 (c .before .before .before .before .before .if1 .left)) refl (c .before .before .before .before .before .before .before .before .before .before .before .before .before .before .before .before .pre .1 .pair .asks .formula); left = c .before .before .before .before .before .before .before .before .before .before .before .before .before .before .before .before .pre .1 .pair .left; right = c .before .before .before .before .before .before .before .before .before .before .before .before .before .before .before .before .pre .1 .pair .right })
 
--- src/cycle.rt:275:9
 equivalent-same-length-2 : (t : ℕ) → equivalent-lts.Need-same-length-2 (join-reads.Asked, join-reads.Learnt, pair-below t, pair.Post) (equivalent-at t) equivalent.Post
 equivalent-same-length-2 t c = c .before .before .before .before .before .before .before .pair .kept .1 .1 .1 .1 .1 .1 .0 ∙ c .before .before .before .before .before .before .before .before .before .before .before .before .before .before .before .before .join .kept .1 .0
 
--- src/cycle.rt:275:9
 equivalent-same-length-3 : (t : ℕ) → equivalent-lts.Need-same-length-3 (join-reads.Asked, join-reads.Learnt, pair-below t, pair.Post) (equivalent-at t) equivalent.Post
 equivalent-same-length-3 t c = c .before .before .before .before .before .before .before .pair .kept .1 .1 .1 .1 .1 .1 .1 .0
 
--- src/cycle.rt:275:9
 equivalent-same-length-4 : (t : ℕ) → equivalent-lts.Need-same-length-4 (join-reads.Asked, join-reads.Learnt, pair-below t, pair.Post) (equivalent-at t) equivalent.Post
 equivalent-same-length-4 t c = c .before .before .before .before .before .before .before .pair .kept .1 .1 .1 .1 .1 .1 .1 .1 .0
 
--- src/cycle.rt:275:9
 equivalent-returns-2 : (t : ℕ) → equivalent-lts.Need-returns-2 (join-reads.Asked, join-reads.Learnt, pair-below t, pair.Post) (equivalent-at t) equivalent.Post
 unfolding equivalent-built
-equivalent-returns-2 t c = record { images = pair-right-full negated (steady-pair-at (c .before .before .before .before .before .before .before .before .before .before .before .before .before .before .before .before .before .before .before .before .before .before .before .args .frame) (c .before .before .before .before .before .before .before .before .before .before .before .before .before .before .before .before .before .before .before .before .before .before .before .args .formulas .now) (c .before .before .before .before .before .before .before .before .before .before .before .before .before .before .before .before .before .before .before .before .before .before .before .args .i) (c .before .before .before .before .before .before .before .before .before .before .before .before .before .before .before .before .before .before .before .before .before .before .before .args .crossed)) (images-leaf (steady-join plain (c .before .before .before .before .before .before .before .before .before .before .before .before .before .before .before .before .before .before .before .before .before .before .before .args .left) (c .before .before .before .before .before .before .before .before .before .before .before .before .before .before .before .before .before .before .before .before .before .before .before .args .right)) (c .before .before .before .before .before .before .before .before .before .before .before .before .before .before .before .before .before .before .before .before .before .before .before .pre .1 .pair .asks .memo) (c .before .before .before .before .before .before .before .before .before .before .before .before .before .before .before .before .join .ensures _ _ (c .before .before .before .before .before .before .before .before .before .before .before .before .before .before .before .before .before .before .before .before .before .before .before .args .originals .now) refl (c .before .before .before .before .before .before .before .before .before .before .before .before .before .before .before .before .before .before .before .before .before .before .before .pre .1 .pair .asks .ready))) (ne-eqb _ 65535 (c .before .before .before .before .before .before .before .before .before .before .before .before .before .if1 .left)) (c .before .before .before .before .before .before .before .pair .ensures .images) (eq-eqb _ 65535 (c .if2 .taken)); above = c .before .before .before .before .before .before .before .pair .ensures .above }
+equivalent-returns-2 t c = record { images = pair-right-full negated (steady-pair-at (framed (c .before .before .before .before .before .before .before .before .before .before .before .before .before .before .before .before .before .before .before .before .before .before .before .before .args .frame .now)) (c .before .before .before .before .before .before .before .before .before .before .before .before .before .before .before .before .before .before .before .before .before .before .before .before .args .formulas .now) (c .before .before .before .before .before .before .before .before .before .before .before .before .before .before .before .before .before .before .before .before .before .before .before .before .args .i) (c .before .before .before .before .before .before .before .before .before .before .before .before .before .before .before .before .before .before .before .before .before .before .before .before .args .crossed)) (images-leaf (steady-join plain (c .before .before .before .before .before .before .before .before .before .before .before .before .before .before .before .before .before .before .before .before .before .before .before .before .args .left) (c .before .before .before .before .before .before .before .before .before .before .before .before .before .before .before .before .before .before .before .before .before .before .before .before .args .right)) (c .before .before .before .before .before .before .before .before .before .before .before .before .before .before .before .before .before .before .before .before .before .before .before .before .pre .1 .pair .asks .memo) (c .before .before .before .before .before .before .before .before .before .before .before .before .before .before .before .before .join .ensures _ _ (c .before .before .before .before .before .before .before .before .before .before .before .before .before .before .before .before .before .before .before .before .before .before .before .before .args .originals .now) refl (c .before .before .before .before .before .before .before .before .before .before .before .before .before .before .before .before .before .before .before .before .before .before .before .before .pre .1 .pair .asks .ready))) (ne-eqb _ 65535 (c .before .before .before .before .before .before .before .before .before .before .before .before .before .if1 .left)) (c .before .before .before .before .before .before .before .pair .ensures .images) (eq-eqb _ 65535 (c .if2 .taken)); above = c .before .before .before .before .before .before .before .pair .ensures .above }
 
--- src/cycle.rt:277:5
+equivalent-element-copy-out-join-2 : (t : ℕ) → equivalent-lts.Need-element-copy-out-join-2 (join-reads.Asked, join-reads.Learnt, pair-below t, pair.Post) (equivalent-at t) equivalent.Post
+equivalent-element-copy-out-join-2 t c = search needs
+
 equivalent-join-requires-2 : (t : ℕ) → equivalent-lts.Need-join-requires-2 (join-reads.Asked, join-reads.Learnt, pair-below t, pair.Post) (equivalent-at t) equivalent.Post
-equivalent-join-requires-2 t c κs = join-asks ((images-leaf (steady-join plain (c .before .before .before .before .before .before .before .before .before .before .before .before .before .before .before .before .before .before .before .before .before .before .before .before .before .args .left) (c .before .before .before .before .before .before .before .before .before .before .before .before .before .before .before .before .before .before .before .before .before .before .before .before .before .args .right)) (c .before .before .before .before .before .before .before .before .before .before .before .before .before .before .before .before .before .before .before .before .before .before .before .before .before .pre .1 .pair .asks .memo) (c .before .before .before .before .before .before .before .before .before .before .before .before .before .before .before .before .before .before .join .ensures _ _ (c .before .before .before .before .before .before .before .before .before .before .before .before .before .before .before .before .before .before .before .before .before .before .before .before .before .args .originals .now) refl (c .before .before .before .before .before .before .before .before .before .before .before .before .before .before .before .before .before .before .before .before .before .before .before .before .before .pre .1 .pair .asks .ready))) .builds) (ne-eqb _ 65535 (c .before .before .before .before .before .before .before .before .before .before .before .before .before .before .before .if1 .left)) (c .before .before .before .before .before .before .before .before .before .pair .ensures .images .builds) (ne-eqb _ 65535 (c .before .before .if2 .left))
+equivalent-join-requires-2 t c κs = join-asks ((images-leaf (steady-join plain (c .before .before .before .before .before .before .before .before .before .before .before .before .before .before .before .before .before .before .before .before .before .before .before .before .before .before .before .args .left) (c .before .before .before .before .before .before .before .before .before .before .before .before .before .before .before .before .before .before .before .before .before .before .before .before .before .before .before .args .right)) (c .before .before .before .before .before .before .before .before .before .before .before .before .before .before .before .before .before .before .before .before .before .before .before .before .before .before .before .pre .1 .pair .asks .memo) (c .before .before .before .before .before .before .before .before .before .before .before .before .before .before .before .before .before .before .before .join .ensures _ _ (c .before .before .before .before .before .before .before .before .before .before .before .before .before .before .before .before .before .before .before .before .before .before .before .before .before .before .before .args .originals .now) refl (c .before .before .before .before .before .before .before .before .before .before .before .before .before .before .before .before .before .before .before .before .before .before .before .before .before .before .before .pre .1 .pair .asks .ready))) .builds) (ne-eqb _ 65535 (c .before .before .before .before .before .before .before .before .before .before .before .before .before .before .before .before .if1 .left)) (c .before .before .before .before .before .before .before .before .before .before .pair .ensures .images .builds) (ne-eqb _ 65535 (c .before .before .before .if2 .left))
 
--- src/cycle.rt:253:1
 equivalent-same-length-5 : (t : ℕ) → equivalent-lts.Need-same-length-5 (join-reads.Asked, join-reads.Learnt, pair-below t, pair.Post) (equivalent-at t) equivalent.Post
-equivalent-same-length-5 t c = c .before .before .join2 .kept .1 .0 ∙ c .before .before .before .before .before .before .before .before .before .before .before .before .pair .kept .1 .1 .1 .1 .1 .1 .0 ∙ c .before .before .before .before .before .before .before .before .before .before .before .before .before .before .before .before .before .before .before .before .before .join .kept .1 .0
+equivalent-same-length-5 t c = c .before .before .join2 .kept .1 .0 ∙ c .before .before .before .before .before .before .before .before .before .before .before .before .before .pair .kept .1 .1 .1 .1 .1 .1 .0 ∙ c .before .before .before .before .before .before .before .before .before .before .before .before .before .before .before .before .before .before .before .before .before .before .join .kept .1 .0
 
--- src/cycle.rt:253:1
 equivalent-same-length-6 : (t : ℕ) → equivalent-lts.Need-same-length-6 (join-reads.Asked, join-reads.Learnt, pair-below t, pair.Post) (equivalent-at t) equivalent.Post
-equivalent-same-length-6 t c = c .before .before .before .before .before .before .before .before .before .before .before .before .pair .kept .1 .1 .1 .1 .1 .1 .1 .0
+equivalent-same-length-6 t c = c .before .before .before .before .before .before .before .before .before .before .before .before .before .pair .kept .1 .1 .1 .1 .1 .1 .1 .0
 
--- src/cycle.rt:253:1
 equivalent-same-length-7 : (t : ℕ) → equivalent-lts.Need-same-length-7 (join-reads.Asked, join-reads.Learnt, pair-below t, pair.Post) (equivalent-at t) equivalent.Post
-equivalent-same-length-7 t c = c .before .before .before .before .before .before .before .before .before .before .before .before .pair .kept .1 .1 .1 .1 .1 .1 .1 .1 .0
+equivalent-same-length-7 t c = c .before .before .before .before .before .before .before .before .before .before .before .before .before .pair .kept .1 .1 .1 .1 .1 .1 .1 .1 .0
 
--- src/cycle.rt:253:1
 equivalent-returns-3 : (t : ℕ) → equivalent-lts.Need-returns-3 (join-reads.Asked, join-reads.Learnt, pair-below t, pair.Post) (equivalent-at t) equivalent.Post
 unfolding equivalent-built
-equivalent-returns-3 t c = record { images = pair-done negated (steady-pair-at (c .before .before .before .before .before .before .before .before .before .before .before .before .before .before .before .before .before .before .before .before .before .before .before .before .before .before .before .before .args .frame) (c .before .before .before .before .before .before .before .before .before .before .before .before .before .before .before .before .before .before .before .before .before .before .before .before .before .before .before .before .args .formulas .now) (c .before .before .before .before .before .before .before .before .before .before .before .before .before .before .before .before .before .before .before .before .before .before .before .before .before .before .before .before .args .i) (c .before .before .before .before .before .before .before .before .before .before .before .before .before .before .before .before .before .before .before .before .before .before .before .before .before .before .before .before .args .crossed)) (images-leaf (steady-join plain (c .before .before .before .before .before .before .before .before .before .before .before .before .before .before .before .before .before .before .before .before .before .before .before .before .before .before .before .before .args .left) (c .before .before .before .before .before .before .before .before .before .before .before .before .before .before .before .before .before .before .before .before .before .before .before .before .before .before .before .before .args .right)) (c .before .before .before .before .before .before .before .before .before .before .before .before .before .before .before .before .before .before .before .before .before .before .before .before .before .before .before .before .pre .1 .pair .asks .memo) (c .before .before .before .before .before .before .before .before .before .before .before .before .before .before .before .before .before .before .before .before .before .join .ensures _ _ (c .before .before .before .before .before .before .before .before .before .before .before .before .before .before .before .before .before .before .before .before .before .before .before .before .before .before .before .before .args .originals .now) refl (c .before .before .before .before .before .before .before .before .before .before .before .before .before .before .before .before .before .before .before .before .before .before .before .before .before .before .before .before .pre .1 .pair .asks .ready))) (ne-eqb _ 65535 (c .before .before .before .before .before .before .before .before .before .before .before .before .before .before .before .before .before .before .if1 .left)) (c .before .before .before .before .before .before .before .before .before .before .before .before .pair .ensures .images) (ne-eqb _ 65535 (c .before .before .before .before .before .if2 .left)) (c .before .before .join2 .ensures _ _ _ refl (c .before .before .before .before .before .before .before .before .before .before .before .before .pair .ensures .images .builds .done (ne-eqb _ 65535 (c .before .before .before .before .before .if2 .left)) .ready)); above = c .before .before .before .before .before .before .before .before .before .before .before .before .pair .ensures .above }
+equivalent-returns-3 t c = record { images = pair-done negated (steady-pair-at (framed (c .before .before .before .before .before .before .before .before .before .before .before .before .before .before .before .before .before .before .before .before .before .before .before .before .before .before .before .before .before .before .args .frame .now)) (c .before .before .before .before .before .before .before .before .before .before .before .before .before .before .before .before .before .before .before .before .before .before .before .before .before .before .before .before .before .before .args .formulas .now) (c .before .before .before .before .before .before .before .before .before .before .before .before .before .before .before .before .before .before .before .before .before .before .before .before .before .before .before .before .before .before .args .i) (c .before .before .before .before .before .before .before .before .before .before .before .before .before .before .before .before .before .before .before .before .before .before .before .before .before .before .before .before .before .before .args .crossed)) (images-leaf (steady-join plain (c .before .before .before .before .before .before .before .before .before .before .before .before .before .before .before .before .before .before .before .before .before .before .before .before .before .before .before .before .before .before .args .left) (c .before .before .before .before .before .before .before .before .before .before .before .before .before .before .before .before .before .before .before .before .before .before .before .before .before .before .before .before .before .before .args .right)) (c .before .before .before .before .before .before .before .before .before .before .before .before .before .before .before .before .before .before .before .before .before .before .before .before .before .before .before .before .before .before .pre .1 .pair .asks .memo) (c .before .before .before .before .before .before .before .before .before .before .before .before .before .before .before .before .before .before .before .before .before .before .join .ensures _ _ (c .before .before .before .before .before .before .before .before .before .before .before .before .before .before .before .before .before .before .before .before .before .before .before .before .before .before .before .before .before .before .args .originals .now) refl (c .before .before .before .before .before .before .before .before .before .before .before .before .before .before .before .before .before .before .before .before .before .before .before .before .before .before .before .before .before .before .pre .1 .pair .asks .ready))) (ne-eqb _ 65535 (c .before .before .before .before .before .before .before .before .before .before .before .before .before .before .before .before .before .before .before .if1 .left)) (c .before .before .before .before .before .before .before .before .before .before .before .before .before .pair .ensures .images) (ne-eqb _ 65535 (c .before .before .before .before .before .before .if2 .left)) (c .before .before .join2 .ensures _ _ _ refl (c .before .before .before .before .before .before .before .before .before .before .before .before .before .pair .ensures .images .builds .done (ne-eqb _ 65535 (c .before .before .before .before .before .before .if2 .left)) .ready)); above = c .before .before .before .before .before .before .before .before .before .before .before .before .before .pair .ensures .above }
 
--- src/cycle.rt:31:17
 image-mul-known : (t : ℕ) → image-lts.Need-mul-known (is-row-reads.Asked, is-row-reads.Learnt, image-anew-below t, image-anew.Post) (image-at t) image.Post
 image-mul-known t c = omega (arith, c .before .before .before .before .good, c .before .before .before .before .pre .1 .source .memo, c .before .before .before .before .pre .1 .formula, c .before .before .before .before .pre .1 .source .limit)
 
--- src/cycle.rt:31:17
 image-slice-read-known : (t : ℕ) → image-lts.Need-slice-read-known (is-row-reads.Asked, is-row-reads.Learnt, image-anew-below t, image-anew.Post) (image-at t) image.Post
 image-slice-read-known t c = omega (arith, c .before .before .before .before .before .pre .1 .source .memo, c .before .before .before .before .before .pre .1 .formula)
 
--- src/cycle.rt:32:8
 image-is-row-requires : (t : ℕ) → image-lts.Need-is-row-requires (is-row-reads.Asked, is-row-reads.Learnt, image-anew-below t, image-anew.Post) (image-at t) image.Post
 image-is-row-requires t c κs = search needs
 
--- src/cycle.rt:33:16
 image-sub-result : (t : ℕ) → image-lts.Need-sub-result (is-row-reads.Asked, is-row-reads.Learnt, image-anew-below t, image-anew.Post) (image-at t) image.Post
 image-sub-result t c = omega (arith, row-word (getD (c .before .before .before .before .before .before .before .args .scratch .now) (c .before .before .before .before .before .before .before .args .i) 0) (sym (c .before .is-row .ensures) ∙ c .if1 .taken) .0)
 
--- src/cycle.rt:33:9
 image-returns : (t : ℕ) → image-lts.Need-returns (is-row-reads.Asked, is-row-reads.Learnt, image-anew-below t, image-anew.Post) (image-at t) image.Post
-image-returns t c = (reaches-known (c .before .before .before .before .before .before .before .args .frame) (c .before .before .before .before .before .before .before .args .formulas .now) ((sized (c .before .before .before .before .before .before .before .args .rows .now) (c .before .before .before .before .before .before .before .args .twins .now))) (store (c .before .before .before .before .before .before .before .args .table .now) (c .before .before .before .before .before .before .before .args .originals .now)) (c .before .before .before .before .before .before .before .args .scratch .now) plain (c .before .before .before .before .before .before .before .args .i) (getD (c .before .before .before .before .before .before .before .args .scratch .now) (c .before .before .before .before .before .before .before .args .i) 0) (c .before .before .before .before .before .before .before .pre .1) refl (sym (c .before .is-row .ensures) ∙ c .if1 .taken))
+image-returns t c = (reaches-known (framed (c .before .before .before .before .before .before .before .args .frame .now)) (c .before .before .before .before .before .before .before .args .formulas .now) ((sized (c .before .before .before .before .before .before .before .args .rows .now) (c .before .before .before .before .before .before .before .args .twins .now))) (store (c .before .before .before .before .before .before .before .args .table .now) (c .before .before .before .before .before .before .before .args .originals .now)) (c .before .before .before .before .before .before .before .args .scratch .now) plain (c .before .before .before .before .before .before .before .args .i) (getD (c .before .before .before .before .before .before .before .args .scratch .now) (c .before .before .before .before .before .before .before .args .i) 0) (c .before .before .before .before .before .before .before .pre .1) refl (sym (c .before .is-row .ensures) ∙ c .if1 .taken))
 
--- src/cycle.rt:35:5
 image-image-anew-requires : (t : ℕ) → image-lts.Need-image-anew-requires (is-row-reads.Asked, is-row-reads.Learnt, image-anew-below t, image-anew.Post) (image-at t) image.Post
 image-image-anew-requires t c κs = (omega (arith, c .before .before .before .before .before .before .before .before .before .before .before .before .pre .0), c .before .before .before .before .before .before .before .before .before .before .before .before .pre .1)
 
--- src/cycle.rt:18:1
 image-same-length : (t : ℕ) → image-lts.Need-same-length (is-row-reads.Asked, is-row-reads.Learnt, image-anew-below t, image-anew.Post) (image-at t) image.Post
 image-same-length t c = c .before .before .before .before .before .before .image-anew .kept .1 .1 .1 .1 .1 .0
 
--- src/cycle.rt:18:1
 image-same-length-2 : (t : ℕ) → image-lts.Need-same-length-2 (is-row-reads.Asked, is-row-reads.Learnt, image-anew-below t, image-anew.Post) (image-at t) image.Post
 image-same-length-2 t c = c .before .before .before .before .before .before .image-anew .kept .1 .1 .1 .1 .1 .1 .0
 
--- src/cycle.rt:18:1
 image-same-length-3 : (t : ℕ) → image-lts.Need-same-length-3 (is-row-reads.Asked, is-row-reads.Learnt, image-anew-below t, image-anew.Post) (image-at t) image.Post
 image-same-length-3 t c = c .before .before .before .before .before .before .image-anew .kept .1 .1 .1 .1 .1 .1 .1 .0
 
--- src/cycle.rt:18:1
 image-returns-2 : (t : ℕ) → image-lts.Need-returns-2 (is-row-reads.Asked, is-row-reads.Learnt, image-anew-below t, image-anew.Post) (image-at t) image.Post
 image-returns-2 t c = c .before .before .before .before .before .before .image-anew .ensures
 
 abbrev image-anew-Inv-loop : image-anew-lts.InvT-loop
 image-anew-Inv-loop formulas i frame rows₀ twins₀ table₀ originals₀ scratch₀ j₀ s₀ rows twins table originals scratch j s =
     (at : Size) (before : Store) (entry : List ℕ)
-    → Climbing frame formulas plain i at before entry j₀ (stepped rows₀ twins₀ s₀) (store table₀ originals₀) scratch₀
-    → Climbing frame formulas plain i at before entry j (stepped rows twins s) (store table originals) scratch
+    → Climbing (framed frame) formulas plain i at before entry j₀ (stepped rows₀ twins₀ s₀) (store table₀ originals₀) scratch₀
+    → Climbing (framed frame) formulas plain i at before entry j (stepped rows twins s) (store table originals) scratch
 
 abbrev image-anew-μ-loop : image-anew-lts.MeasureT-loop
 image-anew-μ-loop formulas i frame rows₀ twins₀ table₀ originals₀ scratch₀ j₀ s₀ rows twins table originals scratch j s =
     i + 1 - j
 
--- src/cycle.rt:52:9
 image-anew-descend-requires : (t : ℕ) → image-anew-lts.Need-descend-requires (descend-reads.Asked, descend-reads.Learnt, image-start-below t, image-start.Post, image-up-below t, image-up.Post, note-reads.Asked, note-reads.Learnt, over-reads.Asked, over-reads.Learnt) (image-anew-at t) image-anew.Post image-anew-Inv-loop image-anew-μ-loop
 image-anew-descend-requires t c κs = asks-row (c .before .before .before .before .before .pre .1)
 
--- src/cycle.rt:53:9
 image-anew-image-start-requires : (t : ℕ) → image-anew-lts.Need-image-start-requires (descend-reads.Asked, descend-reads.Learnt, image-start-below t, image-start.Post, image-up-below t, image-up.Post, note-reads.Asked, note-reads.Learnt, over-reads.Asked, over-reads.Learnt) (image-anew-at t) image-anew.Post image-anew-Inv-loop image-anew-μ-loop
 image-anew-image-start-requires t c κs = (omega (arith, c .before .before .before .before .before .before .before .before .before .before .before .before .before .pre .0, climb-within (c .before .before .before .before .before .before .before .descend .ensures .climb)), asks-lowest (c .before .before .before .before .before .before .before .before .before .before .before .before .before .pre .1) (c .before .before .before .before .before .before .before .descend .kept .1 .1 .1 .1 .0) (c .before .before .before .before .before .before .before .descend .ensures))
 
--- src/cycle.rt:54:5
 image-anew-loop-holds : (t : ℕ) → image-anew-lts.Need-loop-holds (descend-reads.Asked, descend-reads.Learnt, image-start-below t, image-start.Post, image-up-below t, image-up.Post, note-reads.Asked, note-reads.Learnt, over-reads.Asked, over-reads.Learnt) (image-anew-at t) image-anew.Post image-anew-Inv-loop image-anew-μ-loop
 image-anew-loop-holds t c = λ at before entry b. b
 
--- src/cycle.rt:55:20
 image-anew-mul-word : (t : ℕ) → image-anew-lts.Need-mul-word (descend-reads.Asked, descend-reads.Learnt, image-start-below t, image-start.Post, image-up-below t, image-up.Post, note-reads.Asked, note-reads.Learnt, over-reads.Asked, over-reads.Learnt) (image-anew-at t) image-anew.Post image-anew-Inv-loop image-anew-μ-loop
 image-anew-mul-word t c = omega (arith, c .loop-test .taken, c .before .before .before .before .before .before .before .before .before .before .before .before .before .before .before .before .before .before .before .before .before .before .pre .1 .formula, c .before .before .before .before .before .before .before .before .before .before .before .before .before .before .before .before .before .before .before .before .before .before .pre .1 .source .limit)
 
--- src/cycle.rt:55:20
 image-anew-slice-read-word : (t : ℕ) → image-anew-lts.Need-slice-read-word (descend-reads.Asked, descend-reads.Learnt, image-start-below t, image-start.Post, image-up-below t, image-up.Post, note-reads.Asked, note-reads.Learnt, over-reads.Asked, over-reads.Learnt) (image-anew-at t) image-anew.Post image-anew-Inv-loop image-anew-μ-loop
 image-anew-slice-read-word t c = let g = c .before .before .loop .inv ((sized (c .before .before .before .before .before .before .before .before .before .before .before .before .before .before .before .before .before .before .before .before .before .before .before .args .rows .now) (c .before .before .before .before .before .before .before .before .before .before .before .before .before .before .before .before .before .before .before .before .before .before .before .args .twins .now))) (store (c .before .before .before .before .before .before .before .before .before .before .before .before .before .before .before .before .before .before .before .before .before .before .before .args .table .now) (c .before .before .before .before .before .before .before .before .before .before .before .before .before .before .before .before .before .before .before .before .before .before .before .args .originals .now)) (c .before .before .before .before .before .before .before .before .before .before .before .before .before .before .before .before .before .before .before .before .before .before .before .args .scratch .now) (climbing-begins (c .before .before .before .before .before .before .before .before .before .before .before .before .before .before .before .before .before .before .before .before .before .before .before .pre .1) (c .before .before .before .before .before .before .before .before .before .before .before .before .before .before .before .before .before .descend .ensures) (c .before .before .before .before .before .before .before .before .before .image-start .ensures) (c .before .before .before .before .before .before .before .before .before .before .before .before .before .before .before .before .before .descend .kept .1 .1 .1 .1 .0) (c .before .before .before .before .before .before .before .before .before .image-start .kept .1 .1 .1 .1 .1 .1 .1 .0) (c .before .before .before .before .before .before .before .before .before .image-start .kept .1 .1 .1 .1 .1 .0) (c .before .before .before .before .before .before .before .before .before .image-start .kept .1 .1 .1 .1 .1 .1 .0)) in omega (arith, c .before .loop-test .taken, g .row .source .memo, g .row .formula)
 
--- src/cycle.rt:55:20
 image-anew-cast-word : (t : ℕ) → image-anew-lts.Need-cast-word (descend-reads.Asked, descend-reads.Learnt, image-start-below t, image-start.Post, image-up-below t, image-up.Post, note-reads.Asked, note-reads.Learnt, over-reads.Asked, over-reads.Learnt) (image-anew-at t) image-anew.Post image-anew-Inv-loop image-anew-μ-loop
 image-anew-cast-word t c = omega (arith, c .slice-known8 .given (c .before .before .loop .j))
 
--- src/cycle.rt:56:9
 image-anew-image-up-requires : (t : ℕ) → image-anew-lts.Need-image-up-requires (descend-reads.Asked, descend-reads.Learnt, image-start-below t, image-start.Post, image-up-below t, image-up.Post, note-reads.Asked, note-reads.Learnt, over-reads.Asked, over-reads.Learnt) (image-anew-at t) image-anew.Post image-anew-Inv-loop image-anew-μ-loop
 image-anew-image-up-requires t c κs = let g = c .before .before .before .before .before .before .before .loop .inv ((sized (c .before .before .before .before .before .before .before .before .before .before .before .before .before .before .before .before .before .before .before .before .before .before .before .before .before .before .before .before .args .rows .now) (c .before .before .before .before .before .before .before .before .before .before .before .before .before .before .before .before .before .before .before .before .before .before .before .before .before .before .before .before .args .twins .now))) (store (c .before .before .before .before .before .before .before .before .before .before .before .before .before .before .before .before .before .before .before .before .before .before .before .before .before .before .before .before .args .table .now) (c .before .before .before .before .before .before .before .before .before .before .before .before .before .before .before .before .before .before .before .before .before .before .before .before .before .before .before .before .args .originals .now)) (c .before .before .before .before .before .before .before .before .before .before .before .before .before .before .before .before .before .before .before .before .before .before .before .before .before .before .before .before .args .scratch .now) (climbing-begins (c .before .before .before .before .before .before .before .before .before .before .before .before .before .before .before .before .before .before .before .before .before .before .before .before .before .before .before .before .pre .1) (c .before .before .before .before .before .before .before .before .before .before .before .before .before .before .before .before .before .before .before .before .before .before .descend .ensures) (c .before .before .before .before .before .before .before .before .before .before .before .before .before .before .image-start .ensures) (c .before .before .before .before .before .before .before .before .before .before .before .before .before .before .before .before .before .before .before .before .before .before .descend .kept .1 .1 .1 .1 .0) (c .before .before .before .before .before .before .before .before .before .before .before .before .before .before .image-start .kept .1 .1 .1 .1 .1 .1 .1 .0) (c .before .before .before .before .before .before .before .before .before .before .before .before .before .before .image-start .kept .1 .1 .1 .1 .1 .0) (c .before .before .before .before .before .before .before .before .before .before .before .before .before .before .image-start .kept .1 .1 .1 .1 .1 .1 .0)) in (omega (arith, c .before .before .before .before .before .before .before .before .before .before .before .before .before .before .before .before .before .before .before .before .before .before .before .before .before .before .before .before .pre .0, c .before .before .before .before .before .before .loop-test .taken), climbing-asks g (c .before .before .before .before .before .before .loop-test .taken))
 
--- src/cycle.rt:57:9
 image-anew-note-requires : (t : ℕ) → image-anew-lts.Need-note-requires (descend-reads.Asked, descend-reads.Learnt, image-start-below t, image-start.Post, image-up-below t, image-up.Post, note-reads.Asked, note-reads.Learnt, over-reads.Asked, over-reads.Learnt) (image-anew-at t) image-anew.Post image-anew-Inv-loop image-anew-μ-loop
 image-anew-note-requires t c κs = let g = c .before .before .before .before .before .before .before .before .before .before .before .before .before .before .before .loop .inv ((sized (c .before .before .before .before .before .before .before .before .before .before .before .before .before .before .before .before .before .before .before .before .before .before .before .before .before .before .before .before .before .before .before .before .before .before .before .before .args .rows .now) (c .before .before .before .before .before .before .before .before .before .before .before .before .before .before .before .before .before .before .before .before .before .before .before .before .before .before .before .before .before .before .before .before .before .before .before .before .args .twins .now))) (store (c .before .before .before .before .before .before .before .before .before .before .before .before .before .before .before .before .before .before .before .before .before .before .before .before .before .before .before .before .before .before .before .before .before .before .before .before .args .table .now) (c .before .before .before .before .before .before .before .before .before .before .before .before .before .before .before .before .before .before .before .before .before .before .before .before .before .before .before .before .before .before .before .before .before .before .before .before .args .originals .now)) (c .before .before .before .before .before .before .before .before .before .before .before .before .before .before .before .before .before .before .before .before .before .before .before .before .before .before .before .before .before .before .before .before .before .before .before .before .args .scratch .now) (climbing-begins (c .before .before .before .before .before .before .before .before .before .before .before .before .before .before .before .before .before .before .before .before .before .before .before .before .before .before .before .before .before .before .before .before .before .before .before .before .pre .1) (c .before .before .before .before .before .before .before .before .before .before .before .before .before .before .before .before .before .before .before .before .before .before .before .before .before .before .before .before .before .before .descend .ensures) (c .before .before .before .before .before .before .before .before .before .before .before .before .before .before .before .before .before .before .before .before .before .before .image-start .ensures) (c .before .before .before .before .before .before .before .before .before .before .before .before .before .before .before .before .before .before .before .before .before .before .before .before .before .before .before .before .before .before .descend .kept .1 .1 .1 .1 .0) (c .before .before .before .before .before .before .before .before .before .before .before .before .before .before .before .before .before .before .before .before .before .before .image-start .kept .1 .1 .1 .1 .1 .1 .1 .0) (c .before .before .before .before .before .before .before .before .before .before .before .before .before .before .before .before .before .before .before .before .before .before .image-start .kept .1 .1 .1 .1 .1 .0) (c .before .before .before .before .before .before .before .before .before .before .before .before .before .before .before .before .before .before .before .before .before .before .image-start .kept .1 .1 .1 .1 .1 .1 .0)) in let q = climbing-notes g (c .before .before .before .before .before .before .before .before .before .before .before .before .before .before .loop-test .taken) (c .before .before .before .before .before .before .before .image-up .ensures) (c .before .before .before .before .before .before .before .image-up .kept .1 .1 .1 .1 .1 .1 .1 .1 .0) in record { room = q .room; small = q .small }
 
--- src/cycle.rt:58:9
 image-anew-over-requires : (t : ℕ) → image-anew-lts.Need-over-requires (descend-reads.Asked, descend-reads.Learnt, image-start-below t, image-start.Post, image-up-below t, image-up.Post, note-reads.Asked, note-reads.Learnt, over-reads.Asked, over-reads.Learnt) (image-anew-at t) image-anew.Post image-anew-Inv-loop image-anew-μ-loop
 image-anew-over-requires t c κs = let g = c .before .before .before .before .before .before .before .before .before .before .before .before .before .before .before .before .before .before .loop .inv ((sized (c .before .before .before .before .before .before .before .before .before .before .before .before .before .before .before .before .before .before .before .before .before .before .before .before .before .before .before .before .before .before .before .before .before .before .before .before .before .before .before .args .rows .now) (c .before .before .before .before .before .before .before .before .before .before .before .before .before .before .before .before .before .before .before .before .before .before .before .before .before .before .before .before .before .before .before .before .before .before .before .before .before .before .before .args .twins .now))) (store (c .before .before .before .before .before .before .before .before .before .before .before .before .before .before .before .before .before .before .before .before .before .before .before .before .before .before .before .before .before .before .before .before .before .before .before .before .before .before .before .args .table .now) (c .before .before .before .before .before .before .before .before .before .before .before .before .before .before .before .before .before .before .before .before .before .before .before .before .before .before .before .before .before .before .before .before .before .before .before .before .before .before .before .args .originals .now)) (c .before .before .before .before .before .before .before .before .before .before .before .before .before .before .before .before .before .before .before .before .before .before .before .before .before .before .before .before .before .before .before .before .before .before .before .before .before .before .before .args .scratch .now) (climbing-begins (c .before .before .before .before .before .before .before .before .before .before .before .before .before .before .before .before .before .before .before .before .before .before .before .before .before .before .before .before .before .before .before .before .before .before .before .before .before .before .before .pre .1) (c .before .before .before .before .before .before .before .before .before .before .before .before .before .before .before .before .before .before .before .before .before .before .before .before .before .before .before .before .before .before .before .before .before .descend .ensures) (c .before .before .before .before .before .before .before .before .before .before .before .before .before .before .before .before .before .before .before .before .before .before .before .before .before .image-start .ensures) (c .before .before .before .before .before .before .before .before .before .before .before .before .before .before .before .before .before .before .before .before .before .before .before .before .before .before .before .before .before .before .before .before .before .descend .kept .1 .1 .1 .1 .0) (c .before .before .before .before .before .before .before .before .before .before .before .before .before .before .before .before .before .before .before .before .before .before .before .before .before .image-start .kept .1 .1 .1 .1 .1 .1 .1 .0) (c .before .before .before .before .before .before .before .before .before .before .before .before .before .before .before .before .before .before .before .before .before .before .before .before .before .image-start .kept .1 .1 .1 .1 .1 .0) (c .before .before .before .before .before .before .before .before .before .before .before .before .before .before .before .before .before .before .before .before .before .before .before .before .before .image-start .kept .1 .1 .1 .1 .1 .1 .0)) in (omega (arith, c .before .before .before .before .before .before .before .before .before .before .before .before .before .before .before .before .before .before .before .before .before .before .before .before .before .before .before .before .before .before .before .before .before .before .before .before .before .before .before .pre .1 .formula, c .before .before .before .before .before .before .before .before .before .before .before .before .before .before .before .before .before .before .before .before .before .before .before .before .before .before .before .before .before .before .before .before .before .before .before .before .before .before .before .pre .1 .source .limit), climbing-word g (c .before .before .before .before .before .before .before .before .before .before .before .before .before .before .before .before .before .loop-test .taken) (getD (c .before .before .before .before .before .before .before .before .before .before .before .before .before .before .before .before .before .before .loop .scratch) (c .before .before .before .before .before .before .before .before .before .before .before .before .before .before .before .before .before .before .loop .j) 0) refl)
 
--- src/cycle.rt:54:5
 image-anew-loop-less : (t : ℕ) → image-anew-lts.Need-loop-less (descend-reads.Asked, descend-reads.Learnt, image-start-below t, image-start.Post, image-up-below t, image-up.Post, note-reads.Asked, note-reads.Learnt, over-reads.Asked, over-reads.Learnt) (image-anew-at t) image-anew.Post image-anew-Inv-loop image-anew-μ-loop
 image-anew-loop-less t c = let g = c .before .before .before .before .before .before .before .before .before .before .before .before .before .before .before .before .before .before .before .loop .inv ((sized (c .before .before .before .before .before .before .before .before .before .before .before .before .before .before .before .before .before .before .before .before .before .before .before .before .before .before .before .before .before .before .before .before .before .before .before .before .before .before .before .before .args .rows .now) (c .before .before .before .before .before .before .before .before .before .before .before .before .before .before .before .before .before .before .before .before .before .before .before .before .before .before .before .before .before .before .before .before .before .before .before .before .before .before .before .before .args .twins .now))) (store (c .before .before .before .before .before .before .before .before .before .before .before .before .before .before .before .before .before .before .before .before .before .before .before .before .before .before .before .before .before .before .before .before .before .before .before .before .before .before .before .before .args .table .now) (c .before .before .before .before .before .before .before .before .before .before .before .before .before .before .before .before .before .before .before .before .before .before .before .before .before .before .before .before .before .before .before .before .before .before .before .before .before .before .before .before .args .originals .now)) (c .before .before .before .before .before .before .before .before .before .before .before .before .before .before .before .before .before .before .before .before .before .before .before .before .before .before .before .before .before .before .before .before .before .before .before .before .before .before .before .before .args .scratch .now) (climbing-begins (c .before .before .before .before .before .before .before .before .before .before .before .before .before .before .before .before .before .before .before .before .before .before .before .before .before .before .before .before .before .before .before .before .before .before .before .before .before .before .before .before .pre .1) (c .before .before .before .before .before .before .before .before .before .before .before .before .before .before .before .before .before .before .before .before .before .before .before .before .before .before .before .before .before .before .before .before .before .before .descend .ensures) (c .before .before .before .before .before .before .before .before .before .before .before .before .before .before .before .before .before .before .before .before .before .before .before .before .before .before .image-start .ensures) (c .before .before .before .before .before .before .before .before .before .before .before .before .before .before .before .before .before .before .before .before .before .before .before .before .before .before .before .before .before .before .before .before .before .before .descend .kept .1 .1 .1 .1 .0) (c .before .before .before .before .before .before .before .before .before .before .before .before .before .before .before .before .before .before .before .before .before .before .before .before .before .before .image-start .kept .1 .1 .1 .1 .1 .1 .1 .0) (c .before .before .before .before .before .before .before .before .before .before .before .before .before .before .before .before .before .before .before .before .before .before .before .before .before .before .image-start .kept .1 .1 .1 .1 .1 .0) (c .before .before .before .before .before .before .before .before .before .before .before .before .before .before .before .before .before .before .before .before .before .before .before .before .before .before .image-start .kept .1 .1 .1 .1 .1 .1 .0)) in let h : c .before .before .before .before .before .before .before .before .before .before .before .before .before .before .before .before .before .before .before .loop .j < c .over .result = rw (c .over .ensures) (climbing-rises g (c .before .before .before .before .before .before .before .before .before .before .before .before .before .before .before .before .before .before .loop-test .taken) (getD (c .before .before .before .before .before .before .before .before .before .before .before .before .before .before .before .before .before .before .before .loop .scratch) (c .before .before .before .before .before .before .before .before .before .before .before .before .before .before .before .before .before .before .before .loop .j) 0) refl) in omega (arith, h, c .before .before .before .before .before .before .before .before .before .before .before .before .before .before .before .before .before .before .loop-test .taken)
 
--- src/cycle.rt:54:5
 image-anew-loop-again : (t : ℕ) → image-anew-lts.Need-loop-again (descend-reads.Asked, descend-reads.Learnt, image-start-below t, image-start.Post, image-up-below t, image-up.Post, note-reads.Asked, note-reads.Learnt, over-reads.Asked, over-reads.Learnt) (image-anew-at t) image-anew.Post image-anew-Inv-loop image-anew-μ-loop
 image-anew-loop-again t c = λ at before entry b. rw (c .before .before .before .note .ensures, c .over .ensures) (climbing-more (c .before .before .before .before .before .before .before .before .before .before .before .before .before .before .before .before .before .before .before .loop .inv at before entry b) (c .before .before .before .before .before .before .before .before .before .before .before .before .before .before .before .before .before .before .loop-test .taken) (getD (c .before .before .before .before .before .before .before .before .before .before .before .before .before .before .before .before .before .before .before .loop .scratch) (c .before .before .before .before .before .before .before .before .before .before .before .before .before .before .before .before .before .before .before .loop .j) 0) refl (c .before .before .before .before .before .before .before .before .before .before .before .image-up .ensures) (c .before .before .before .before .before .before .before .before .before .before .before .image-up .kept .1 .1 .1 .1 .1 .1 .1 .1 .0) (c .before .before .before .before .before .before .before .before .before .before .before .image-up .kept .1 .1 .1 .1 .1 .1 .0) (c .before .before .before .before .before .before .before .before .before .before .before .image-up .kept .1 .1 .1 .1 .1 .1 .1 .0))
 
--- src/cycle.rt:39:1
 image-anew-same-length : (t : ℕ) → image-anew-lts.Need-same-length (descend-reads.Asked, descend-reads.Learnt, image-start-below t, image-start.Post, image-up-below t, image-up.Post, note-reads.Asked, note-reads.Learnt, over-reads.Asked, over-reads.Learnt) (image-anew-at t) image-anew.Post image-anew-Inv-loop image-anew-μ-loop
 image-anew-same-length t c = let g = c .before .loop .inv ((sized (c .before .before .before .before .before .before .before .before .before .before .before .before .before .before .before .before .before .before .before .before .before .before .args .rows .now) (c .before .before .before .before .before .before .before .before .before .before .before .before .before .before .before .before .before .before .before .before .before .before .args .twins .now))) (store (c .before .before .before .before .before .before .before .before .before .before .before .before .before .before .before .before .before .before .before .before .before .before .args .table .now) (c .before .before .before .before .before .before .before .before .before .before .before .before .before .before .before .before .before .before .before .before .before .before .args .originals .now)) (c .before .before .before .before .before .before .before .before .before .before .before .before .before .before .before .before .before .before .before .before .before .before .args .scratch .now) (climbing-begins (c .before .before .before .before .before .before .before .before .before .before .before .before .before .before .before .before .before .before .before .before .before .before .pre .1) (c .before .before .before .before .before .before .before .before .before .before .before .before .before .before .before .before .descend .ensures) (c .before .before .before .before .before .before .before .before .image-start .ensures) (c .before .before .before .before .before .before .before .before .before .before .before .before .before .before .before .before .descend .kept .1 .1 .1 .1 .0) (c .before .before .before .before .before .before .before .before .image-start .kept .1 .1 .1 .1 .1 .1 .1 .0) (c .before .before .before .before .before .before .before .before .image-start .kept .1 .1 .1 .1 .1 .0) (c .before .before .before .before .before .before .before .before .image-start .kept .1 .1 .1 .1 .1 .1 .0)) in g .table
 
--- src/cycle.rt:39:1
 image-anew-same-length-2 : (t : ℕ) → image-anew-lts.Need-same-length-2 (descend-reads.Asked, descend-reads.Learnt, image-start-below t, image-start.Post, image-up-below t, image-up.Post, note-reads.Asked, note-reads.Learnt, over-reads.Asked, over-reads.Learnt) (image-anew-at t) image-anew.Post image-anew-Inv-loop image-anew-μ-loop
 image-anew-same-length-2 t c = let g = c .before .loop .inv ((sized (c .before .before .before .before .before .before .before .before .before .before .before .before .before .before .before .before .before .before .before .before .before .before .args .rows .now) (c .before .before .before .before .before .before .before .before .before .before .before .before .before .before .before .before .before .before .before .before .before .before .args .twins .now))) (store (c .before .before .before .before .before .before .before .before .before .before .before .before .before .before .before .before .before .before .before .before .before .before .args .table .now) (c .before .before .before .before .before .before .before .before .before .before .before .before .before .before .before .before .before .before .before .before .before .before .args .originals .now)) (c .before .before .before .before .before .before .before .before .before .before .before .before .before .before .before .before .before .before .before .before .before .before .args .scratch .now) (climbing-begins (c .before .before .before .before .before .before .before .before .before .before .before .before .before .before .before .before .before .before .before .before .before .before .pre .1) (c .before .before .before .before .before .before .before .before .before .before .before .before .before .before .before .before .descend .ensures) (c .before .before .before .before .before .before .before .before .image-start .ensures) (c .before .before .before .before .before .before .before .before .before .before .before .before .before .before .before .before .descend .kept .1 .1 .1 .1 .0) (c .before .before .before .before .before .before .before .before .image-start .kept .1 .1 .1 .1 .1 .1 .1 .0) (c .before .before .before .before .before .before .before .before .image-start .kept .1 .1 .1 .1 .1 .0) (c .before .before .before .before .before .before .before .before .image-start .kept .1 .1 .1 .1 .1 .1 .0)) in g .originals
 
--- src/cycle.rt:39:1
 image-anew-same-length-3 : (t : ℕ) → image-anew-lts.Need-same-length-3 (descend-reads.Asked, descend-reads.Learnt, image-start-below t, image-start.Post, image-up-below t, image-up.Post, note-reads.Asked, note-reads.Learnt, over-reads.Asked, over-reads.Learnt) (image-anew-at t) image-anew.Post image-anew-Inv-loop image-anew-μ-loop
 image-anew-same-length-3 t c = let g = c .before .loop .inv ((sized (c .before .before .before .before .before .before .before .before .before .before .before .before .before .before .before .before .before .before .before .before .before .before .args .rows .now) (c .before .before .before .before .before .before .before .before .before .before .before .before .before .before .before .before .before .before .before .before .before .before .args .twins .now))) (store (c .before .before .before .before .before .before .before .before .before .before .before .before .before .before .before .before .before .before .before .before .before .before .args .table .now) (c .before .before .before .before .before .before .before .before .before .before .before .before .before .before .before .before .before .before .before .before .before .before .args .originals .now)) (c .before .before .before .before .before .before .before .before .before .before .before .before .before .before .before .before .before .before .before .before .before .before .args .scratch .now) (climbing-begins (c .before .before .before .before .before .before .before .before .before .before .before .before .before .before .before .before .before .before .before .before .before .before .pre .1) (c .before .before .before .before .before .before .before .before .before .before .before .before .before .before .before .before .descend .ensures) (c .before .before .before .before .before .before .before .before .image-start .ensures) (c .before .before .before .before .before .before .before .before .before .before .before .before .before .before .before .before .descend .kept .1 .1 .1 .1 .0) (c .before .before .before .before .before .before .before .before .image-start .kept .1 .1 .1 .1 .1 .1 .1 .0) (c .before .before .before .before .before .before .before .before .image-start .kept .1 .1 .1 .1 .1 .0) (c .before .before .before .before .before .before .before .before .image-start .kept .1 .1 .1 .1 .1 .1 .0)) in g .long
 
--- src/cycle.rt:39:1
 image-anew-returns : (t : ℕ) → image-anew-lts.Need-returns (descend-reads.Asked, descend-reads.Learnt, image-start-below t, image-start.Post, image-up-below t, image-up.Post, note-reads.Asked, note-reads.Learnt, over-reads.Asked, over-reads.Learnt) (image-anew-at t) image-anew.Post image-anew-Inv-loop image-anew-μ-loop
 image-anew-returns t c = let g = c .before .loop .inv ((sized (c .before .before .before .before .before .before .before .before .before .before .before .before .before .before .before .before .before .before .before .before .before .before .args .rows .now) (c .before .before .before .before .before .before .before .before .before .before .before .before .before .before .before .before .before .before .before .before .before .before .args .twins .now))) (store (c .before .before .before .before .before .before .before .before .before .before .before .before .before .before .before .before .before .before .before .before .before .before .args .table .now) (c .before .before .before .before .before .before .before .before .before .before .before .before .before .before .before .before .before .before .before .before .before .before .args .originals .now)) (c .before .before .before .before .before .before .before .before .before .before .before .before .before .before .before .before .before .before .before .before .before .before .args .scratch .now) (climbing-begins (c .before .before .before .before .before .before .before .before .before .before .before .before .before .before .before .before .before .before .before .before .before .before .pre .1) (c .before .before .before .before .before .before .before .before .before .before .before .before .before .before .before .before .descend .ensures) (c .before .before .before .before .before .before .before .before .image-start .ensures) (c .before .before .before .before .before .before .before .before .before .before .before .before .before .before .before .before .descend .kept .1 .1 .1 .1 .0) (c .before .before .before .before .before .before .before .before .image-start .kept .1 .1 .1 .1 .1 .1 .1 .0) (c .before .before .before .before .before .before .before .before .image-start .kept .1 .1 .1 .1 .1 .0) (c .before .before .before .before .before .before .before .before .image-start .kept .1 .1 .1 .1 .1 .1 .0)) in climbing-ends g (c .loop-test .left)
 
--- src/cycle.rt:77:9
 image-start-read-row-requires : (t : ℕ) → image-start-lts.Need-read-row-requires (read-row-reads.Asked, read-row-reads.Learnt, keeps-side-reads.Asked, keeps-side-reads.Learnt, image-below t, image.Post, negated-image-below t, negated-image.Post) (image-start-at t) image-start.Post
 image-start-read-row-requires t c κs = omega (arith, c .before .before .before .before .pre .1 .source .words, c .before .before .before .before .pre .1 .formula)
 
--- src/cycle.rt:79:9
 image-start-returns : (t : ℕ) → image-start-lts.Need-returns (read-row-reads.Asked, read-row-reads.Learnt, keeps-side-reads.Asked, keeps-side-reads.Learnt, image-below t, image.Post, negated-image-below t, negated-image.Post) (image-start-at t) image-start.Post
-image-start-returns t c = (start-none (c .before .before .before .before .before .before .before .args .frame) (c .before .before .before .before .before .before .before .args .formulas .now) (c .before .before .before .before .before .before .before .args .scratch .now) (c .before .before .before .before .before .before .before .args .j) (asks-row (c .before .before .before .before .before .before .before .pre .1)) (c .before .before .read-row .result) (c .before .before .read-row .ensures) plain (c .if1 .taken) (c .before .before .before .before .before .before .before .pre .1))
+image-start-returns t c = (start-none (framed (c .before .before .before .before .before .before .before .args .frame .now)) (c .before .before .before .before .before .before .before .args .formulas .now) (c .before .before .before .before .before .before .before .args .scratch .now) (c .before .before .before .before .before .before .before .args .j) (asks-row (c .before .before .before .before .before .before .before .pre .1)) (c .before .before .read-row .result) (c .before .before .read-row .ensures) plain (c .if1 .taken) (c .before .before .before .before .before .before .before .pre .1))
 
--- src/cycle.rt:81:8
 image-start-keeps-side-requires : (t : ℕ) → image-start-lts.Need-keeps-side-requires (read-row-reads.Asked, read-row-reads.Learnt, keeps-side-reads.Asked, keeps-side-reads.Learnt, image-below t, image.Post, negated-image-below t, negated-image.Post) (image-start-at t) image-start.Post
 image-start-keeps-side-requires t c κs = search needs
 
--- src/cycle.rt:82:32
 image-start-cast-image : (t : ℕ) → image-start-lts.Need-cast-image (read-row-reads.Asked, read-row-reads.Learnt, keeps-side-reads.Asked, keeps-side-reads.Learnt, image-below t, image.Post, negated-image-below t, negated-image.Post) (image-start-at t) image-start.Post
 image-start-cast-image t c = search needs
 
--- src/cycle.rt:82:9
 image-start-image-requires : (t : ℕ) → image-start-lts.Need-image-requires (read-row-reads.Asked, read-row-reads.Learnt, keeps-side-reads.Asked, keeps-side-reads.Learnt, image-below t, image.Post, negated-image-below t, negated-image.Post) (image-start-at t) image-start.Post
-image-start-image-requires t c κs = (omega (arith, c .before .before .before .before .before .before .before .before .before .before .before .before .before .before .before .pre .0, left-lower (c .before .before .before .before .before .before .before .before .before .before .before .before .before .before .before .args .frame) (c .before .before .before .before .before .before .before .before .before .before .before .before .before .before .before .args .formulas .now) (c .before .before .before .before .before .before .before .before .before .before .before .before .before .before .before .args .scratch .now) (c .before .before .before .before .before .before .before .before .before .before .before .before .before .before .before .args .j) (asks-row (c .before .before .before .before .before .before .before .before .before .before .before .before .before .before .before .pre .1)) (c .before .before .before .before .before .before .before .before .before .before .read-row .result) (c .before .before .before .before .before .before .before .before .before .before .read-row .ensures) (c .before .before .before .before .before .before .before .before .if1 .left)), asks-lower (c .before .before .before .before .before .before .before .before .before .before .before .before .before .before .before .pre .1) (left-lower (c .before .before .before .before .before .before .before .before .before .before .before .before .before .before .before .args .frame) (c .before .before .before .before .before .before .before .before .before .before .before .before .before .before .before .args .formulas .now) (c .before .before .before .before .before .before .before .before .before .before .before .before .before .before .before .args .scratch .now) (c .before .before .before .before .before .before .before .before .before .before .before .before .before .before .before .args .j) (asks-row (c .before .before .before .before .before .before .before .before .before .before .before .before .before .before .before .pre .1)) (c .before .before .before .before .before .before .before .before .before .before .read-row .result) (c .before .before .before .before .before .before .before .before .before .before .read-row .ensures) (c .before .before .before .before .before .before .before .before .if1 .left)))
+image-start-image-requires t c κs = (omega (arith, c .before .before .before .before .before .before .before .before .before .before .before .before .before .before .before .pre .0, left-lower (framed (c .before .before .before .before .before .before .before .before .before .before .before .before .before .before .before .args .frame .now)) (c .before .before .before .before .before .before .before .before .before .before .before .before .before .before .before .args .formulas .now) (c .before .before .before .before .before .before .before .before .before .before .before .before .before .before .before .args .scratch .now) (c .before .before .before .before .before .before .before .before .before .before .before .before .before .before .before .args .j) (asks-row (c .before .before .before .before .before .before .before .before .before .before .before .before .before .before .before .pre .1)) (c .before .before .before .before .before .before .before .before .before .before .read-row .result) (c .before .before .before .before .before .before .before .before .before .before .read-row .ensures) (c .before .before .before .before .before .before .before .before .if1 .left)), asks-lower (c .before .before .before .before .before .before .before .before .before .before .before .before .before .before .before .pre .1) (left-lower (framed (c .before .before .before .before .before .before .before .before .before .before .before .before .before .before .before .args .frame .now)) (c .before .before .before .before .before .before .before .before .before .before .before .before .before .before .before .args .formulas .now) (c .before .before .before .before .before .before .before .before .before .before .before .before .before .before .before .args .scratch .now) (c .before .before .before .before .before .before .before .before .before .before .before .before .before .before .before .args .j) (asks-row (c .before .before .before .before .before .before .before .before .before .before .before .before .before .before .before .pre .1)) (c .before .before .before .before .before .before .before .before .before .before .read-row .result) (c .before .before .before .before .before .before .before .before .before .before .read-row .ensures) (c .before .before .before .before .before .before .before .before .if1 .left)))
 
--- src/cycle.rt:82:9
 image-start-same-length : (t : ℕ) → image-start-lts.Need-same-length (read-row-reads.Asked, read-row-reads.Learnt, keeps-side-reads.Asked, keeps-side-reads.Learnt, image-below t, image.Post, negated-image-below t, negated-image.Post) (image-start-at t) image-start.Post
 image-start-same-length t c = c .before .before .before .before .before .before .image .kept .1 .1 .1 .1 .1 .0
 
--- src/cycle.rt:82:9
 image-start-same-length-2 : (t : ℕ) → image-start-lts.Need-same-length-2 (read-row-reads.Asked, read-row-reads.Learnt, keeps-side-reads.Asked, keeps-side-reads.Learnt, image-below t, image.Post, negated-image-below t, negated-image.Post) (image-start-at t) image-start.Post
 image-start-same-length-2 t c = c .before .before .before .before .before .before .image .kept .1 .1 .1 .1 .1 .1 .0
 
--- src/cycle.rt:82:9
 image-start-same-length-3 : (t : ℕ) → image-start-lts.Need-same-length-3 (read-row-reads.Asked, read-row-reads.Learnt, keeps-side-reads.Asked, keeps-side-reads.Learnt, image-below t, image.Post, negated-image-below t, negated-image.Post) (image-start-at t) image-start.Post
 image-start-same-length-3 t c = c .before .before .before .before .before .before .image .kept .1 .1 .1 .1 .1 .1 .1 .0
 
--- src/cycle.rt:82:9
 image-start-returns-2 : (t : ℕ) → image-start-lts.Need-returns-2 (read-row-reads.Asked, read-row-reads.Learnt, keeps-side-reads.Asked, keeps-side-reads.Learnt, image-below t, image.Post, negated-image-below t, negated-image.Post) (image-start-at t) image-start.Post
-image-start-returns-2 t c = start-own (c .before .before .before .before .before .before .before .before .before .before .before .before .before .before .before .before .before .before .before .before .before .before .args .frame) (c .before .before .before .before .before .before .before .before .before .before .before .before .before .before .before .before .before .before .before .before .before .before .args .formulas .now) (c .before .before .before .before .before .before .before .before .before .before .before .before .before .before .before .before .before .before .before .before .before .before .args .scratch .now) (c .before .before .before .before .before .before .before .before .before .before .before .before .before .before .before .before .before .before .before .before .before .before .args .j) (asks-row (c .before .before .before .before .before .before .before .before .before .before .before .before .before .before .before .before .before .before .before .before .before .before .pre .1)) (c .before .before .before .before .before .before .before .before .before .before .before .before .before .before .before .before .before .read-row .result) (c .before .before .before .before .before .before .before .before .before .before .before .before .before .before .before .before .before .read-row .ensures) plain (c .before .before .before .before .before .before .before .before .before .before .before .before .before .before .before .if1 .left) (sym (c .before .before .before .before .before .before .before .before .before .before .before .before .before .before .keeps-side .ensures) ∙ c .before .before .before .before .before .before .before .before .before .before .before .before .before .if2 .taken) (c .before .before .before .before .before .before .image .ensures)
+image-start-returns-2 t c = start-own (framed (c .before .before .before .before .before .before .before .before .before .before .before .before .before .before .before .before .before .before .before .before .before .before .args .frame .now)) (c .before .before .before .before .before .before .before .before .before .before .before .before .before .before .before .before .before .before .before .before .before .before .args .formulas .now) (c .before .before .before .before .before .before .before .before .before .before .before .before .before .before .before .before .before .before .before .before .before .before .args .scratch .now) (c .before .before .before .before .before .before .before .before .before .before .before .before .before .before .before .before .before .before .before .before .before .before .args .j) (asks-row (c .before .before .before .before .before .before .before .before .before .before .before .before .before .before .before .before .before .before .before .before .before .before .pre .1)) (c .before .before .before .before .before .before .before .before .before .before .before .before .before .before .before .before .before .read-row .result) (c .before .before .before .before .before .before .before .before .before .before .before .before .before .before .before .before .before .read-row .ensures) plain (c .before .before .before .before .before .before .before .before .before .before .before .before .before .before .before .if1 .left) (sym (c .before .before .before .before .before .before .before .before .before .before .before .before .before .before .keeps-side .ensures) ∙ c .before .before .before .before .before .before .before .before .before .before .before .before .before .if2 .taken) (c .before .before .before .before .before .before .image .ensures)
 
--- src/cycle.rt:84:29
 image-start-cast-negated-image : (t : ℕ) → image-start-lts.Need-cast-negated-image (read-row-reads.Asked, read-row-reads.Learnt, keeps-side-reads.Asked, keeps-side-reads.Learnt, image-below t, image.Post, negated-image-below t, negated-image.Post) (image-start-at t) image-start.Post
 image-start-cast-negated-image t c = search needs
 
--- src/cycle.rt:84:5
 image-start-negated-image-requires : (t : ℕ) → image-start-lts.Need-negated-image-requires (read-row-reads.Asked, read-row-reads.Learnt, keeps-side-reads.Asked, keeps-side-reads.Learnt, image-below t, image.Post, negated-image-below t, negated-image.Post) (image-start-at t) image-start.Post
-image-start-negated-image-requires t c κs = (omega (arith, c .before .before .before .before .before .before .before .before .before .before .before .before .before .before .before .pre .0, left-lower (c .before .before .before .before .before .before .before .before .before .before .before .before .before .before .before .args .frame) (c .before .before .before .before .before .before .before .before .before .before .before .before .before .before .before .args .formulas .now) (c .before .before .before .before .before .before .before .before .before .before .before .before .before .before .before .args .scratch .now) (c .before .before .before .before .before .before .before .before .before .before .before .before .before .before .before .args .j) (asks-row (c .before .before .before .before .before .before .before .before .before .before .before .before .before .before .before .pre .1)) (c .before .before .before .before .before .before .before .before .before .before .read-row .result) (c .before .before .before .before .before .before .before .before .before .before .read-row .ensures) (c .before .before .before .before .before .before .before .before .if1 .left)), asks-lower (c .before .before .before .before .before .before .before .before .before .before .before .before .before .before .before .pre .1) (left-lower (c .before .before .before .before .before .before .before .before .before .before .before .before .before .before .before .args .frame) (c .before .before .before .before .before .before .before .before .before .before .before .before .before .before .before .args .formulas .now) (c .before .before .before .before .before .before .before .before .before .before .before .before .before .before .before .args .scratch .now) (c .before .before .before .before .before .before .before .before .before .before .before .before .before .before .before .args .j) (asks-row (c .before .before .before .before .before .before .before .before .before .before .before .before .before .before .before .pre .1)) (c .before .before .before .before .before .before .before .before .before .before .read-row .result) (c .before .before .before .before .before .before .before .before .before .before .read-row .ensures) (c .before .before .before .before .before .before .before .before .if1 .left)))
+image-start-negated-image-requires t c κs = (omega (arith, c .before .before .before .before .before .before .before .before .before .before .before .before .before .before .before .pre .0, left-lower (framed (c .before .before .before .before .before .before .before .before .before .before .before .before .before .before .before .args .frame .now)) (c .before .before .before .before .before .before .before .before .before .before .before .before .before .before .before .args .formulas .now) (c .before .before .before .before .before .before .before .before .before .before .before .before .before .before .before .args .scratch .now) (c .before .before .before .before .before .before .before .before .before .before .before .before .before .before .before .args .j) (asks-row (c .before .before .before .before .before .before .before .before .before .before .before .before .before .before .before .pre .1)) (c .before .before .before .before .before .before .before .before .before .before .read-row .result) (c .before .before .before .before .before .before .before .before .before .before .read-row .ensures) (c .before .before .before .before .before .before .before .before .if1 .left)), asks-lower (c .before .before .before .before .before .before .before .before .before .before .before .before .before .before .before .pre .1) (left-lower (framed (c .before .before .before .before .before .before .before .before .before .before .before .before .before .before .before .args .frame .now)) (c .before .before .before .before .before .before .before .before .before .before .before .before .before .before .before .args .formulas .now) (c .before .before .before .before .before .before .before .before .before .before .before .before .before .before .before .args .scratch .now) (c .before .before .before .before .before .before .before .before .before .before .before .before .before .before .before .args .j) (asks-row (c .before .before .before .before .before .before .before .before .before .before .before .before .before .before .before .pre .1)) (c .before .before .before .before .before .before .before .before .before .before .read-row .result) (c .before .before .before .before .before .before .before .before .before .before .read-row .ensures) (c .before .before .before .before .before .before .before .before .if1 .left)))
 
--- src/cycle.rt:64:1
 image-start-same-length-4 : (t : ℕ) → image-start-lts.Need-same-length-4 (read-row-reads.Asked, read-row-reads.Learnt, keeps-side-reads.Asked, keeps-side-reads.Learnt, image-below t, image.Post, negated-image-below t, negated-image.Post) (image-start-at t) image-start.Post
 image-start-same-length-4 t c = c .before .before .before .before .before .before .negated-image .kept .1 .1 .1 .1 .1 .0
 
--- src/cycle.rt:64:1
 image-start-same-length-5 : (t : ℕ) → image-start-lts.Need-same-length-5 (read-row-reads.Asked, read-row-reads.Learnt, keeps-side-reads.Asked, keeps-side-reads.Learnt, image-below t, image.Post, negated-image-below t, negated-image.Post) (image-start-at t) image-start.Post
 image-start-same-length-5 t c = c .before .before .before .before .before .before .negated-image .kept .1 .1 .1 .1 .1 .1 .0
 
--- src/cycle.rt:64:1
 image-start-same-length-6 : (t : ℕ) → image-start-lts.Need-same-length-6 (read-row-reads.Asked, read-row-reads.Learnt, keeps-side-reads.Asked, keeps-side-reads.Learnt, image-below t, image.Post, negated-image-below t, negated-image.Post) (image-start-at t) image-start.Post
 image-start-same-length-6 t c = c .before .before .before .before .before .before .negated-image .kept .1 .1 .1 .1 .1 .1 .1 .0
 
--- src/cycle.rt:64:1
 image-start-returns-3 : (t : ℕ) → image-start-lts.Need-returns-3 (read-row-reads.Asked, read-row-reads.Learnt, keeps-side-reads.Asked, keeps-side-reads.Learnt, image-below t, image.Post, negated-image-below t, negated-image.Post) (image-start-at t) image-start.Post
-image-start-returns-3 t c = start-other (c .before .before .before .before .before .before .before .before .before .before .before .before .before .before .before .before .before .before .before .before .before .before .args .frame) (c .before .before .before .before .before .before .before .before .before .before .before .before .before .before .before .before .before .before .before .before .before .before .args .formulas .now) (c .before .before .before .before .before .before .before .before .before .before .before .before .before .before .before .before .before .before .before .before .before .before .args .scratch .now) (c .before .before .before .before .before .before .before .before .before .before .before .before .before .before .before .before .before .before .before .before .before .before .args .j) (asks-row (c .before .before .before .before .before .before .before .before .before .before .before .before .before .before .before .before .before .before .before .before .before .before .pre .1)) (c .before .before .before .before .before .before .before .before .before .before .before .before .before .before .before .before .before .read-row .result) (c .before .before .before .before .before .before .before .before .before .before .before .before .before .before .before .before .before .read-row .ensures) plain (c .before .before .before .before .before .before .before .before .before .before .before .before .before .before .before .if1 .left) (sym (c .before .before .before .before .before .before .before .before .before .before .before .before .before .before .keeps-side .ensures) ∙ c .before .before .before .before .before .before .before .before .before .before .before .before .before .if2 .left) (c .before .before .before .before .before .before .negated-image .ensures)
+image-start-returns-3 t c = start-other (framed (c .before .before .before .before .before .before .before .before .before .before .before .before .before .before .before .before .before .before .before .before .before .before .args .frame .now)) (c .before .before .before .before .before .before .before .before .before .before .before .before .before .before .before .before .before .before .before .before .before .before .args .formulas .now) (c .before .before .before .before .before .before .before .before .before .before .before .before .before .before .before .before .before .before .before .before .before .before .args .scratch .now) (c .before .before .before .before .before .before .before .before .before .before .before .before .before .before .before .before .before .before .before .before .before .before .args .j) (asks-row (c .before .before .before .before .before .before .before .before .before .before .before .before .before .before .before .before .before .before .before .before .before .before .pre .1)) (c .before .before .before .before .before .before .before .before .before .before .before .before .before .before .before .before .before .read-row .result) (c .before .before .before .before .before .before .before .before .before .before .before .before .before .before .before .before .before .read-row .ensures) plain (c .before .before .before .before .before .before .before .before .before .before .before .before .before .before .before .if1 .left) (sym (c .before .before .before .before .before .before .before .before .before .before .before .before .before .before .keeps-side .ensures) ∙ c .before .before .before .before .before .before .before .before .before .before .before .before .before .if2 .left) (c .before .before .before .before .before .before .negated-image .ensures)
 
--- src/cycle.rt:103:9
 image-up-returns : (t : ℕ) → image-up-lts.Need-returns (read-row-reads.Asked, read-row-reads.Learnt, leaf-reads.Asked, leaf-reads.Learnt, image-below t, image.Post, equivalent-below t, equivalent.Post, join-reads.Asked, join-reads.Learnt) (image-up-at t) image-up.Post
-image-up-returns t c = record { images = λ at entry memo x. up-full plain (c .before .before .before .before .before .pre .1 .row) x (eq-eqb _ 65535 (c .if1 .taken)); above = kept-refl (c .before .before .before .before .before .args .j) (c .before .before .before .before .before .args .frame) (c .before .before .before .before .before .args .scratch .now) }
+image-up-returns t c = record { images = λ at entry memo x. up-full plain (c .before .before .before .before .before .pre .1 .row) x (eq-eqb _ 65535 (c .if1 .taken)); above = kept-refl (c .before .before .before .before .before .args .j) (framed (c .before .before .before .before .before .args .frame .now)) (c .before .before .before .before .before .args .scratch .now) }
 
--- src/cycle.rt:105:9
 image-up-read-row-requires : (t : ℕ) → image-up-lts.Need-read-row-requires (read-row-reads.Asked, read-row-reads.Learnt, leaf-reads.Asked, leaf-reads.Learnt, image-below t, image.Post, equivalent-below t, equivalent.Post, join-reads.Asked, join-reads.Learnt) (image-up-at t) image-up.Post
 image-up-read-row-requires t c κs = omega (arith, c .before .before .before .before .before .pre .1 .row .source .words, c .before .before .before .before .before .pre .1 .row .formula)
 
--- src/cycle.rt:107:9
 image-up-leaf-requires : (t : ℕ) → image-up-lts.Need-leaf-requires (read-row-reads.Asked, read-row-reads.Learnt, leaf-reads.Asked, leaf-reads.Learnt, image-below t, image.Post, equivalent-below t, equivalent.Post, join-reads.Asked, join-reads.Learnt) (image-up-at t) image-up.Post
-image-up-leaf-requires t c κs = leaf-ready (c .before .before .before .before .before .before .before .before .before .before .before .before .args .frame) (c .before .before .before .before .before .before .before .before .before .before .before .before .args .formulas .now) (c .before .before .before .before .before .before .before .before .before .before .before .before .args .scratch .now) (c .before .before .before .before .before .before .before .before .before .before .before .before .args .j) (c .before .before .before .before .before .before .before .before .before .before .before .before .pre .1 .row) (c .before .before .before .before .before .before .read-row .result) (c .before .before .before .before .before .before .read-row .ensures) (c .before .before .before .before .if2 .taken) (c .before .before .before .before .before .before .before .before .before .before .before .before .pre .1 .ready (ne-eqb _ 65535 (c .before .before .before .before .before .before .before .if1 .left)))
+image-up-leaf-requires t c κs = leaf-ready (framed (c .before .before .before .before .before .before .before .before .before .before .before .before .args .frame .now)) (c .before .before .before .before .before .before .before .before .before .before .before .before .args .formulas .now) (c .before .before .before .before .before .before .before .before .before .before .before .before .args .scratch .now) (c .before .before .before .before .before .before .before .before .before .before .before .before .args .j) (c .before .before .before .before .before .before .before .before .before .before .before .before .pre .1 .row) (c .before .before .before .before .before .before .read-row .result) (c .before .before .before .before .before .before .read-row .ensures) (c .before .before .before .before .if2 .taken) (c .before .before .before .before .before .before .before .before .before .before .before .before .pre .1 .ready (ne-eqb _ 65535 (c .before .before .before .before .before .before .before .if1 .left)))
 
--- src/cycle.rt:107:9
 image-up-same-length : (t : ℕ) → image-up-lts.Need-same-length (read-row-reads.Asked, read-row-reads.Learnt, leaf-reads.Asked, leaf-reads.Learnt, image-below t, image.Post, equivalent-below t, equivalent.Post, join-reads.Asked, join-reads.Learnt) (image-up-at t) image-up.Post
 image-up-same-length t c = c .before .before .before .before .leaf .kept .1 .1 .1 .1 .1 .0
 
--- src/cycle.rt:107:9
 image-up-same-length-2 : (t : ℕ) → image-up-lts.Need-same-length-2 (read-row-reads.Asked, read-row-reads.Learnt, leaf-reads.Asked, leaf-reads.Learnt, image-below t, image.Post, equivalent-below t, equivalent.Post, join-reads.Asked, join-reads.Learnt) (image-up-at t) image-up.Post
 image-up-same-length-2 t c = c .before .before .before .before .leaf .kept .1 .1 .1 .1 .1 .1 .0
 
--- src/cycle.rt:107:9
 image-up-returns-2 : (t : ℕ) → image-up-lts.Need-returns-2 (read-row-reads.Asked, read-row-reads.Learnt, leaf-reads.Asked, leaf-reads.Learnt, image-below t, image.Post, equivalent-below t, equivalent.Post, join-reads.Asked, join-reads.Learnt) (image-up-at t) image-up.Post
-image-up-returns-2 t c = record { images = λ at entry memo x. up-leaf plain (c .before .before .before .before .before .before .before .before .before .before .before .before .before .before .before .before .before .pre .1 .row) x (c .before .before .before .before .before .before .before .before .before .before .before .read-row .result) (c .before .before .before .before .before .before .before .before .before .before .before .read-row .ensures) (ne-eqb _ 65535 (c .before .before .before .before .before .before .before .before .before .before .before .before .if1 .left)) (c .before .before .before .before .before .before .before .before .before .if2 .taken) (c .before .before .before .before .leaf .ensures); above = kept-refl (c .before .before .before .before .before .before .before .before .before .before .before .before .before .before .before .before .before .args .j) (c .before .before .before .before .before .before .before .before .before .before .before .before .before .before .before .before .before .args .frame) (c .before .before .before .before .before .before .before .before .before .before .before .before .before .before .before .before .before .args .scratch .now) }
+image-up-returns-2 t c = record { images = λ at entry memo x. up-leaf plain (c .before .before .before .before .before .before .before .before .before .before .before .before .before .before .before .before .before .pre .1 .row) x (c .before .before .before .before .before .before .before .before .before .before .before .read-row .result) (c .before .before .before .before .before .before .before .before .before .before .before .read-row .ensures) (ne-eqb _ 65535 (c .before .before .before .before .before .before .before .before .before .before .before .before .if1 .left)) (c .before .before .before .before .before .before .before .before .before .if2 .taken) (c .before .before .before .before .leaf .ensures); above = kept-refl (c .before .before .before .before .before .before .before .before .before .before .before .before .before .before .before .before .before .args .j) (framed (c .before .before .before .before .before .before .before .before .before .before .before .before .before .before .before .before .before .args .frame .now)) (c .before .before .before .before .before .before .before .before .before .before .before .before .before .before .before .before .before .args .scratch .now) }
 
--- src/cycle.rt:110:9
 image-up-returns-3 : (t : ℕ) → image-up-lts.Need-returns-3 (read-row-reads.Asked, read-row-reads.Learnt, leaf-reads.Asked, leaf-reads.Learnt, image-below t, image.Post, equivalent-below t, equivalent.Post, join-reads.Asked, join-reads.Learnt) (image-up-at t) image-up.Post
-image-up-returns-3 t c = record { images = λ at entry memo x. up-not plain (c .before .before .before .before .before .before .before .before .before .before .pre .1 .row) x (c .before .before .before .before .read-row .result) (c .before .before .before .before .read-row .ensures) (c .if3 .taken); above = kept-refl (c .before .before .before .before .before .before .before .before .before .before .args .j) (c .before .before .before .before .before .before .before .before .before .before .args .frame) (c .before .before .before .before .before .before .before .before .before .before .args .scratch .now) }
+image-up-returns-3 t c = record { images = λ at entry memo x. up-not plain (c .before .before .before .before .before .before .before .before .before .before .pre .1 .row) x (c .before .before .before .before .read-row .result) (c .before .before .before .before .read-row .ensures) (c .if3 .taken); above = kept-refl (c .before .before .before .before .before .before .before .before .before .before .args .j) (framed (c .before .before .before .before .before .before .before .before .before .before .args .frame .now)) (c .before .before .before .before .before .before .before .before .before .before .args .scratch .now) }
 
--- src/cycle.rt:112:29
 image-up-cast-image : (t : ℕ) → image-up-lts.Need-cast-image (read-row-reads.Asked, read-row-reads.Learnt, leaf-reads.Asked, leaf-reads.Learnt, image-below t, image.Post, equivalent-below t, equivalent.Post, join-reads.Asked, join-reads.Learnt) (image-up-at t) image-up.Post
 image-up-cast-image t c = search needs
 
--- src/cycle.rt:112:9
 image-up-image-requires : (t : ℕ) → image-up-lts.Need-image-requires (read-row-reads.Asked, read-row-reads.Learnt, leaf-reads.Asked, leaf-reads.Learnt, image-below t, image.Post, equivalent-below t, equivalent.Post, join-reads.Asked, join-reads.Learnt) (image-up-at t) image-up.Post
-image-up-image-requires t c κs = (omega (arith, c .before .before .before .before .before .before .before .before .before .before .before .before .before .before .before .before .pre .0, right-lower (c .before .before .before .before .before .before .before .before .before .before .before .before .before .before .before .before .args .frame) (c .before .before .before .before .before .before .before .before .before .before .before .before .before .before .before .before .args .formulas .now) (c .before .before .before .before .before .before .before .before .before .before .before .before .before .before .before .before .args .scratch .now) (c .before .before .before .before .before .before .before .before .before .before .before .before .before .before .before .before .args .j) (c .before .before .before .before .before .before .before .before .before .before .before .before .before .before .before .before .pre .1 .row) (c .before .before .before .before .before .before .before .before .before .before .read-row .result) (c .before .before .before .before .before .before .before .before .before .before .read-row .ensures) (past-three (c .before .before .before .before .before .before .before .before .before .before .read-row .result .kind) (c .before .before .before .before .before .before .before .before .if2 .left) (c .before .before .before .before .before .before .if3 .left))), up-asks (c .before .before .before .before .before .before .before .before .before .before .before .before .before .before .before .before .pre .1) (ne-eqb _ 65535 (c .before .before .before .before .before .before .before .before .before .before .before .if1 .left)) (right-lower (c .before .before .before .before .before .before .before .before .before .before .before .before .before .before .before .before .args .frame) (c .before .before .before .before .before .before .before .before .before .before .before .before .before .before .before .before .args .formulas .now) (c .before .before .before .before .before .before .before .before .before .before .before .before .before .before .before .before .args .scratch .now) (c .before .before .before .before .before .before .before .before .before .before .before .before .before .before .before .before .args .j) (c .before .before .before .before .before .before .before .before .before .before .before .before .before .before .before .before .pre .1 .row) (c .before .before .before .before .before .before .before .before .before .before .read-row .result) (c .before .before .before .before .before .before .before .before .before .before .read-row .ensures) (past-three (c .before .before .before .before .before .before .before .before .before .before .read-row .result .kind) (c .before .before .before .before .before .before .before .before .if2 .left) (c .before .before .before .before .before .before .if3 .left))))
+image-up-image-requires t c κs = (omega (arith, c .before .before .before .before .before .before .before .before .before .before .before .before .before .before .before .before .pre .0, right-lower (framed (c .before .before .before .before .before .before .before .before .before .before .before .before .before .before .before .before .args .frame .now)) (c .before .before .before .before .before .before .before .before .before .before .before .before .before .before .before .before .args .formulas .now) (c .before .before .before .before .before .before .before .before .before .before .before .before .before .before .before .before .args .scratch .now) (c .before .before .before .before .before .before .before .before .before .before .before .before .before .before .before .before .args .j) (c .before .before .before .before .before .before .before .before .before .before .before .before .before .before .before .before .pre .1 .row) (c .before .before .before .before .before .before .before .before .before .before .read-row .result) (c .before .before .before .before .before .before .before .before .before .before .read-row .ensures) (past-three (c .before .before .before .before .before .before .before .before .before .before .read-row .result .kind) (c .before .before .before .before .before .before .before .before .if2 .left) (c .before .before .before .before .before .before .if3 .left))), up-asks (c .before .before .before .before .before .before .before .before .before .before .before .before .before .before .before .before .pre .1) (ne-eqb _ 65535 (c .before .before .before .before .before .before .before .before .before .before .before .if1 .left)) (right-lower (framed (c .before .before .before .before .before .before .before .before .before .before .before .before .before .before .before .before .args .frame .now)) (c .before .before .before .before .before .before .before .before .before .before .before .before .before .before .before .before .args .formulas .now) (c .before .before .before .before .before .before .before .before .before .before .before .before .before .before .before .before .args .scratch .now) (c .before .before .before .before .before .before .before .before .before .before .before .before .before .before .before .before .args .j) (c .before .before .before .before .before .before .before .before .before .before .before .before .before .before .before .before .pre .1 .row) (c .before .before .before .before .before .before .before .before .before .before .read-row .result) (c .before .before .before .before .before .before .before .before .before .before .read-row .ensures) (past-three (c .before .before .before .before .before .before .before .before .before .before .read-row .result .kind) (c .before .before .before .before .before .before .before .before .if2 .left) (c .before .before .before .before .before .before .if3 .left))))
 
--- src/cycle.rt:114:9
 image-up-same-length-3 : (t : ℕ) → image-up-lts.Need-same-length-3 (read-row-reads.Asked, read-row-reads.Learnt, leaf-reads.Asked, leaf-reads.Learnt, image-below t, image.Post, equivalent-below t, equivalent.Post, join-reads.Asked, join-reads.Learnt) (image-up-at t) image-up.Post
 image-up-same-length-3 t c = c .before .before .before .before .before .before .before .image .kept .1 .1 .1 .1 .1 .0
 
--- src/cycle.rt:114:9
 image-up-same-length-4 : (t : ℕ) → image-up-lts.Need-same-length-4 (read-row-reads.Asked, read-row-reads.Learnt, leaf-reads.Asked, leaf-reads.Learnt, image-below t, image.Post, equivalent-below t, equivalent.Post, join-reads.Asked, join-reads.Learnt) (image-up-at t) image-up.Post
 image-up-same-length-4 t c = c .before .before .before .before .before .before .before .image .kept .1 .1 .1 .1 .1 .1 .0
 
--- src/cycle.rt:114:9
 image-up-same-length-5 : (t : ℕ) → image-up-lts.Need-same-length-5 (read-row-reads.Asked, read-row-reads.Learnt, leaf-reads.Asked, leaf-reads.Learnt, image-below t, image.Post, equivalent-below t, equivalent.Post, join-reads.Asked, join-reads.Learnt) (image-up-at t) image-up.Post
 image-up-same-length-5 t c = c .before .before .before .before .before .before .before .image .kept .1 .1 .1 .1 .1 .1 .1 .0
 
--- src/cycle.rt:114:9
 image-up-returns-4 : (t : ℕ) → image-up-lts.Need-returns-4 (read-row-reads.Asked, read-row-reads.Learnt, leaf-reads.Asked, leaf-reads.Learnt, image-below t, image.Post, equivalent-below t, equivalent.Post, join-reads.Asked, join-reads.Learnt) (image-up-at t) image-up.Post
-image-up-returns-4 t c = record { images = λ at entry memo x. up-right-full plain (c .before .before .before .before .before .before .before .before .before .before .before .before .before .before .before .before .before .before .before .before .before .before .before .before .pre .1 .row) x (c .before .before .before .before .before .before .before .before .before .before .before .before .before .before .before .before .before .before .read-row .result) (c .before .before .before .before .before .before .before .before .before .before .before .before .before .before .before .before .before .before .read-row .ensures) (ne-eqb _ 65535 (c .before .before .before .before .before .before .before .before .before .before .before .before .before .before .before .before .before .before .before .if1 .left)) (past-three (c .before .before .before .before .before .before .before .before .before .before .before .before .before .before .before .before .before .before .read-row .result .kind) (c .before .before .before .before .before .before .before .before .before .before .before .before .before .before .before .before .if2 .left) (c .before .before .before .before .before .before .before .before .before .before .before .before .before .before .if3 .left)) (c .before .before .before .before .before .before .before .image .ensures .images) (eq-eqb _ 65535 (c .if4 .taken)); above = kept-from (omega (arith, right-lower (c .before .before .before .before .before .before .before .before .before .before .before .before .before .before .before .before .before .before .before .before .before .before .before .before .args .frame) (c .before .before .before .before .before .before .before .before .before .before .before .before .before .before .before .before .before .before .before .before .before .before .before .before .args .formulas .now) (c .before .before .before .before .before .before .before .before .before .before .before .before .before .before .before .before .before .before .before .before .before .before .before .before .args .scratch .now) (c .before .before .before .before .before .before .before .before .before .before .before .before .before .before .before .before .before .before .before .before .before .before .before .before .args .j) (c .before .before .before .before .before .before .before .before .before .before .before .before .before .before .before .before .before .before .before .before .before .before .before .before .pre .1 .row) (c .before .before .before .before .before .before .before .before .before .before .before .before .before .before .before .before .before .before .read-row .result) (c .before .before .before .before .before .before .before .before .before .before .before .before .before .before .before .before .before .before .read-row .ensures) (past-three (c .before .before .before .before .before .before .before .before .before .before .before .before .before .before .before .before .before .before .read-row .result .kind) (c .before .before .before .before .before .before .before .before .before .before .before .before .before .before .before .before .if2 .left) (c .before .before .before .before .before .before .before .before .before .before .before .before .before .before .if3 .left)))) (c .before .before .before .before .before .before .before .image .ensures .above) }
+image-up-returns-4 t c = record { images = λ at entry memo x. up-right-full plain (c .before .before .before .before .before .before .before .before .before .before .before .before .before .before .before .before .before .before .before .before .before .before .before .before .pre .1 .row) x (c .before .before .before .before .before .before .before .before .before .before .before .before .before .before .before .before .before .before .read-row .result) (c .before .before .before .before .before .before .before .before .before .before .before .before .before .before .before .before .before .before .read-row .ensures) (ne-eqb _ 65535 (c .before .before .before .before .before .before .before .before .before .before .before .before .before .before .before .before .before .before .before .if1 .left)) (past-three (c .before .before .before .before .before .before .before .before .before .before .before .before .before .before .before .before .before .before .read-row .result .kind) (c .before .before .before .before .before .before .before .before .before .before .before .before .before .before .before .before .if2 .left) (c .before .before .before .before .before .before .before .before .before .before .before .before .before .before .if3 .left)) (c .before .before .before .before .before .before .before .image .ensures .images) (eq-eqb _ 65535 (c .if4 .taken)); above = kept-from (omega (arith, right-lower (framed (c .before .before .before .before .before .before .before .before .before .before .before .before .before .before .before .before .before .before .before .before .before .before .before .before .args .frame .now)) (c .before .before .before .before .before .before .before .before .before .before .before .before .before .before .before .before .before .before .before .before .before .before .before .before .args .formulas .now) (c .before .before .before .before .before .before .before .before .before .before .before .before .before .before .before .before .before .before .before .before .before .before .before .before .args .scratch .now) (c .before .before .before .before .before .before .before .before .before .before .before .before .before .before .before .before .before .before .before .before .before .before .before .before .args .j) (c .before .before .before .before .before .before .before .before .before .before .before .before .before .before .before .before .before .before .before .before .before .before .before .before .pre .1 .row) (c .before .before .before .before .before .before .before .before .before .before .before .before .before .before .before .before .before .before .read-row .result) (c .before .before .before .before .before .before .before .before .before .before .before .before .before .before .before .before .before .before .read-row .ensures) (past-three (c .before .before .before .before .before .before .before .before .before .before .before .before .before .before .before .before .before .before .read-row .result .kind) (c .before .before .before .before .before .before .before .before .before .before .before .before .before .before .before .before .if2 .left) (c .before .before .before .before .before .before .before .before .before .before .before .before .before .before .if3 .left)))) (c .before .before .before .before .before .before .before .image .ensures .above) }
 
--- src/cycle.rt:117:9
 image-up-equivalent-requires : (t : ℕ) → image-up-lts.Need-equivalent-requires (read-row-reads.Asked, read-row-reads.Learnt, leaf-reads.Asked, leaf-reads.Learnt, image-below t, image.Post, equivalent-below t, equivalent.Post, join-reads.Asked, join-reads.Learnt) (image-up-at t) image-up.Post
-image-up-equivalent-requires t c κs = (omega (arith, c .before .before .before .before .before .before .before .before .before .before .before .before .before .before .before .before .before .before .before .before .before .before .before .before .before .before .before .before .before .before .before .pre .0), asks-second (c .before .before .before .before .before .before .before .before .before .before .before .before .before .before .before .before .before .before .before .before .before .before .before .before .before .before .before .before .before .before .before .args .frame) (c .before .before .before .before .before .before .before .before .before .before .before .before .before .before .before .before .before .before .before .before .before .before .before .before .before .before .before .before .before .before .before .args .formulas .now) (c .before .before .before .before .before .before .before .before .before .before .before .before .before .before .before .before .before .before .before .before .before .before .before .before .before .before .before .before .before .before .before .args .scratch .now) (c .before .before .before .before .before .before .before .before .before .before .before .before .before .before .before .before .before .before .before .before .before .before .before .before .before .before .before .before .before .before .before .args .j) (c .before .before .before .before .before .before .before .before .before .before .before .before .before .before .before .before .before .before .before .before .before .before .before .before .before .before .before .before .before .before .before .pre .1 .row) (c .before .before .before .before .before .before .before .before .before .before .before .before .before .before .before .before .before .before .before .before .before .before .before .before .before .read-row .result) (c .before .before .before .before .before .before .before .before .before .before .before .before .before .before .before .before .before .before .before .before .before .before .before .before .before .read-row .ensures) (c .before .before .before .before .before .before .before .before .before .before .before .before .before .before .before .before .before .before .before .before .before .before .before .before .before .before .before .before .before .before .before .pre .1) (ne-eqb _ 65535 (c .before .before .before .before .before .before .before .before .before .before .before .before .before .before .before .before .before .before .before .before .before .before .before .before .before .before .if1 .left)) (past-three (c .before .before .before .before .before .before .before .before .before .before .before .before .before .before .before .before .before .before .before .before .before .before .before .before .before .read-row .result .kind) (c .before .before .before .before .before .before .before .before .before .before .before .before .before .before .before .before .before .before .before .before .before .before .before .if2 .left) (c .before .before .before .before .before .before .before .before .before .before .before .before .before .before .before .before .before .before .before .before .before .if3 .left)) (c .before .before .before .before .before .before .before .before .before .before .before .before .before .before .image .ensures .images) (ne-eqb _ 65535 (c .before .before .before .before .before .before .before .if4 .left)) (c .before .before .before .before .before .before .before .before .before .before .before .before .before .before .image .kept .1 .1 .1 .1 .1 .1 .1 .0))
+image-up-equivalent-requires t c κs = (omega (arith, c .before .before .before .before .before .before .before .before .before .before .before .before .before .before .before .before .before .before .before .before .before .before .before .before .before .before .before .before .before .before .before .pre .0), asks-second (framed (c .before .before .before .before .before .before .before .before .before .before .before .before .before .before .before .before .before .before .before .before .before .before .before .before .before .before .before .before .before .before .before .args .frame .now)) (c .before .before .before .before .before .before .before .before .before .before .before .before .before .before .before .before .before .before .before .before .before .before .before .before .before .before .before .before .before .before .before .args .formulas .now) (c .before .before .before .before .before .before .before .before .before .before .before .before .before .before .before .before .before .before .before .before .before .before .before .before .before .before .before .before .before .before .before .args .scratch .now) (c .before .before .before .before .before .before .before .before .before .before .before .before .before .before .before .before .before .before .before .before .before .before .before .before .before .before .before .before .before .before .before .args .j) (c .before .before .before .before .before .before .before .before .before .before .before .before .before .before .before .before .before .before .before .before .before .before .before .before .before .before .before .before .before .before .before .pre .1 .row) (c .before .before .before .before .before .before .before .before .before .before .before .before .before .before .before .before .before .before .before .before .before .before .before .before .before .read-row .result) (c .before .before .before .before .before .before .before .before .before .before .before .before .before .before .before .before .before .before .before .before .before .before .before .before .before .read-row .ensures) (c .before .before .before .before .before .before .before .before .before .before .before .before .before .before .before .before .before .before .before .before .before .before .before .before .before .before .before .before .before .before .before .pre .1) (ne-eqb _ 65535 (c .before .before .before .before .before .before .before .before .before .before .before .before .before .before .before .before .before .before .before .before .before .before .before .before .before .before .if1 .left)) (past-three (c .before .before .before .before .before .before .before .before .before .before .before .before .before .before .before .before .before .before .before .before .before .before .before .before .before .read-row .result .kind) (c .before .before .before .before .before .before .before .before .before .before .before .before .before .before .before .before .before .before .before .before .before .before .before .if2 .left) (c .before .before .before .before .before .before .before .before .before .before .before .before .before .before .before .before .before .before .before .before .before .if3 .left)) (c .before .before .before .before .before .before .before .before .before .before .before .before .before .before .image .ensures .images) (ne-eqb _ 65535 (c .before .before .before .before .before .before .before .if4 .left)) (c .before .before .before .before .before .before .before .before .before .before .before .before .before .before .image .kept .1 .1 .1 .1 .1 .1 .1 .0))
 
--- src/cycle.rt:117:9
 image-up-same-length-6 : (t : ℕ) → image-up-lts.Need-same-length-6 (read-row-reads.Asked, read-row-reads.Learnt, leaf-reads.Asked, leaf-reads.Learnt, image-below t, image.Post, equivalent-below t, equivalent.Post, join-reads.Asked, join-reads.Learnt) (image-up-at t) image-up.Post
 image-up-same-length-6 t c = c .before .before .before .before .before .before .equivalent .kept .1 .1 .1 .1 .1 .1 .1 .1 .0 ∙ c .before .before .before .before .before .before .before .before .before .before .before .before .before .before .before .before .before .before .before .before .before .image .kept .1 .1 .1 .1 .1 .0
 
--- src/cycle.rt:117:9
 image-up-same-length-7 : (t : ℕ) → image-up-lts.Need-same-length-7 (read-row-reads.Asked, read-row-reads.Learnt, leaf-reads.Asked, leaf-reads.Learnt, image-below t, image.Post, equivalent-below t, equivalent.Post, join-reads.Asked, join-reads.Learnt) (image-up-at t) image-up.Post
 image-up-same-length-7 t c = c .before .before .before .before .before .before .equivalent .kept .1 .1 .1 .1 .1 .1 .1 .1 .1 .0 ∙ c .before .before .before .before .before .before .before .before .before .before .before .before .before .before .before .before .before .before .before .before .before .image .kept .1 .1 .1 .1 .1 .1 .0
 
--- src/cycle.rt:117:9
 image-up-same-length-8 : (t : ℕ) → image-up-lts.Need-same-length-8 (read-row-reads.Asked, read-row-reads.Learnt, leaf-reads.Asked, leaf-reads.Learnt, image-below t, image.Post, equivalent-below t, equivalent.Post, join-reads.Asked, join-reads.Learnt) (image-up-at t) image-up.Post
 image-up-same-length-8 t c = c .before .before .before .before .before .before .equivalent .kept .1 .1 .1 .1 .1 .1 .1 .1 .1 .1 .0 ∙ c .before .before .before .before .before .before .before .before .before .before .before .before .before .before .before .before .before .before .before .before .before .image .kept .1 .1 .1 .1 .1 .1 .1 .0
 
--- src/cycle.rt:117:9
 image-up-returns-5 : (t : ℕ) → image-up-lts.Need-returns-5 (read-row-reads.Asked, read-row-reads.Learnt, leaf-reads.Asked, leaf-reads.Learnt, image-below t, image.Post, equivalent-below t, equivalent.Post, join-reads.Asked, join-reads.Learnt) (image-up-at t) image-up.Post
-image-up-returns-5 t c = record { images = λ at entry memo x. up-equivalent plain (c .before .before .before .before .before .before .before .before .before .before .before .before .before .before .before .before .before .before .before .before .before .before .before .before .before .before .before .before .before .before .before .before .before .before .before .before .before .before .pre .1 .row) x (c .before .before .before .before .before .before .before .before .before .before .before .before .before .before .before .before .before .before .before .before .before .before .before .before .before .before .before .before .before .before .before .before .read-row .result) (c .before .before .before .before .before .before .before .before .before .before .before .before .before .before .before .before .before .before .before .before .before .before .before .before .before .before .before .before .before .before .before .before .read-row .ensures) (ne-eqb _ 65535 (c .before .before .before .before .before .before .before .before .before .before .before .before .before .before .before .before .before .before .before .before .before .before .before .before .before .before .before .before .before .before .before .before .before .if1 .left)) (past-three (c .before .before .before .before .before .before .before .before .before .before .before .before .before .before .before .before .before .before .before .before .before .before .before .before .before .before .before .before .before .before .before .before .read-row .result .kind) (c .before .before .before .before .before .before .before .before .before .before .before .before .before .before .before .before .before .before .before .before .before .before .before .before .before .before .before .before .before .before .if2 .left) (c .before .before .before .before .before .before .before .before .before .before .before .before .before .before .before .before .before .before .before .before .before .before .before .before .before .before .before .before .if3 .left)) (c .before .before .before .before .before .before .before .before .before .before .before .before .before .before .before .before .before .before .before .before .before .image .ensures .images) (ne-eqb _ 65535 (c .before .before .before .before .before .before .before .before .before .before .before .before .before .before .if4 .left)) (c .before .before .before .before .before .before .before .before .before .before .before .before .if5 .taken) (c .before .before .before .before .before .before .equivalent .ensures .images); above = kept-then (kept-from (omega (arith, right-lower (c .before .before .before .before .before .before .before .before .before .before .before .before .before .before .before .before .before .before .before .before .before .before .before .before .before .before .before .before .before .before .before .before .before .before .before .before .before .before .args .frame) (c .before .before .before .before .before .before .before .before .before .before .before .before .before .before .before .before .before .before .before .before .before .before .before .before .before .before .before .before .before .before .before .before .before .before .before .before .before .before .args .formulas .now) (c .before .before .before .before .before .before .before .before .before .before .before .before .before .before .before .before .before .before .before .before .before .before .before .before .before .before .before .before .before .before .before .before .before .before .before .before .before .before .args .scratch .now) (c .before .before .before .before .before .before .before .before .before .before .before .before .before .before .before .before .before .before .before .before .before .before .before .before .before .before .before .before .before .before .before .before .before .before .before .before .before .before .args .j) (c .before .before .before .before .before .before .before .before .before .before .before .before .before .before .before .before .before .before .before .before .before .before .before .before .before .before .before .before .before .before .before .before .before .before .before .before .before .before .pre .1 .row) (c .before .before .before .before .before .before .before .before .before .before .before .before .before .before .before .before .before .before .before .before .before .before .before .before .before .before .before .before .before .before .before .before .read-row .result) (c .before .before .before .before .before .before .before .before .before .before .before .before .before .before .before .before .before .before .before .before .before .before .before .before .before .before .before .before .before .before .before .before .read-row .ensures) (past-three (c .before .before .before .before .before .before .before .before .before .before .before .before .before .before .before .before .before .before .before .before .before .before .before .before .before .before .before .before .before .before .before .before .read-row .result .kind) (c .before .before .before .before .before .before .before .before .before .before .before .before .before .before .before .before .before .before .before .before .before .before .before .before .before .before .before .before .before .before .if2 .left) (c .before .before .before .before .before .before .before .before .before .before .before .before .before .before .before .before .before .before .before .before .before .before .before .before .before .before .before .before .if3 .left)))) (c .before .before .before .before .before .before .before .before .before .before .before .before .before .before .before .before .before .before .before .before .before .image .ensures .above)) (c .before .before .before .before .before .before .equivalent .ensures .above) }
+image-up-returns-5 t c = record { images = λ at entry memo x. up-equivalent plain (c .before .before .before .before .before .before .before .before .before .before .before .before .before .before .before .before .before .before .before .before .before .before .before .before .before .before .before .before .before .before .before .before .before .before .before .before .before .before .pre .1 .row) x (c .before .before .before .before .before .before .before .before .before .before .before .before .before .before .before .before .before .before .before .before .before .before .before .before .before .before .before .before .before .before .before .before .read-row .result) (c .before .before .before .before .before .before .before .before .before .before .before .before .before .before .before .before .before .before .before .before .before .before .before .before .before .before .before .before .before .before .before .before .read-row .ensures) (ne-eqb _ 65535 (c .before .before .before .before .before .before .before .before .before .before .before .before .before .before .before .before .before .before .before .before .before .before .before .before .before .before .before .before .before .before .before .before .before .if1 .left)) (past-three (c .before .before .before .before .before .before .before .before .before .before .before .before .before .before .before .before .before .before .before .before .before .before .before .before .before .before .before .before .before .before .before .before .read-row .result .kind) (c .before .before .before .before .before .before .before .before .before .before .before .before .before .before .before .before .before .before .before .before .before .before .before .before .before .before .before .before .before .before .if2 .left) (c .before .before .before .before .before .before .before .before .before .before .before .before .before .before .before .before .before .before .before .before .before .before .before .before .before .before .before .before .if3 .left)) (c .before .before .before .before .before .before .before .before .before .before .before .before .before .before .before .before .before .before .before .before .before .image .ensures .images) (ne-eqb _ 65535 (c .before .before .before .before .before .before .before .before .before .before .before .before .before .before .if4 .left)) (c .before .before .before .before .before .before .before .before .before .before .before .before .if5 .taken) (c .before .before .before .before .before .before .equivalent .ensures .images); above = kept-then (kept-from (omega (arith, right-lower (framed (c .before .before .before .before .before .before .before .before .before .before .before .before .before .before .before .before .before .before .before .before .before .before .before .before .before .before .before .before .before .before .before .before .before .before .before .before .before .before .args .frame .now)) (c .before .before .before .before .before .before .before .before .before .before .before .before .before .before .before .before .before .before .before .before .before .before .before .before .before .before .before .before .before .before .before .before .before .before .before .before .before .before .args .formulas .now) (c .before .before .before .before .before .before .before .before .before .before .before .before .before .before .before .before .before .before .before .before .before .before .before .before .before .before .before .before .before .before .before .before .before .before .before .before .before .before .args .scratch .now) (c .before .before .before .before .before .before .before .before .before .before .before .before .before .before .before .before .before .before .before .before .before .before .before .before .before .before .before .before .before .before .before .before .before .before .before .before .before .before .args .j) (c .before .before .before .before .before .before .before .before .before .before .before .before .before .before .before .before .before .before .before .before .before .before .before .before .before .before .before .before .before .before .before .before .before .before .before .before .before .before .pre .1 .row) (c .before .before .before .before .before .before .before .before .before .before .before .before .before .before .before .before .before .before .before .before .before .before .before .before .before .before .before .before .before .before .before .before .read-row .result) (c .before .before .before .before .before .before .before .before .before .before .before .before .before .before .before .before .before .before .before .before .before .before .before .before .before .before .before .before .before .before .before .before .read-row .ensures) (past-three (c .before .before .before .before .before .before .before .before .before .before .before .before .before .before .before .before .before .before .before .before .before .before .before .before .before .before .before .before .before .before .before .before .read-row .result .kind) (c .before .before .before .before .before .before .before .before .before .before .before .before .before .before .before .before .before .before .before .before .before .before .before .before .before .before .before .before .before .before .if2 .left) (c .before .before .before .before .before .before .before .before .before .before .before .before .before .before .before .before .before .before .before .before .before .before .before .before .before .before .before .before .if3 .left)))) (c .before .before .before .before .before .before .before .before .before .before .before .before .before .before .before .before .before .before .before .before .before .image .ensures .above)) (c .before .before .before .before .before .before .equivalent .ensures .above) }
 
--- src/cycle.rt:131:5
+image-up-element-copy-out-join : (t : ℕ) → image-up-lts.Need-element-copy-out-join (read-row-reads.Asked, read-row-reads.Learnt, leaf-reads.Asked, leaf-reads.Learnt, image-below t, image.Post, equivalent-below t, equivalent.Post, join-reads.Asked, join-reads.Learnt) (image-up-at t) image-up.Post
+image-up-element-copy-out-join t c = search needs
+
 image-up-join-requires : (t : ℕ) → image-up-lts.Need-join-requires (read-row-reads.Asked, read-row-reads.Learnt, leaf-reads.Asked, leaf-reads.Learnt, image-below t, image.Post, equivalent-below t, equivalent.Post, join-reads.Asked, join-reads.Learnt) (image-up-at t) image-up.Post
-image-up-join-requires t c κs = asks-join (asks-second (c .before .before .before .before .before .before .before .before .before .before .before .before .before .before .before .before .before .before .before .before .before .before .before .before .before .before .before .before .before .args .frame) (c .before .before .before .before .before .before .before .before .before .before .before .before .before .before .before .before .before .before .before .before .before .before .before .before .before .before .before .before .before .args .formulas .now) (c .before .before .before .before .before .before .before .before .before .before .before .before .before .before .before .before .before .before .before .before .before .before .before .before .before .before .before .before .before .args .scratch .now) (c .before .before .before .before .before .before .before .before .before .before .before .before .before .before .before .before .before .before .before .before .before .before .before .before .before .before .before .before .before .args .j) (c .before .before .before .before .before .before .before .before .before .before .before .before .before .before .before .before .before .before .before .before .before .before .before .before .before .before .before .before .before .pre .1 .row) (c .before .before .before .before .before .before .before .before .before .before .before .before .before .before .before .before .before .before .before .before .before .before .before .read-row .result) (c .before .before .before .before .before .before .before .before .before .before .before .before .before .before .before .before .before .before .before .before .before .before .before .read-row .ensures) (c .before .before .before .before .before .before .before .before .before .before .before .before .before .before .before .before .before .before .before .before .before .before .before .before .before .before .before .before .before .pre .1) (ne-eqb _ 65535 (c .before .before .before .before .before .before .before .before .before .before .before .before .before .before .before .before .before .before .before .before .before .before .before .before .if1 .left)) (past-three (c .before .before .before .before .before .before .before .before .before .before .before .before .before .before .before .before .before .before .before .before .before .before .before .read-row .result .kind) (c .before .before .before .before .before .before .before .before .before .before .before .before .before .before .before .before .before .before .before .before .before .if2 .left) (c .before .before .before .before .before .before .before .before .before .before .before .before .before .before .before .before .before .before .before .if3 .left)) (c .before .before .before .before .before .before .before .before .before .before .before .before .image .ensures .images) (ne-eqb _ 65535 (c .before .before .before .before .before .if4 .left)) (c .before .before .before .before .before .before .before .before .before .before .before .before .image .kept .1 .1 .1 .1 .1 .1 .1 .0))
+image-up-join-requires t c κs = asks-join (asks-second (framed (c .before .before .before .before .before .before .before .before .before .before .before .before .before .before .before .before .before .before .before .before .before .before .before .before .before .before .before .before .before .before .args .frame .now)) (c .before .before .before .before .before .before .before .before .before .before .before .before .before .before .before .before .before .before .before .before .before .before .before .before .before .before .before .before .before .before .args .formulas .now) (c .before .before .before .before .before .before .before .before .before .before .before .before .before .before .before .before .before .before .before .before .before .before .before .before .before .before .before .before .before .before .args .scratch .now) (c .before .before .before .before .before .before .before .before .before .before .before .before .before .before .before .before .before .before .before .before .before .before .before .before .before .before .before .before .before .before .args .j) (c .before .before .before .before .before .before .before .before .before .before .before .before .before .before .before .before .before .before .before .before .before .before .before .before .before .before .before .before .before .before .pre .1 .row) (c .before .before .before .before .before .before .before .before .before .before .before .before .before .before .before .before .before .before .before .before .before .before .before .before .read-row .result) (c .before .before .before .before .before .before .before .before .before .before .before .before .before .before .before .before .before .before .before .before .before .before .before .before .read-row .ensures) (c .before .before .before .before .before .before .before .before .before .before .before .before .before .before .before .before .before .before .before .before .before .before .before .before .before .before .before .before .before .before .pre .1) (ne-eqb _ 65535 (c .before .before .before .before .before .before .before .before .before .before .before .before .before .before .before .before .before .before .before .before .before .before .before .before .before .if1 .left)) (past-three (c .before .before .before .before .before .before .before .before .before .before .before .before .before .before .before .before .before .before .before .before .before .before .before .before .read-row .result .kind) (c .before .before .before .before .before .before .before .before .before .before .before .before .before .before .before .before .before .before .before .before .before .before .if2 .left) (c .before .before .before .before .before .before .before .before .before .before .before .before .before .before .before .before .before .before .before .before .if3 .left)) (c .before .before .before .before .before .before .before .before .before .before .before .before .before .image .ensures .images) (ne-eqb _ 65535 (c .before .before .before .before .before .before .if4 .left)) (c .before .before .before .before .before .before .before .before .before .before .before .before .before .image .kept .1 .1 .1 .1 .1 .1 .1 .0))
 
--- src/cycle.rt:88:1
 image-up-same-length-9 : (t : ℕ) → image-up-lts.Need-same-length-9 (read-row-reads.Asked, read-row-reads.Learnt, leaf-reads.Asked, leaf-reads.Learnt, image-below t, image.Post, equivalent-below t, equivalent.Post, join-reads.Asked, join-reads.Learnt) (image-up-at t) image-up.Post
-image-up-same-length-9 t c = c .before .before .join .kept .1 .0 ∙ c .before .before .before .before .before .before .before .before .before .before .before .before .before .before .before .image .kept .1 .1 .1 .1 .1 .0
+image-up-same-length-9 t c = c .before .before .join .kept .1 .0 ∙ c .before .before .before .before .before .before .before .before .before .before .before .before .before .before .before .before .image .kept .1 .1 .1 .1 .1 .0
 
--- src/cycle.rt:88:1
 image-up-same-length-10 : (t : ℕ) → image-up-lts.Need-same-length-10 (read-row-reads.Asked, read-row-reads.Learnt, leaf-reads.Asked, leaf-reads.Learnt, image-below t, image.Post, equivalent-below t, equivalent.Post, join-reads.Asked, join-reads.Learnt) (image-up-at t) image-up.Post
-image-up-same-length-10 t c = c .before .before .before .before .before .before .before .before .before .before .before .before .before .before .before .image .kept .1 .1 .1 .1 .1 .1 .0
+image-up-same-length-10 t c = c .before .before .before .before .before .before .before .before .before .before .before .before .before .before .before .before .image .kept .1 .1 .1 .1 .1 .1 .0
 
--- src/cycle.rt:88:1
 image-up-same-length-11 : (t : ℕ) → image-up-lts.Need-same-length-11 (read-row-reads.Asked, read-row-reads.Learnt, leaf-reads.Asked, leaf-reads.Learnt, image-below t, image.Post, equivalent-below t, equivalent.Post, join-reads.Asked, join-reads.Learnt) (image-up-at t) image-up.Post
-image-up-same-length-11 t c = c .before .before .before .before .before .before .before .before .before .before .before .before .before .before .before .image .kept .1 .1 .1 .1 .1 .1 .1 .0
+image-up-same-length-11 t c = c .before .before .before .before .before .before .before .before .before .before .before .before .before .before .before .before .image .kept .1 .1 .1 .1 .1 .1 .1 .0
 
--- src/cycle.rt:88:1
 image-up-returns-6 : (t : ℕ) → image-up-lts.Need-returns-6 (read-row-reads.Asked, read-row-reads.Learnt, leaf-reads.Asked, leaf-reads.Learnt, image-below t, image.Post, equivalent-below t, equivalent.Post, join-reads.Asked, join-reads.Learnt) (image-up-at t) image-up.Post
-image-up-returns-6 t c = record { images = λ at entry memo x. up-join plain (c .before .before .before .before .before .before .before .before .before .before .before .before .before .before .before .before .before .before .before .before .before .before .before .before .before .before .before .before .before .before .before .before .pre .1 .row) x (c .before .before .before .before .before .before .before .before .before .before .before .before .before .before .before .before .before .before .before .before .before .before .before .before .before .before .read-row .result) (c .before .before .before .before .before .before .before .before .before .before .before .before .before .before .before .before .before .before .before .before .before .before .before .before .before .before .read-row .ensures) (ne-eqb _ 65535 (c .before .before .before .before .before .before .before .before .before .before .before .before .before .before .before .before .before .before .before .before .before .before .before .before .before .before .before .if1 .left)) (past-three (c .before .before .before .before .before .before .before .before .before .before .before .before .before .before .before .before .before .before .before .before .before .before .before .before .before .before .read-row .result .kind) (c .before .before .before .before .before .before .before .before .before .before .before .before .before .before .before .before .before .before .before .before .before .before .before .before .if2 .left) (c .before .before .before .before .before .before .before .before .before .before .before .before .before .before .before .before .before .before .before .before .before .before .if3 .left)) (c .before .before .before .before .before .before .before .before .before .before .before .before .before .before .before .image .ensures .images) (ne-eqb _ 65535 (c .before .before .before .before .before .before .before .before .if4 .left)) (c .before .before .before .before .before .before .if5 .left) (c .before .before .join .ensures _ _ _ refl (c .before .before .before .before .before .before .before .before .before .before .before .before .before .before .before .image .ensures .images .builds .done (ne-eqb _ 65535 (c .before .before .before .before .before .before .before .before .if4 .left)) .ready)); above = kept-from (omega (arith, right-lower (c .before .before .before .before .before .before .before .before .before .before .before .before .before .before .before .before .before .before .before .before .before .before .before .before .before .before .before .before .before .before .before .before .args .frame) (c .before .before .before .before .before .before .before .before .before .before .before .before .before .before .before .before .before .before .before .before .before .before .before .before .before .before .before .before .before .before .before .before .args .formulas .now) (c .before .before .before .before .before .before .before .before .before .before .before .before .before .before .before .before .before .before .before .before .before .before .before .before .before .before .before .before .before .before .before .before .args .scratch .now) (c .before .before .before .before .before .before .before .before .before .before .before .before .before .before .before .before .before .before .before .before .before .before .before .before .before .before .before .before .before .before .before .before .args .j) (c .before .before .before .before .before .before .before .before .before .before .before .before .before .before .before .before .before .before .before .before .before .before .before .before .before .before .before .before .before .before .before .before .pre .1 .row) (c .before .before .before .before .before .before .before .before .before .before .before .before .before .before .before .before .before .before .before .before .before .before .before .before .before .before .read-row .result) (c .before .before .before .before .before .before .before .before .before .before .before .before .before .before .before .before .before .before .before .before .before .before .before .before .before .before .read-row .ensures) (past-three (c .before .before .before .before .before .before .before .before .before .before .before .before .before .before .before .before .before .before .before .before .before .before .before .before .before .before .read-row .result .kind) (c .before .before .before .before .before .before .before .before .before .before .before .before .before .before .before .before .before .before .before .before .before .before .before .before .if2 .left) (c .before .before .before .before .before .before .before .before .before .before .before .before .before .before .before .before .before .before .before .before .before .before .if3 .left)))) (c .before .before .before .before .before .before .before .before .before .before .before .before .before .before .before .image .ensures .above) }
+image-up-returns-6 t c = record { images = λ at entry memo x. up-join plain (c .before .before .before .before .before .before .before .before .before .before .before .before .before .before .before .before .before .before .before .before .before .before .before .before .before .before .before .before .before .before .before .before .before .pre .1 .row) x (c .before .before .before .before .before .before .before .before .before .before .before .before .before .before .before .before .before .before .before .before .before .before .before .before .before .before .before .read-row .result) (c .before .before .before .before .before .before .before .before .before .before .before .before .before .before .before .before .before .before .before .before .before .before .before .before .before .before .before .read-row .ensures) (ne-eqb _ 65535 (c .before .before .before .before .before .before .before .before .before .before .before .before .before .before .before .before .before .before .before .before .before .before .before .before .before .before .before .before .if1 .left)) (past-three (c .before .before .before .before .before .before .before .before .before .before .before .before .before .before .before .before .before .before .before .before .before .before .before .before .before .before .before .read-row .result .kind) (c .before .before .before .before .before .before .before .before .before .before .before .before .before .before .before .before .before .before .before .before .before .before .before .before .before .if2 .left) (c .before .before .before .before .before .before .before .before .before .before .before .before .before .before .before .before .before .before .before .before .before .before .before .if3 .left)) (c .before .before .before .before .before .before .before .before .before .before .before .before .before .before .before .before .image .ensures .images) (ne-eqb _ 65535 (c .before .before .before .before .before .before .before .before .before .if4 .left)) (c .before .before .before .before .before .before .before .if5 .left) (c .before .before .join .ensures _ _ _ refl (c .before .before .before .before .before .before .before .before .before .before .before .before .before .before .before .before .image .ensures .images .builds .done (ne-eqb _ 65535 (c .before .before .before .before .before .before .before .before .before .if4 .left)) .ready)); above = kept-from (omega (arith, right-lower (framed (c .before .before .before .before .before .before .before .before .before .before .before .before .before .before .before .before .before .before .before .before .before .before .before .before .before .before .before .before .before .before .before .before .before .args .frame .now)) (c .before .before .before .before .before .before .before .before .before .before .before .before .before .before .before .before .before .before .before .before .before .before .before .before .before .before .before .before .before .before .before .before .before .args .formulas .now) (c .before .before .before .before .before .before .before .before .before .before .before .before .before .before .before .before .before .before .before .before .before .before .before .before .before .before .before .before .before .before .before .before .before .args .scratch .now) (c .before .before .before .before .before .before .before .before .before .before .before .before .before .before .before .before .before .before .before .before .before .before .before .before .before .before .before .before .before .before .before .before .before .args .j) (c .before .before .before .before .before .before .before .before .before .before .before .before .before .before .before .before .before .before .before .before .before .before .before .before .before .before .before .before .before .before .before .before .before .pre .1 .row) (c .before .before .before .before .before .before .before .before .before .before .before .before .before .before .before .before .before .before .before .before .before .before .before .before .before .before .before .read-row .result) (c .before .before .before .before .before .before .before .before .before .before .before .before .before .before .before .before .before .before .before .before .before .before .before .before .before .before .before .read-row .ensures) (past-three (c .before .before .before .before .before .before .before .before .before .before .before .before .before .before .before .before .before .before .before .before .before .before .before .before .before .before .before .read-row .result .kind) (c .before .before .before .before .before .before .before .before .before .before .before .before .before .before .before .before .before .before .before .before .before .before .before .before .before .if2 .left) (c .before .before .before .before .before .before .before .before .before .before .before .before .before .before .before .before .before .before .before .before .before .before .before .if3 .left)))) (c .before .before .before .before .before .before .before .before .before .before .before .before .before .before .before .before .image .ensures .above) }
 
--- src/cycle.rt:148:25
+negated-image-element-copy-out-known : (t : ℕ) → negated-image-lts.Need-element-copy-out-known (is-row-reads.Asked, is-row-reads.Learnt, negated-image-anew-below t, negated-image-anew.Post) (negated-image-at t) negated-image.Post
+negated-image-element-copy-out-known t c = search needs
+
 negated-image-add-known : (t : ℕ) → negated-image-lts.Need-add-known (is-row-reads.Asked, is-row-reads.Learnt, negated-image-anew-below t, negated-image-anew.Post) (negated-image-at t) negated-image.Post
 negated-image-add-known t c = omega (arith, c .before .before .before .before .before .pre .1 .source .limit, c .before .before .before .before .before .pre .1 .formula)
 
--- src/cycle.rt:148:17
 negated-image-mul-known : (t : ℕ) → negated-image-lts.Need-mul-known (is-row-reads.Asked, is-row-reads.Learnt, negated-image-anew-below t, negated-image-anew.Post) (negated-image-at t) negated-image.Post
 negated-image-mul-known t c = omega (arith, c .before .before .before .before .before .good, c .before .before .before .before .before .pre .1 .source .memo, c .before .before .before .before .before .pre .1 .formula, c .before .before .before .before .before .pre .1 .source .limit)
 
--- src/cycle.rt:148:17
 negated-image-slice-read-known : (t : ℕ) → negated-image-lts.Need-slice-read-known (is-row-reads.Asked, is-row-reads.Learnt, negated-image-anew-below t, negated-image-anew.Post) (negated-image-at t) negated-image.Post
 negated-image-slice-read-known t c = omega (arith, c .before .before .before .before .before .before .pre .1 .source .memo, c .before .before .before .before .before .before .pre .1 .formula)
 
--- src/cycle.rt:149:8
 negated-image-is-row-requires : (t : ℕ) → negated-image-lts.Need-is-row-requires (is-row-reads.Asked, is-row-reads.Learnt, negated-image-anew-below t, negated-image-anew.Post) (negated-image-at t) negated-image.Post
 negated-image-is-row-requires t c κs = search needs
 
--- src/cycle.rt:150:16
 negated-image-sub-result : (t : ℕ) → negated-image-lts.Need-sub-result (is-row-reads.Asked, is-row-reads.Learnt, negated-image-anew-below t, negated-image-anew.Post) (negated-image-at t) negated-image.Post
-negated-image-sub-result t c = omega (arith, row-word (getD (c .before .before .before .before .before .before .before .before .args .scratch .now) (c .before .before .before .before .before .before .before .before .args .frame .formulas + c .before .before .before .before .before .before .before .before .args .i) 0) (sym (c .before .is-row .ensures) ∙ c .if1 .taken) .0)
+negated-image-sub-result t c = omega (arith, row-word (getD (c .before .before .before .before .before .before .before .before .args .scratch .now) (framed (c .before .before .before .before .before .before .before .before .args .frame .now) .formulas + c .before .before .before .before .before .before .before .before .args .i) 0) (sym (c .before .is-row .ensures) ∙ c .if1 .taken) .0)
 
--- src/cycle.rt:150:9
 negated-image-returns : (t : ℕ) → negated-image-lts.Need-returns (is-row-reads.Asked, is-row-reads.Learnt, negated-image-anew-below t, negated-image-anew.Post) (negated-image-at t) negated-image.Post
-negated-image-returns t c = (reaches-known (c .before .before .before .before .before .before .before .before .args .frame) (c .before .before .before .before .before .before .before .before .args .formulas .now) ((sized (c .before .before .before .before .before .before .before .before .args .rows .now) (c .before .before .before .before .before .before .before .before .args .twins .now))) (store (c .before .before .before .before .before .before .before .before .args .table .now) (c .before .before .before .before .before .before .before .before .args .originals .now)) (c .before .before .before .before .before .before .before .before .args .scratch .now) negated (c .before .before .before .before .before .before .before .before .args .i) (getD (c .before .before .before .before .before .before .before .before .args .scratch .now) (c .before .before .before .before .before .before .before .before .args .frame .formulas + c .before .before .before .before .before .before .before .before .args .i) 0) (c .before .before .before .before .before .before .before .before .pre .1) refl (sym (c .before .is-row .ensures) ∙ c .if1 .taken))
+negated-image-returns t c = (reaches-known (framed (c .before .before .before .before .before .before .before .before .args .frame .now)) (c .before .before .before .before .before .before .before .before .args .formulas .now) ((sized (c .before .before .before .before .before .before .before .before .args .rows .now) (c .before .before .before .before .before .before .before .before .args .twins .now))) (store (c .before .before .before .before .before .before .before .before .args .table .now) (c .before .before .before .before .before .before .before .before .args .originals .now)) (c .before .before .before .before .before .before .before .before .args .scratch .now) negated (c .before .before .before .before .before .before .before .before .args .i) (getD (c .before .before .before .before .before .before .before .before .args .scratch .now) (framed (c .before .before .before .before .before .before .before .before .args .frame .now) .formulas + c .before .before .before .before .before .before .before .before .args .i) 0) (c .before .before .before .before .before .before .before .before .pre .1) refl (sym (c .before .is-row .ensures) ∙ c .if1 .taken))
 
--- src/cycle.rt:152:5
 negated-image-negated-image-anew-requires : (t : ℕ) → negated-image-lts.Need-negated-image-anew-requires (is-row-reads.Asked, is-row-reads.Learnt, negated-image-anew-below t, negated-image-anew.Post) (negated-image-at t) negated-image.Post
 negated-image-negated-image-anew-requires t c κs = (omega (arith, c .before .before .before .before .before .before .before .before .before .before .before .before .before .pre .0), c .before .before .before .before .before .before .before .before .before .before .before .before .before .pre .1)
 
--- src/cycle.rt:135:1
 negated-image-same-length : (t : ℕ) → negated-image-lts.Need-same-length (is-row-reads.Asked, is-row-reads.Learnt, negated-image-anew-below t, negated-image-anew.Post) (negated-image-at t) negated-image.Post
 negated-image-same-length t c = c .before .before .before .before .before .before .negated-image-anew .kept .1 .1 .1 .1 .1 .0
 
--- src/cycle.rt:135:1
 negated-image-same-length-2 : (t : ℕ) → negated-image-lts.Need-same-length-2 (is-row-reads.Asked, is-row-reads.Learnt, negated-image-anew-below t, negated-image-anew.Post) (negated-image-at t) negated-image.Post
 negated-image-same-length-2 t c = c .before .before .before .before .before .before .negated-image-anew .kept .1 .1 .1 .1 .1 .1 .0
 
--- src/cycle.rt:135:1
 negated-image-same-length-3 : (t : ℕ) → negated-image-lts.Need-same-length-3 (is-row-reads.Asked, is-row-reads.Learnt, negated-image-anew-below t, negated-image-anew.Post) (negated-image-at t) negated-image.Post
 negated-image-same-length-3 t c = c .before .before .before .before .before .before .negated-image-anew .kept .1 .1 .1 .1 .1 .1 .1 .0
 
--- src/cycle.rt:135:1
 negated-image-returns-2 : (t : ℕ) → negated-image-lts.Need-returns-2 (is-row-reads.Asked, is-row-reads.Learnt, negated-image-anew-below t, negated-image-anew.Post) (negated-image-at t) negated-image.Post
 negated-image-returns-2 t c = c .before .before .before .before .before .before .negated-image-anew .ensures
 
 abbrev negated-image-anew-Inv-loop : negated-image-anew-lts.InvT-loop
 negated-image-anew-Inv-loop formulas i frame rows₀ twins₀ table₀ originals₀ scratch₀ j₀ s₀ rows twins table originals scratch j s =
     (at : Size) (before : Store) (entry : List ℕ)
-    → Climbing frame formulas negated i at before entry j₀ (stepped rows₀ twins₀ s₀) (store table₀ originals₀) scratch₀
-    → Climbing frame formulas negated i at before entry j (stepped rows twins s) (store table originals) scratch
+    → Climbing (framed frame) formulas negated i at before entry j₀ (stepped rows₀ twins₀ s₀) (store table₀ originals₀) scratch₀
+    → Climbing (framed frame) formulas negated i at before entry j (stepped rows twins s) (store table originals) scratch
 
 abbrev negated-image-anew-μ-loop : negated-image-anew-lts.MeasureT-loop
 negated-image-anew-μ-loop formulas i frame rows₀ twins₀ table₀ originals₀ scratch₀ j₀ s₀ rows twins table originals scratch j s =
     i + 1 - j
 
--- src/cycle.rt:169:9
 negated-image-anew-descend-requires : (t : ℕ) → negated-image-anew-lts.Need-descend-requires (descend-reads.Asked, descend-reads.Learnt, negated-image-start-below t, negated-image-start.Post, negated-image-up-below t, negated-image-up.Post, note-reads.Asked, note-reads.Learnt, over-reads.Asked, over-reads.Learnt)
     (negated-image-anew-at t)
     negated-image-anew.Post
@@ -587,11 +511,9 @@ negated-image-anew-descend-requires : (t : ℕ) → negated-image-anew-lts.Need-
     negated-image-anew-μ-loop
 negated-image-anew-descend-requires t c κs = asks-row (c .before .before .before .before .before .pre .1)
 
--- src/cycle.rt:170:9
 negated-image-anew-negated-image-start-requires : (t : ℕ) → negated-image-anew-lts.Need-negated-image-start-requires (descend-reads.Asked, descend-reads.Learnt, negated-image-start-below t, negated-image-start.Post, negated-image-up-below t, negated-image-up.Post, note-reads.Asked, note-reads.Learnt, over-reads.Asked, over-reads.Learnt) (negated-image-anew-at t) negated-image-anew.Post negated-image-anew-Inv-loop negated-image-anew-μ-loop
 negated-image-anew-negated-image-start-requires t c κs = (omega (arith, c .before .before .before .before .before .before .before .before .before .before .before .before .before .pre .0, climb-within (c .before .before .before .before .before .before .before .descend .ensures .climb)), asks-lowest (c .before .before .before .before .before .before .before .before .before .before .before .before .before .pre .1) (c .before .before .before .before .before .before .before .descend .kept .1 .1 .1 .1 .0) (c .before .before .before .before .before .before .before .descend .ensures))
 
--- src/cycle.rt:171:5
 negated-image-anew-loop-holds : (t : ℕ) → negated-image-anew-lts.Need-loop-holds (descend-reads.Asked, descend-reads.Learnt, negated-image-start-below t, negated-image-start.Post, negated-image-up-below t, negated-image-up.Post, note-reads.Asked, note-reads.Learnt, over-reads.Asked, over-reads.Learnt)
     (negated-image-anew-at t)
     negated-image-anew.Post
@@ -599,7 +521,13 @@ negated-image-anew-loop-holds : (t : ℕ) → negated-image-anew-lts.Need-loop-h
     negated-image-anew-μ-loop
 negated-image-anew-loop-holds t c = λ at before entry b. b
 
--- src/cycle.rt:172:17
+negated-image-anew-element-copy-out-k : (t : ℕ) → negated-image-anew-lts.Need-element-copy-out-k (descend-reads.Asked, descend-reads.Learnt, negated-image-start-below t, negated-image-start.Post, negated-image-up-below t, negated-image-up.Post, note-reads.Asked, note-reads.Learnt, over-reads.Asked, over-reads.Learnt)
+    (negated-image-anew-at t)
+    negated-image-anew.Post
+    negated-image-anew-Inv-loop
+    negated-image-anew-μ-loop
+negated-image-anew-element-copy-out-k t c = search needs
+
 negated-image-anew-add-k : (t : ℕ) → negated-image-anew-lts.Need-add-k (descend-reads.Asked, descend-reads.Learnt, negated-image-start-below t, negated-image-start.Post, negated-image-up-below t, negated-image-up.Post, note-reads.Asked, note-reads.Learnt, over-reads.Asked, over-reads.Learnt)
     (negated-image-anew-at t)
     negated-image-anew.Post
@@ -607,7 +535,6 @@ negated-image-anew-add-k : (t : ℕ) → negated-image-anew-lts.Need-add-k (desc
     negated-image-anew-μ-loop
 negated-image-anew-add-k t c = omega (arith, c .before .loop-test .taken, c .before .before .before .before .before .before .before .before .before .before .before .before .before .before .before .before .before .before .before .before .before .before .before .pre .1 .source .limit, c .before .before .before .before .before .before .before .before .before .before .before .before .before .before .before .before .before .before .before .before .before .before .before .pre .1 .formula)
 
--- src/cycle.rt:173:20
 negated-image-anew-mul-word : (t : ℕ) → negated-image-anew-lts.Need-mul-word (descend-reads.Asked, descend-reads.Learnt, negated-image-start-below t, negated-image-start.Post, negated-image-up-below t, negated-image-up.Post, note-reads.Asked, note-reads.Learnt, over-reads.Asked, over-reads.Learnt)
     (negated-image-anew-at t)
     negated-image-anew.Post
@@ -615,7 +542,6 @@ negated-image-anew-mul-word : (t : ℕ) → negated-image-anew-lts.Need-mul-word
     negated-image-anew-μ-loop
 negated-image-anew-mul-word t c = omega (arith, c .before .loop-test .taken, c .before .before .before .before .before .before .before .before .before .before .before .before .before .before .before .before .before .before .before .before .before .before .before .pre .1 .formula, c .before .before .before .before .before .before .before .before .before .before .before .before .before .before .before .before .before .before .before .before .before .before .before .pre .1 .source .limit)
 
--- src/cycle.rt:173:20
 negated-image-anew-slice-read-word : (t : ℕ) → negated-image-anew-lts.Need-slice-read-word (descend-reads.Asked, descend-reads.Learnt, negated-image-start-below t, negated-image-start.Post, negated-image-up-below t, negated-image-up.Post, note-reads.Asked, note-reads.Learnt, over-reads.Asked, over-reads.Learnt)
     (negated-image-anew-at t)
     negated-image-anew.Post
@@ -623,19 +549,16 @@ negated-image-anew-slice-read-word : (t : ℕ) → negated-image-anew-lts.Need-s
     negated-image-anew-μ-loop
 negated-image-anew-slice-read-word t c = let g = c .before .before .before .loop .inv ((sized (c .before .before .before .before .before .before .before .before .before .before .before .before .before .before .before .before .before .before .before .before .before .before .before .before .args .rows .now) (c .before .before .before .before .before .before .before .before .before .before .before .before .before .before .before .before .before .before .before .before .before .before .before .before .args .twins .now))) (store (c .before .before .before .before .before .before .before .before .before .before .before .before .before .before .before .before .before .before .before .before .before .before .before .before .args .table .now) (c .before .before .before .before .before .before .before .before .before .before .before .before .before .before .before .before .before .before .before .before .before .before .before .before .args .originals .now)) (c .before .before .before .before .before .before .before .before .before .before .before .before .before .before .before .before .before .before .before .before .before .before .before .before .args .scratch .now) (climbing-begins (c .before .before .before .before .before .before .before .before .before .before .before .before .before .before .before .before .before .before .before .before .before .before .before .before .pre .1) (c .before .before .before .before .before .before .before .before .before .before .before .before .before .before .before .before .before .before .descend .ensures) (c .before .before .before .before .before .before .before .before .before .before .negated-image-start .ensures) (c .before .before .before .before .before .before .before .before .before .before .before .before .before .before .before .before .before .before .descend .kept .1 .1 .1 .1 .0) (c .before .before .before .before .before .before .before .before .before .before .negated-image-start .kept .1 .1 .1 .1 .1 .1 .1 .0) (c .before .before .before .before .before .before .before .before .before .before .negated-image-start .kept .1 .1 .1 .1 .1 .0) (c .before .before .before .before .before .before .before .before .before .before .negated-image-start .kept .1 .1 .1 .1 .1 .1 .0)) in omega (arith, c .before .before .loop-test .taken, g .row .source .memo, g .row .formula)
 
--- src/cycle.rt:173:20
 negated-image-anew-cast-word : (t : ℕ) → negated-image-anew-lts.Need-cast-word (descend-reads.Asked, descend-reads.Learnt, negated-image-start-below t, negated-image-start.Post, negated-image-up-below t, negated-image-up.Post, note-reads.Asked, note-reads.Learnt, over-reads.Asked, over-reads.Learnt)
     (negated-image-anew-at t)
     negated-image-anew.Post
     negated-image-anew-Inv-loop
     negated-image-anew-μ-loop
-negated-image-anew-cast-word t c = omega (arith, c .slice-known8 .given (c .before .before .before .before .before .before .before .before .before .before .before .before .before .before .before .before .before .before .before .before .before .before .before .before .args .frame .formulas + c .before .before .before .loop .j))
+negated-image-anew-cast-word t c = omega (arith, c .slice-known8 .given (framed (c .before .before .before .before .before .before .before .before .before .before .before .before .before .before .before .before .before .before .before .before .before .before .before .before .args .frame .now) .formulas + c .before .before .before .loop .j))
 
--- src/cycle.rt:174:9
 negated-image-anew-negated-image-up-requires : (t : ℕ) → negated-image-anew-lts.Need-negated-image-up-requires (descend-reads.Asked, descend-reads.Learnt, negated-image-start-below t, negated-image-start.Post, negated-image-up-below t, negated-image-up.Post, note-reads.Asked, note-reads.Learnt, over-reads.Asked, over-reads.Learnt) (negated-image-anew-at t) negated-image-anew.Post negated-image-anew-Inv-loop negated-image-anew-μ-loop
 negated-image-anew-negated-image-up-requires t c κs = let g = c .before .before .before .before .before .before .before .before .loop .inv ((sized (c .before .before .before .before .before .before .before .before .before .before .before .before .before .before .before .before .before .before .before .before .before .before .before .before .before .before .before .before .before .args .rows .now) (c .before .before .before .before .before .before .before .before .before .before .before .before .before .before .before .before .before .before .before .before .before .before .before .before .before .before .before .before .before .args .twins .now))) (store (c .before .before .before .before .before .before .before .before .before .before .before .before .before .before .before .before .before .before .before .before .before .before .before .before .before .before .before .before .before .args .table .now) (c .before .before .before .before .before .before .before .before .before .before .before .before .before .before .before .before .before .before .before .before .before .before .before .before .before .before .before .before .before .args .originals .now)) (c .before .before .before .before .before .before .before .before .before .before .before .before .before .before .before .before .before .before .before .before .before .before .before .before .before .before .before .before .before .args .scratch .now) (climbing-begins (c .before .before .before .before .before .before .before .before .before .before .before .before .before .before .before .before .before .before .before .before .before .before .before .before .before .before .before .before .before .pre .1) (c .before .before .before .before .before .before .before .before .before .before .before .before .before .before .before .before .before .before .before .before .before .before .before .descend .ensures) (c .before .before .before .before .before .before .before .before .before .before .before .before .before .before .before .negated-image-start .ensures) (c .before .before .before .before .before .before .before .before .before .before .before .before .before .before .before .before .before .before .before .before .before .before .before .descend .kept .1 .1 .1 .1 .0) (c .before .before .before .before .before .before .before .before .before .before .before .before .before .before .before .negated-image-start .kept .1 .1 .1 .1 .1 .1 .1 .0) (c .before .before .before .before .before .before .before .before .before .before .before .before .before .before .before .negated-image-start .kept .1 .1 .1 .1 .1 .0) (c .before .before .before .before .before .before .before .before .before .before .before .before .before .before .before .negated-image-start .kept .1 .1 .1 .1 .1 .1 .0)) in (omega (arith, c .before .before .before .before .before .before .before .before .before .before .before .before .before .before .before .before .before .before .before .before .before .before .before .before .before .before .before .before .before .pre .0, c .before .before .before .before .before .before .before .loop-test .taken), climbing-asks g (c .before .before .before .before .before .before .before .loop-test .taken))
 
--- src/cycle.rt:175:9
 negated-image-anew-note-requires : (t : ℕ) → negated-image-anew-lts.Need-note-requires (descend-reads.Asked, descend-reads.Learnt, negated-image-start-below t, negated-image-start.Post, negated-image-up-below t, negated-image-up.Post, note-reads.Asked, note-reads.Learnt, over-reads.Asked, over-reads.Learnt)
     (negated-image-anew-at t)
     negated-image-anew.Post
@@ -643,31 +566,27 @@ negated-image-anew-note-requires : (t : ℕ) → negated-image-anew-lts.Need-not
     negated-image-anew-μ-loop
 negated-image-anew-note-requires t c κs = let g = c .before .before .before .before .before .before .before .before .before .before .before .before .before .before .before .before .loop .inv ((sized (c .before .before .before .before .before .before .before .before .before .before .before .before .before .before .before .before .before .before .before .before .before .before .before .before .before .before .before .before .before .before .before .before .before .before .before .before .before .args .rows .now) (c .before .before .before .before .before .before .before .before .before .before .before .before .before .before .before .before .before .before .before .before .before .before .before .before .before .before .before .before .before .before .before .before .before .before .before .before .before .args .twins .now))) (store (c .before .before .before .before .before .before .before .before .before .before .before .before .before .before .before .before .before .before .before .before .before .before .before .before .before .before .before .before .before .before .before .before .before .before .before .before .before .args .table .now) (c .before .before .before .before .before .before .before .before .before .before .before .before .before .before .before .before .before .before .before .before .before .before .before .before .before .before .before .before .before .before .before .before .before .before .before .before .before .args .originals .now)) (c .before .before .before .before .before .before .before .before .before .before .before .before .before .before .before .before .before .before .before .before .before .before .before .before .before .before .before .before .before .before .before .before .before .before .before .before .before .args .scratch .now) (climbing-begins (c .before .before .before .before .before .before .before .before .before .before .before .before .before .before .before .before .before .before .before .before .before .before .before .before .before .before .before .before .before .before .before .before .before .before .before .before .before .pre .1) (c .before .before .before .before .before .before .before .before .before .before .before .before .before .before .before .before .before .before .before .before .before .before .before .before .before .before .before .before .before .before .before .descend .ensures) (c .before .before .before .before .before .before .before .before .before .before .before .before .before .before .before .before .before .before .before .before .before .before .before .negated-image-start .ensures) (c .before .before .before .before .before .before .before .before .before .before .before .before .before .before .before .before .before .before .before .before .before .before .before .before .before .before .before .before .before .before .before .descend .kept .1 .1 .1 .1 .0) (c .before .before .before .before .before .before .before .before .before .before .before .before .before .before .before .before .before .before .before .before .before .before .before .negated-image-start .kept .1 .1 .1 .1 .1 .1 .1 .0) (c .before .before .before .before .before .before .before .before .before .before .before .before .before .before .before .before .before .before .before .before .before .before .before .negated-image-start .kept .1 .1 .1 .1 .1 .0) (c .before .before .before .before .before .before .before .before .before .before .before .before .before .before .before .before .before .before .before .before .before .before .before .negated-image-start .kept .1 .1 .1 .1 .1 .1 .0)) in let q = climbing-notes g (c .before .before .before .before .before .before .before .before .before .before .before .before .before .before .before .loop-test .taken) (c .before .before .before .before .before .before .before .negated-image-up .ensures) (c .before .before .before .before .before .before .before .negated-image-up .kept .1 .1 .1 .1 .1 .1 .1 .1 .0) in record { room = q .room; small = q .small }
 
--- src/cycle.rt:176:9
 negated-image-anew-over-requires : (t : ℕ) → negated-image-anew-lts.Need-over-requires (descend-reads.Asked, descend-reads.Learnt, negated-image-start-below t, negated-image-start.Post, negated-image-up-below t, negated-image-up.Post, note-reads.Asked, note-reads.Learnt, over-reads.Asked, over-reads.Learnt)
     (negated-image-anew-at t)
     negated-image-anew.Post
     negated-image-anew-Inv-loop
     negated-image-anew-μ-loop
-negated-image-anew-over-requires t c κs = let g = c .before .before .before .before .before .before .before .before .before .before .before .before .before .before .before .before .before .before .before .loop .inv ((sized (c .before .before .before .before .before .before .before .before .before .before .before .before .before .before .before .before .before .before .before .before .before .before .before .before .before .before .before .before .before .before .before .before .before .before .before .before .before .before .before .before .args .rows .now) (c .before .before .before .before .before .before .before .before .before .before .before .before .before .before .before .before .before .before .before .before .before .before .before .before .before .before .before .before .before .before .before .before .before .before .before .before .before .before .before .before .args .twins .now))) (store (c .before .before .before .before .before .before .before .before .before .before .before .before .before .before .before .before .before .before .before .before .before .before .before .before .before .before .before .before .before .before .before .before .before .before .before .before .before .before .before .before .args .table .now) (c .before .before .before .before .before .before .before .before .before .before .before .before .before .before .before .before .before .before .before .before .before .before .before .before .before .before .before .before .before .before .before .before .before .before .before .before .before .before .before .before .args .originals .now)) (c .before .before .before .before .before .before .before .before .before .before .before .before .before .before .before .before .before .before .before .before .before .before .before .before .before .before .before .before .before .before .before .before .before .before .before .before .before .before .before .before .args .scratch .now) (climbing-begins (c .before .before .before .before .before .before .before .before .before .before .before .before .before .before .before .before .before .before .before .before .before .before .before .before .before .before .before .before .before .before .before .before .before .before .before .before .before .before .before .before .pre .1) (c .before .before .before .before .before .before .before .before .before .before .before .before .before .before .before .before .before .before .before .before .before .before .before .before .before .before .before .before .before .before .before .before .before .before .descend .ensures) (c .before .before .before .before .before .before .before .before .before .before .before .before .before .before .before .before .before .before .before .before .before .before .before .before .before .before .negated-image-start .ensures) (c .before .before .before .before .before .before .before .before .before .before .before .before .before .before .before .before .before .before .before .before .before .before .before .before .before .before .before .before .before .before .before .before .before .before .descend .kept .1 .1 .1 .1 .0) (c .before .before .before .before .before .before .before .before .before .before .before .before .before .before .before .before .before .before .before .before .before .before .before .before .before .before .negated-image-start .kept .1 .1 .1 .1 .1 .1 .1 .0) (c .before .before .before .before .before .before .before .before .before .before .before .before .before .before .before .before .before .before .before .before .before .before .before .before .before .before .negated-image-start .kept .1 .1 .1 .1 .1 .0) (c .before .before .before .before .before .before .before .before .before .before .before .before .before .before .before .before .before .before .before .before .before .before .before .before .before .before .negated-image-start .kept .1 .1 .1 .1 .1 .1 .0)) in (omega (arith, c .before .before .before .before .before .before .before .before .before .before .before .before .before .before .before .before .before .before .before .before .before .before .before .before .before .before .before .before .before .before .before .before .before .before .before .before .before .before .before .before .pre .1 .formula, c .before .before .before .before .before .before .before .before .before .before .before .before .before .before .before .before .before .before .before .before .before .before .before .before .before .before .before .before .before .before .before .before .before .before .before .before .before .before .before .before .pre .1 .source .limit), climbing-word g (c .before .before .before .before .before .before .before .before .before .before .before .before .before .before .before .before .before .before .loop-test .taken) (getD (c .before .before .before .before .before .before .before .before .before .before .before .before .before .before .before .before .before .before .before .loop .scratch) (c .before .before .before .before .before .before .before .before .before .before .before .before .before .before .before .before .before .before .before .before .before .before .before .before .before .before .before .before .before .before .before .before .before .before .before .before .before .before .before .before .args .frame .formulas + c .before .before .before .before .before .before .before .before .before .before .before .before .before .before .before .before .before .before .before .loop .j) 0) refl)
+negated-image-anew-over-requires t c κs = let g = c .before .before .before .before .before .before .before .before .before .before .before .before .before .before .before .before .before .before .before .loop .inv ((sized (c .before .before .before .before .before .before .before .before .before .before .before .before .before .before .before .before .before .before .before .before .before .before .before .before .before .before .before .before .before .before .before .before .before .before .before .before .before .before .before .before .args .rows .now) (c .before .before .before .before .before .before .before .before .before .before .before .before .before .before .before .before .before .before .before .before .before .before .before .before .before .before .before .before .before .before .before .before .before .before .before .before .before .before .before .before .args .twins .now))) (store (c .before .before .before .before .before .before .before .before .before .before .before .before .before .before .before .before .before .before .before .before .before .before .before .before .before .before .before .before .before .before .before .before .before .before .before .before .before .before .before .before .args .table .now) (c .before .before .before .before .before .before .before .before .before .before .before .before .before .before .before .before .before .before .before .before .before .before .before .before .before .before .before .before .before .before .before .before .before .before .before .before .before .before .before .before .args .originals .now)) (c .before .before .before .before .before .before .before .before .before .before .before .before .before .before .before .before .before .before .before .before .before .before .before .before .before .before .before .before .before .before .before .before .before .before .before .before .before .before .before .before .args .scratch .now) (climbing-begins (c .before .before .before .before .before .before .before .before .before .before .before .before .before .before .before .before .before .before .before .before .before .before .before .before .before .before .before .before .before .before .before .before .before .before .before .before .before .before .before .before .pre .1) (c .before .before .before .before .before .before .before .before .before .before .before .before .before .before .before .before .before .before .before .before .before .before .before .before .before .before .before .before .before .before .before .before .before .before .descend .ensures) (c .before .before .before .before .before .before .before .before .before .before .before .before .before .before .before .before .before .before .before .before .before .before .before .before .before .before .negated-image-start .ensures) (c .before .before .before .before .before .before .before .before .before .before .before .before .before .before .before .before .before .before .before .before .before .before .before .before .before .before .before .before .before .before .before .before .before .before .descend .kept .1 .1 .1 .1 .0) (c .before .before .before .before .before .before .before .before .before .before .before .before .before .before .before .before .before .before .before .before .before .before .before .before .before .before .negated-image-start .kept .1 .1 .1 .1 .1 .1 .1 .0) (c .before .before .before .before .before .before .before .before .before .before .before .before .before .before .before .before .before .before .before .before .before .before .before .before .before .before .negated-image-start .kept .1 .1 .1 .1 .1 .0) (c .before .before .before .before .before .before .before .before .before .before .before .before .before .before .before .before .before .before .before .before .before .before .before .before .before .before .negated-image-start .kept .1 .1 .1 .1 .1 .1 .0)) in (omega (arith, c .before .before .before .before .before .before .before .before .before .before .before .before .before .before .before .before .before .before .before .before .before .before .before .before .before .before .before .before .before .before .before .before .before .before .before .before .before .before .before .before .pre .1 .formula, c .before .before .before .before .before .before .before .before .before .before .before .before .before .before .before .before .before .before .before .before .before .before .before .before .before .before .before .before .before .before .before .before .before .before .before .before .before .before .before .before .pre .1 .source .limit), climbing-word g (c .before .before .before .before .before .before .before .before .before .before .before .before .before .before .before .before .before .before .loop-test .taken) (getD (c .before .before .before .before .before .before .before .before .before .before .before .before .before .before .before .before .before .before .before .loop .scratch) (framed (c .before .before .before .before .before .before .before .before .before .before .before .before .before .before .before .before .before .before .before .before .before .before .before .before .before .before .before .before .before .before .before .before .before .before .before .before .before .before .before .before .args .frame .now) .formulas + c .before .before .before .before .before .before .before .before .before .before .before .before .before .before .before .before .before .before .before .loop .j) 0) refl)
 
--- src/cycle.rt:171:5
 negated-image-anew-loop-less : (t : ℕ) → negated-image-anew-lts.Need-loop-less (descend-reads.Asked, descend-reads.Learnt, negated-image-start-below t, negated-image-start.Post, negated-image-up-below t, negated-image-up.Post, note-reads.Asked, note-reads.Learnt, over-reads.Asked, over-reads.Learnt)
     (negated-image-anew-at t)
     negated-image-anew.Post
     negated-image-anew-Inv-loop
     negated-image-anew-μ-loop
-negated-image-anew-loop-less t c = let g = c .before .before .before .before .before .before .before .before .before .before .before .before .before .before .before .before .before .before .before .before .loop .inv ((sized (c .before .before .before .before .before .before .before .before .before .before .before .before .before .before .before .before .before .before .before .before .before .before .before .before .before .before .before .before .before .before .before .before .before .before .before .before .before .before .before .before .before .args .rows .now) (c .before .before .before .before .before .before .before .before .before .before .before .before .before .before .before .before .before .before .before .before .before .before .before .before .before .before .before .before .before .before .before .before .before .before .before .before .before .before .before .before .before .args .twins .now))) (store (c .before .before .before .before .before .before .before .before .before .before .before .before .before .before .before .before .before .before .before .before .before .before .before .before .before .before .before .before .before .before .before .before .before .before .before .before .before .before .before .before .before .args .table .now) (c .before .before .before .before .before .before .before .before .before .before .before .before .before .before .before .before .before .before .before .before .before .before .before .before .before .before .before .before .before .before .before .before .before .before .before .before .before .before .before .before .before .args .originals .now)) (c .before .before .before .before .before .before .before .before .before .before .before .before .before .before .before .before .before .before .before .before .before .before .before .before .before .before .before .before .before .before .before .before .before .before .before .before .before .before .before .before .before .args .scratch .now) (climbing-begins (c .before .before .before .before .before .before .before .before .before .before .before .before .before .before .before .before .before .before .before .before .before .before .before .before .before .before .before .before .before .before .before .before .before .before .before .before .before .before .before .before .before .pre .1) (c .before .before .before .before .before .before .before .before .before .before .before .before .before .before .before .before .before .before .before .before .before .before .before .before .before .before .before .before .before .before .before .before .before .before .before .descend .ensures) (c .before .before .before .before .before .before .before .before .before .before .before .before .before .before .before .before .before .before .before .before .before .before .before .before .before .before .before .negated-image-start .ensures) (c .before .before .before .before .before .before .before .before .before .before .before .before .before .before .before .before .before .before .before .before .before .before .before .before .before .before .before .before .before .before .before .before .before .before .before .descend .kept .1 .1 .1 .1 .0) (c .before .before .before .before .before .before .before .before .before .before .before .before .before .before .before .before .before .before .before .before .before .before .before .before .before .before .before .negated-image-start .kept .1 .1 .1 .1 .1 .1 .1 .0) (c .before .before .before .before .before .before .before .before .before .before .before .before .before .before .before .before .before .before .before .before .before .before .before .before .before .before .before .negated-image-start .kept .1 .1 .1 .1 .1 .0) (c .before .before .before .before .before .before .before .before .before .before .before .before .before .before .before .before .before .before .before .before .before .before .before .before .before .before .before .negated-image-start .kept .1 .1 .1 .1 .1 .1 .0)) in let h : c .before .before .before .before .before .before .before .before .before .before .before .before .before .before .before .before .before .before .before .before .loop .j < c .over .result = rw (c .over .ensures) (climbing-rises g (c .before .before .before .before .before .before .before .before .before .before .before .before .before .before .before .before .before .before .before .loop-test .taken) (getD (c .before .before .before .before .before .before .before .before .before .before .before .before .before .before .before .before .before .before .before .before .loop .scratch) (c .before .before .before .before .before .before .before .before .before .before .before .before .before .before .before .before .before .before .before .before .before .before .before .before .before .before .before .before .before .before .before .before .before .before .before .before .before .before .before .before .before .args .frame .formulas + c .before .before .before .before .before .before .before .before .before .before .before .before .before .before .before .before .before .before .before .before .loop .j) 0) refl) in omega (arith, h, c .before .before .before .before .before .before .before .before .before .before .before .before .before .before .before .before .before .before .before .loop-test .taken)
+negated-image-anew-loop-less t c = let g = c .before .before .before .before .before .before .before .before .before .before .before .before .before .before .before .before .before .before .before .before .loop .inv ((sized (c .before .before .before .before .before .before .before .before .before .before .before .before .before .before .before .before .before .before .before .before .before .before .before .before .before .before .before .before .before .before .before .before .before .before .before .before .before .before .before .before .before .args .rows .now) (c .before .before .before .before .before .before .before .before .before .before .before .before .before .before .before .before .before .before .before .before .before .before .before .before .before .before .before .before .before .before .before .before .before .before .before .before .before .before .before .before .before .args .twins .now))) (store (c .before .before .before .before .before .before .before .before .before .before .before .before .before .before .before .before .before .before .before .before .before .before .before .before .before .before .before .before .before .before .before .before .before .before .before .before .before .before .before .before .before .args .table .now) (c .before .before .before .before .before .before .before .before .before .before .before .before .before .before .before .before .before .before .before .before .before .before .before .before .before .before .before .before .before .before .before .before .before .before .before .before .before .before .before .before .before .args .originals .now)) (c .before .before .before .before .before .before .before .before .before .before .before .before .before .before .before .before .before .before .before .before .before .before .before .before .before .before .before .before .before .before .before .before .before .before .before .before .before .before .before .before .before .args .scratch .now) (climbing-begins (c .before .before .before .before .before .before .before .before .before .before .before .before .before .before .before .before .before .before .before .before .before .before .before .before .before .before .before .before .before .before .before .before .before .before .before .before .before .before .before .before .before .pre .1) (c .before .before .before .before .before .before .before .before .before .before .before .before .before .before .before .before .before .before .before .before .before .before .before .before .before .before .before .before .before .before .before .before .before .before .before .descend .ensures) (c .before .before .before .before .before .before .before .before .before .before .before .before .before .before .before .before .before .before .before .before .before .before .before .before .before .before .before .negated-image-start .ensures) (c .before .before .before .before .before .before .before .before .before .before .before .before .before .before .before .before .before .before .before .before .before .before .before .before .before .before .before .before .before .before .before .before .before .before .before .descend .kept .1 .1 .1 .1 .0) (c .before .before .before .before .before .before .before .before .before .before .before .before .before .before .before .before .before .before .before .before .before .before .before .before .before .before .before .negated-image-start .kept .1 .1 .1 .1 .1 .1 .1 .0) (c .before .before .before .before .before .before .before .before .before .before .before .before .before .before .before .before .before .before .before .before .before .before .before .before .before .before .before .negated-image-start .kept .1 .1 .1 .1 .1 .0) (c .before .before .before .before .before .before .before .before .before .before .before .before .before .before .before .before .before .before .before .before .before .before .before .before .before .before .before .negated-image-start .kept .1 .1 .1 .1 .1 .1 .0)) in let h : c .before .before .before .before .before .before .before .before .before .before .before .before .before .before .before .before .before .before .before .before .loop .j < c .over .result = rw (c .over .ensures) (climbing-rises g (c .before .before .before .before .before .before .before .before .before .before .before .before .before .before .before .before .before .before .before .loop-test .taken) (getD (c .before .before .before .before .before .before .before .before .before .before .before .before .before .before .before .before .before .before .before .before .loop .scratch) (framed (c .before .before .before .before .before .before .before .before .before .before .before .before .before .before .before .before .before .before .before .before .before .before .before .before .before .before .before .before .before .before .before .before .before .before .before .before .before .before .before .before .before .args .frame .now) .formulas + c .before .before .before .before .before .before .before .before .before .before .before .before .before .before .before .before .before .before .before .before .loop .j) 0) refl) in omega (arith, h, c .before .before .before .before .before .before .before .before .before .before .before .before .before .before .before .before .before .before .before .loop-test .taken)
 
--- src/cycle.rt:171:5
 negated-image-anew-loop-again : (t : ℕ) → negated-image-anew-lts.Need-loop-again (descend-reads.Asked, descend-reads.Learnt, negated-image-start-below t, negated-image-start.Post, negated-image-up-below t, negated-image-up.Post, note-reads.Asked, note-reads.Learnt, over-reads.Asked, over-reads.Learnt)
     (negated-image-anew-at t)
     negated-image-anew.Post
     negated-image-anew-Inv-loop
     negated-image-anew-μ-loop
-negated-image-anew-loop-again t c = λ at before entry b. rw (c .before .before .before .note .ensures, c .over .ensures) (climbing-more (c .before .before .before .before .before .before .before .before .before .before .before .before .before .before .before .before .before .before .before .before .loop .inv at before entry b) (c .before .before .before .before .before .before .before .before .before .before .before .before .before .before .before .before .before .before .before .loop-test .taken) (getD (c .before .before .before .before .before .before .before .before .before .before .before .before .before .before .before .before .before .before .before .before .loop .scratch) (c .before .before .before .before .before .before .before .before .before .before .before .before .before .before .before .before .before .before .before .before .before .before .before .before .before .before .before .before .before .before .before .before .before .before .before .before .before .before .before .before .before .args .frame .formulas + c .before .before .before .before .before .before .before .before .before .before .before .before .before .before .before .before .before .before .before .before .loop .j) 0) refl (c .before .before .before .before .before .before .before .before .before .before .before .negated-image-up .ensures) (c .before .before .before .before .before .before .before .before .before .before .before .negated-image-up .kept .1 .1 .1 .1 .1 .1 .1 .1 .0) (c .before .before .before .before .before .before .before .before .before .before .before .negated-image-up .kept .1 .1 .1 .1 .1 .1 .0) (c .before .before .before .before .before .before .before .before .before .before .before .negated-image-up .kept .1 .1 .1 .1 .1 .1 .1 .0))
+negated-image-anew-loop-again t c = λ at before entry b. rw (c .before .before .before .note .ensures, c .over .ensures) (climbing-more (c .before .before .before .before .before .before .before .before .before .before .before .before .before .before .before .before .before .before .before .before .loop .inv at before entry b) (c .before .before .before .before .before .before .before .before .before .before .before .before .before .before .before .before .before .before .before .loop-test .taken) (getD (c .before .before .before .before .before .before .before .before .before .before .before .before .before .before .before .before .before .before .before .before .loop .scratch) (framed (c .before .before .before .before .before .before .before .before .before .before .before .before .before .before .before .before .before .before .before .before .before .before .before .before .before .before .before .before .before .before .before .before .before .before .before .before .before .before .before .before .before .args .frame .now) .formulas + c .before .before .before .before .before .before .before .before .before .before .before .before .before .before .before .before .before .before .before .before .loop .j) 0) refl (c .before .before .before .before .before .before .before .before .before .before .before .negated-image-up .ensures) (c .before .before .before .before .before .before .before .before .before .before .before .negated-image-up .kept .1 .1 .1 .1 .1 .1 .1 .1 .0) (c .before .before .before .before .before .before .before .before .before .before .before .negated-image-up .kept .1 .1 .1 .1 .1 .1 .0) (c .before .before .before .before .before .before .before .before .before .before .before .negated-image-up .kept .1 .1 .1 .1 .1 .1 .1 .0))
 
--- src/cycle.rt:156:1
 negated-image-anew-same-length : (t : ℕ) → negated-image-anew-lts.Need-same-length (descend-reads.Asked, descend-reads.Learnt, negated-image-start-below t, negated-image-start.Post, negated-image-up-below t, negated-image-up.Post, note-reads.Asked, note-reads.Learnt, over-reads.Asked, over-reads.Learnt)
     (negated-image-anew-at t)
     negated-image-anew.Post
@@ -675,7 +594,6 @@ negated-image-anew-same-length : (t : ℕ) → negated-image-anew-lts.Need-same-
     negated-image-anew-μ-loop
 negated-image-anew-same-length t c = let g = c .before .loop .inv ((sized (c .before .before .before .before .before .before .before .before .before .before .before .before .before .before .before .before .before .before .before .before .before .before .args .rows .now) (c .before .before .before .before .before .before .before .before .before .before .before .before .before .before .before .before .before .before .before .before .before .before .args .twins .now))) (store (c .before .before .before .before .before .before .before .before .before .before .before .before .before .before .before .before .before .before .before .before .before .before .args .table .now) (c .before .before .before .before .before .before .before .before .before .before .before .before .before .before .before .before .before .before .before .before .before .before .args .originals .now)) (c .before .before .before .before .before .before .before .before .before .before .before .before .before .before .before .before .before .before .before .before .before .before .args .scratch .now) (climbing-begins (c .before .before .before .before .before .before .before .before .before .before .before .before .before .before .before .before .before .before .before .before .before .before .pre .1) (c .before .before .before .before .before .before .before .before .before .before .before .before .before .before .before .before .descend .ensures) (c .before .before .before .before .before .before .before .before .negated-image-start .ensures) (c .before .before .before .before .before .before .before .before .before .before .before .before .before .before .before .before .descend .kept .1 .1 .1 .1 .0) (c .before .before .before .before .before .before .before .before .negated-image-start .kept .1 .1 .1 .1 .1 .1 .1 .0) (c .before .before .before .before .before .before .before .before .negated-image-start .kept .1 .1 .1 .1 .1 .0) (c .before .before .before .before .before .before .before .before .negated-image-start .kept .1 .1 .1 .1 .1 .1 .0)) in g .table
 
--- src/cycle.rt:156:1
 negated-image-anew-same-length-2 : (t : ℕ) → negated-image-anew-lts.Need-same-length-2 (descend-reads.Asked, descend-reads.Learnt, negated-image-start-below t, negated-image-start.Post, negated-image-up-below t, negated-image-up.Post, note-reads.Asked, note-reads.Learnt, over-reads.Asked, over-reads.Learnt)
     (negated-image-anew-at t)
     negated-image-anew.Post
@@ -683,7 +601,6 @@ negated-image-anew-same-length-2 : (t : ℕ) → negated-image-anew-lts.Need-sam
     negated-image-anew-μ-loop
 negated-image-anew-same-length-2 t c = let g = c .before .loop .inv ((sized (c .before .before .before .before .before .before .before .before .before .before .before .before .before .before .before .before .before .before .before .before .before .before .args .rows .now) (c .before .before .before .before .before .before .before .before .before .before .before .before .before .before .before .before .before .before .before .before .before .before .args .twins .now))) (store (c .before .before .before .before .before .before .before .before .before .before .before .before .before .before .before .before .before .before .before .before .before .before .args .table .now) (c .before .before .before .before .before .before .before .before .before .before .before .before .before .before .before .before .before .before .before .before .before .before .args .originals .now)) (c .before .before .before .before .before .before .before .before .before .before .before .before .before .before .before .before .before .before .before .before .before .before .args .scratch .now) (climbing-begins (c .before .before .before .before .before .before .before .before .before .before .before .before .before .before .before .before .before .before .before .before .before .before .pre .1) (c .before .before .before .before .before .before .before .before .before .before .before .before .before .before .before .before .descend .ensures) (c .before .before .before .before .before .before .before .before .negated-image-start .ensures) (c .before .before .before .before .before .before .before .before .before .before .before .before .before .before .before .before .descend .kept .1 .1 .1 .1 .0) (c .before .before .before .before .before .before .before .before .negated-image-start .kept .1 .1 .1 .1 .1 .1 .1 .0) (c .before .before .before .before .before .before .before .before .negated-image-start .kept .1 .1 .1 .1 .1 .0) (c .before .before .before .before .before .before .before .before .negated-image-start .kept .1 .1 .1 .1 .1 .1 .0)) in g .originals
 
--- src/cycle.rt:156:1
 negated-image-anew-same-length-3 : (t : ℕ) → negated-image-anew-lts.Need-same-length-3 (descend-reads.Asked, descend-reads.Learnt, negated-image-start-below t, negated-image-start.Post, negated-image-up-below t, negated-image-up.Post, note-reads.Asked, note-reads.Learnt, over-reads.Asked, over-reads.Learnt)
     (negated-image-anew-at t)
     negated-image-anew.Post
@@ -691,7 +608,6 @@ negated-image-anew-same-length-3 : (t : ℕ) → negated-image-anew-lts.Need-sam
     negated-image-anew-μ-loop
 negated-image-anew-same-length-3 t c = let g = c .before .loop .inv ((sized (c .before .before .before .before .before .before .before .before .before .before .before .before .before .before .before .before .before .before .before .before .before .before .args .rows .now) (c .before .before .before .before .before .before .before .before .before .before .before .before .before .before .before .before .before .before .before .before .before .before .args .twins .now))) (store (c .before .before .before .before .before .before .before .before .before .before .before .before .before .before .before .before .before .before .before .before .before .before .args .table .now) (c .before .before .before .before .before .before .before .before .before .before .before .before .before .before .before .before .before .before .before .before .before .before .args .originals .now)) (c .before .before .before .before .before .before .before .before .before .before .before .before .before .before .before .before .before .before .before .before .before .before .args .scratch .now) (climbing-begins (c .before .before .before .before .before .before .before .before .before .before .before .before .before .before .before .before .before .before .before .before .before .before .pre .1) (c .before .before .before .before .before .before .before .before .before .before .before .before .before .before .before .before .descend .ensures) (c .before .before .before .before .before .before .before .before .negated-image-start .ensures) (c .before .before .before .before .before .before .before .before .before .before .before .before .before .before .before .before .descend .kept .1 .1 .1 .1 .0) (c .before .before .before .before .before .before .before .before .negated-image-start .kept .1 .1 .1 .1 .1 .1 .1 .0) (c .before .before .before .before .before .before .before .before .negated-image-start .kept .1 .1 .1 .1 .1 .0) (c .before .before .before .before .before .before .before .before .negated-image-start .kept .1 .1 .1 .1 .1 .1 .0)) in g .long
 
--- src/cycle.rt:156:1
 negated-image-anew-returns : (t : ℕ) → negated-image-anew-lts.Need-returns (descend-reads.Asked, descend-reads.Learnt, negated-image-start-below t, negated-image-start.Post, negated-image-up-below t, negated-image-up.Post, note-reads.Asked, note-reads.Learnt, over-reads.Asked, over-reads.Learnt)
     (negated-image-anew-at t)
     negated-image-anew.Post
@@ -699,269 +615,209 @@ negated-image-anew-returns : (t : ℕ) → negated-image-anew-lts.Need-returns (
     negated-image-anew-μ-loop
 negated-image-anew-returns t c = let g = c .before .loop .inv ((sized (c .before .before .before .before .before .before .before .before .before .before .before .before .before .before .before .before .before .before .before .before .before .before .args .rows .now) (c .before .before .before .before .before .before .before .before .before .before .before .before .before .before .before .before .before .before .before .before .before .before .args .twins .now))) (store (c .before .before .before .before .before .before .before .before .before .before .before .before .before .before .before .before .before .before .before .before .before .before .args .table .now) (c .before .before .before .before .before .before .before .before .before .before .before .before .before .before .before .before .before .before .before .before .before .before .args .originals .now)) (c .before .before .before .before .before .before .before .before .before .before .before .before .before .before .before .before .before .before .before .before .before .before .args .scratch .now) (climbing-begins (c .before .before .before .before .before .before .before .before .before .before .before .before .before .before .before .before .before .before .before .before .before .before .pre .1) (c .before .before .before .before .before .before .before .before .before .before .before .before .before .before .before .before .descend .ensures) (c .before .before .before .before .before .before .before .before .negated-image-start .ensures) (c .before .before .before .before .before .before .before .before .before .before .before .before .before .before .before .before .descend .kept .1 .1 .1 .1 .0) (c .before .before .before .before .before .before .before .before .negated-image-start .kept .1 .1 .1 .1 .1 .1 .1 .0) (c .before .before .before .before .before .before .before .before .negated-image-start .kept .1 .1 .1 .1 .1 .0) (c .before .before .before .before .before .before .before .before .negated-image-start .kept .1 .1 .1 .1 .1 .1 .0)) in climbing-ends g (c .loop-test .left)
 
--- src/cycle.rt:195:9
 negated-image-start-read-row-requires : (t : ℕ) → negated-image-start-lts.Need-read-row-requires (read-row-reads.Asked, read-row-reads.Learnt, keeps-side-reads.Asked, keeps-side-reads.Learnt, negated-image-below t, negated-image.Post, image-below t, image.Post) (negated-image-start-at t) negated-image-start.Post
 negated-image-start-read-row-requires t c κs = omega (arith, c .before .before .before .before .pre .1 .source .words, c .before .before .before .before .pre .1 .formula)
 
--- src/cycle.rt:197:9
 negated-image-start-returns : (t : ℕ) → negated-image-start-lts.Need-returns (read-row-reads.Asked, read-row-reads.Learnt, keeps-side-reads.Asked, keeps-side-reads.Learnt, negated-image-below t, negated-image.Post, image-below t, image.Post) (negated-image-start-at t) negated-image-start.Post
-negated-image-start-returns t c = (start-none (c .before .before .before .before .before .before .before .args .frame) (c .before .before .before .before .before .before .before .args .formulas .now) (c .before .before .before .before .before .before .before .args .scratch .now) (c .before .before .before .before .before .before .before .args .j) (asks-row (c .before .before .before .before .before .before .before .pre .1)) (c .before .before .read-row .result) (c .before .before .read-row .ensures) negated (c .if1 .taken) (c .before .before .before .before .before .before .before .pre .1))
+negated-image-start-returns t c = (start-none (framed (c .before .before .before .before .before .before .before .args .frame .now)) (c .before .before .before .before .before .before .before .args .formulas .now) (c .before .before .before .before .before .before .before .args .scratch .now) (c .before .before .before .before .before .before .before .args .j) (asks-row (c .before .before .before .before .before .before .before .pre .1)) (c .before .before .read-row .result) (c .before .before .read-row .ensures) negated (c .if1 .taken) (c .before .before .before .before .before .before .before .pre .1))
 
--- src/cycle.rt:199:8
 negated-image-start-keeps-side-requires : (t : ℕ) → negated-image-start-lts.Need-keeps-side-requires (read-row-reads.Asked, read-row-reads.Learnt, keeps-side-reads.Asked, keeps-side-reads.Learnt, negated-image-below t, negated-image.Post, image-below t, image.Post) (negated-image-start-at t) negated-image-start.Post
 negated-image-start-keeps-side-requires t c κs = search needs
 
--- src/cycle.rt:200:40
 negated-image-start-cast-negated-image : (t : ℕ) → negated-image-start-lts.Need-cast-negated-image (read-row-reads.Asked, read-row-reads.Learnt, keeps-side-reads.Asked, keeps-side-reads.Learnt, negated-image-below t, negated-image.Post, image-below t, image.Post) (negated-image-start-at t) negated-image-start.Post
 negated-image-start-cast-negated-image t c = search needs
 
--- src/cycle.rt:200:9
 negated-image-start-negated-image-requires : (t : ℕ) → negated-image-start-lts.Need-negated-image-requires (read-row-reads.Asked, read-row-reads.Learnt, keeps-side-reads.Asked, keeps-side-reads.Learnt, negated-image-below t, negated-image.Post, image-below t, image.Post) (negated-image-start-at t) negated-image-start.Post
-negated-image-start-negated-image-requires t c κs = (omega (arith, c .before .before .before .before .before .before .before .before .before .before .before .before .before .before .before .pre .0, left-lower (c .before .before .before .before .before .before .before .before .before .before .before .before .before .before .before .args .frame) (c .before .before .before .before .before .before .before .before .before .before .before .before .before .before .before .args .formulas .now) (c .before .before .before .before .before .before .before .before .before .before .before .before .before .before .before .args .scratch .now) (c .before .before .before .before .before .before .before .before .before .before .before .before .before .before .before .args .j) (asks-row (c .before .before .before .before .before .before .before .before .before .before .before .before .before .before .before .pre .1)) (c .before .before .before .before .before .before .before .before .before .before .read-row .result) (c .before .before .before .before .before .before .before .before .before .before .read-row .ensures) (c .before .before .before .before .before .before .before .before .if1 .left)), asks-lower (c .before .before .before .before .before .before .before .before .before .before .before .before .before .before .before .pre .1) (left-lower (c .before .before .before .before .before .before .before .before .before .before .before .before .before .before .before .args .frame) (c .before .before .before .before .before .before .before .before .before .before .before .before .before .before .before .args .formulas .now) (c .before .before .before .before .before .before .before .before .before .before .before .before .before .before .before .args .scratch .now) (c .before .before .before .before .before .before .before .before .before .before .before .before .before .before .before .args .j) (asks-row (c .before .before .before .before .before .before .before .before .before .before .before .before .before .before .before .pre .1)) (c .before .before .before .before .before .before .before .before .before .before .read-row .result) (c .before .before .before .before .before .before .before .before .before .before .read-row .ensures) (c .before .before .before .before .before .before .before .before .if1 .left)))
+negated-image-start-negated-image-requires t c κs = (omega (arith, c .before .before .before .before .before .before .before .before .before .before .before .before .before .before .before .pre .0, left-lower (framed (c .before .before .before .before .before .before .before .before .before .before .before .before .before .before .before .args .frame .now)) (c .before .before .before .before .before .before .before .before .before .before .before .before .before .before .before .args .formulas .now) (c .before .before .before .before .before .before .before .before .before .before .before .before .before .before .before .args .scratch .now) (c .before .before .before .before .before .before .before .before .before .before .before .before .before .before .before .args .j) (asks-row (c .before .before .before .before .before .before .before .before .before .before .before .before .before .before .before .pre .1)) (c .before .before .before .before .before .before .before .before .before .before .read-row .result) (c .before .before .before .before .before .before .before .before .before .before .read-row .ensures) (c .before .before .before .before .before .before .before .before .if1 .left)), asks-lower (c .before .before .before .before .before .before .before .before .before .before .before .before .before .before .before .pre .1) (left-lower (framed (c .before .before .before .before .before .before .before .before .before .before .before .before .before .before .before .args .frame .now)) (c .before .before .before .before .before .before .before .before .before .before .before .before .before .before .before .args .formulas .now) (c .before .before .before .before .before .before .before .before .before .before .before .before .before .before .before .args .scratch .now) (c .before .before .before .before .before .before .before .before .before .before .before .before .before .before .before .args .j) (asks-row (c .before .before .before .before .before .before .before .before .before .before .before .before .before .before .before .pre .1)) (c .before .before .before .before .before .before .before .before .before .before .read-row .result) (c .before .before .before .before .before .before .before .before .before .before .read-row .ensures) (c .before .before .before .before .before .before .before .before .if1 .left)))
 
--- src/cycle.rt:200:9
 negated-image-start-same-length : (t : ℕ) → negated-image-start-lts.Need-same-length (read-row-reads.Asked, read-row-reads.Learnt, keeps-side-reads.Asked, keeps-side-reads.Learnt, negated-image-below t, negated-image.Post, image-below t, image.Post) (negated-image-start-at t) negated-image-start.Post
 negated-image-start-same-length t c = c .before .before .before .before .before .before .negated-image .kept .1 .1 .1 .1 .1 .0
 
--- src/cycle.rt:200:9
 negated-image-start-same-length-2 : (t : ℕ) → negated-image-start-lts.Need-same-length-2 (read-row-reads.Asked, read-row-reads.Learnt, keeps-side-reads.Asked, keeps-side-reads.Learnt, negated-image-below t, negated-image.Post, image-below t, image.Post) (negated-image-start-at t) negated-image-start.Post
 negated-image-start-same-length-2 t c = c .before .before .before .before .before .before .negated-image .kept .1 .1 .1 .1 .1 .1 .0
 
--- src/cycle.rt:200:9
 negated-image-start-same-length-3 : (t : ℕ) → negated-image-start-lts.Need-same-length-3 (read-row-reads.Asked, read-row-reads.Learnt, keeps-side-reads.Asked, keeps-side-reads.Learnt, negated-image-below t, negated-image.Post, image-below t, image.Post) (negated-image-start-at t) negated-image-start.Post
 negated-image-start-same-length-3 t c = c .before .before .before .before .before .before .negated-image .kept .1 .1 .1 .1 .1 .1 .1 .0
 
--- src/cycle.rt:200:9
 negated-image-start-returns-2 : (t : ℕ) → negated-image-start-lts.Need-returns-2 (read-row-reads.Asked, read-row-reads.Learnt, keeps-side-reads.Asked, keeps-side-reads.Learnt, negated-image-below t, negated-image.Post, image-below t, image.Post) (negated-image-start-at t) negated-image-start.Post
-negated-image-start-returns-2 t c = start-own (c .before .before .before .before .before .before .before .before .before .before .before .before .before .before .before .before .before .before .before .before .before .before .args .frame) (c .before .before .before .before .before .before .before .before .before .before .before .before .before .before .before .before .before .before .before .before .before .before .args .formulas .now) (c .before .before .before .before .before .before .before .before .before .before .before .before .before .before .before .before .before .before .before .before .before .before .args .scratch .now) (c .before .before .before .before .before .before .before .before .before .before .before .before .before .before .before .before .before .before .before .before .before .before .args .j) (asks-row (c .before .before .before .before .before .before .before .before .before .before .before .before .before .before .before .before .before .before .before .before .before .before .pre .1)) (c .before .before .before .before .before .before .before .before .before .before .before .before .before .before .before .before .before .read-row .result) (c .before .before .before .before .before .before .before .before .before .before .before .before .before .before .before .before .before .read-row .ensures) negated (c .before .before .before .before .before .before .before .before .before .before .before .before .before .before .before .if1 .left) (sym (c .before .before .before .before .before .before .before .before .before .before .before .before .before .before .keeps-side .ensures) ∙ c .before .before .before .before .before .before .before .before .before .before .before .before .before .if2 .taken) (c .before .before .before .before .before .before .negated-image .ensures)
+negated-image-start-returns-2 t c = start-own (framed (c .before .before .before .before .before .before .before .before .before .before .before .before .before .before .before .before .before .before .before .before .before .before .args .frame .now)) (c .before .before .before .before .before .before .before .before .before .before .before .before .before .before .before .before .before .before .before .before .before .before .args .formulas .now) (c .before .before .before .before .before .before .before .before .before .before .before .before .before .before .before .before .before .before .before .before .before .before .args .scratch .now) (c .before .before .before .before .before .before .before .before .before .before .before .before .before .before .before .before .before .before .before .before .before .before .args .j) (asks-row (c .before .before .before .before .before .before .before .before .before .before .before .before .before .before .before .before .before .before .before .before .before .before .pre .1)) (c .before .before .before .before .before .before .before .before .before .before .before .before .before .before .before .before .before .read-row .result) (c .before .before .before .before .before .before .before .before .before .before .before .before .before .before .before .before .before .read-row .ensures) negated (c .before .before .before .before .before .before .before .before .before .before .before .before .before .before .before .if1 .left) (sym (c .before .before .before .before .before .before .before .before .before .before .before .before .before .before .keeps-side .ensures) ∙ c .before .before .before .before .before .before .before .before .before .before .before .before .before .if2 .taken) (c .before .before .before .before .before .before .negated-image .ensures)
 
--- src/cycle.rt:202:21
 negated-image-start-cast-image : (t : ℕ) → negated-image-start-lts.Need-cast-image (read-row-reads.Asked, read-row-reads.Learnt, keeps-side-reads.Asked, keeps-side-reads.Learnt, negated-image-below t, negated-image.Post, image-below t, image.Post) (negated-image-start-at t) negated-image-start.Post
 negated-image-start-cast-image t c = search needs
 
--- src/cycle.rt:202:5
 negated-image-start-image-requires : (t : ℕ) → negated-image-start-lts.Need-image-requires (read-row-reads.Asked, read-row-reads.Learnt, keeps-side-reads.Asked, keeps-side-reads.Learnt, negated-image-below t, negated-image.Post, image-below t, image.Post) (negated-image-start-at t) negated-image-start.Post
-negated-image-start-image-requires t c κs = (omega (arith, c .before .before .before .before .before .before .before .before .before .before .before .before .before .before .before .pre .0, left-lower (c .before .before .before .before .before .before .before .before .before .before .before .before .before .before .before .args .frame) (c .before .before .before .before .before .before .before .before .before .before .before .before .before .before .before .args .formulas .now) (c .before .before .before .before .before .before .before .before .before .before .before .before .before .before .before .args .scratch .now) (c .before .before .before .before .before .before .before .before .before .before .before .before .before .before .before .args .j) (asks-row (c .before .before .before .before .before .before .before .before .before .before .before .before .before .before .before .pre .1)) (c .before .before .before .before .before .before .before .before .before .before .read-row .result) (c .before .before .before .before .before .before .before .before .before .before .read-row .ensures) (c .before .before .before .before .before .before .before .before .if1 .left)), asks-lower (c .before .before .before .before .before .before .before .before .before .before .before .before .before .before .before .pre .1) (left-lower (c .before .before .before .before .before .before .before .before .before .before .before .before .before .before .before .args .frame) (c .before .before .before .before .before .before .before .before .before .before .before .before .before .before .before .args .formulas .now) (c .before .before .before .before .before .before .before .before .before .before .before .before .before .before .before .args .scratch .now) (c .before .before .before .before .before .before .before .before .before .before .before .before .before .before .before .args .j) (asks-row (c .before .before .before .before .before .before .before .before .before .before .before .before .before .before .before .pre .1)) (c .before .before .before .before .before .before .before .before .before .before .read-row .result) (c .before .before .before .before .before .before .before .before .before .before .read-row .ensures) (c .before .before .before .before .before .before .before .before .if1 .left)))
+negated-image-start-image-requires t c κs = (omega (arith, c .before .before .before .before .before .before .before .before .before .before .before .before .before .before .before .pre .0, left-lower (framed (c .before .before .before .before .before .before .before .before .before .before .before .before .before .before .before .args .frame .now)) (c .before .before .before .before .before .before .before .before .before .before .before .before .before .before .before .args .formulas .now) (c .before .before .before .before .before .before .before .before .before .before .before .before .before .before .before .args .scratch .now) (c .before .before .before .before .before .before .before .before .before .before .before .before .before .before .before .args .j) (asks-row (c .before .before .before .before .before .before .before .before .before .before .before .before .before .before .before .pre .1)) (c .before .before .before .before .before .before .before .before .before .before .read-row .result) (c .before .before .before .before .before .before .before .before .before .before .read-row .ensures) (c .before .before .before .before .before .before .before .before .if1 .left)), asks-lower (c .before .before .before .before .before .before .before .before .before .before .before .before .before .before .before .pre .1) (left-lower (framed (c .before .before .before .before .before .before .before .before .before .before .before .before .before .before .before .args .frame .now)) (c .before .before .before .before .before .before .before .before .before .before .before .before .before .before .before .args .formulas .now) (c .before .before .before .before .before .before .before .before .before .before .before .before .before .before .before .args .scratch .now) (c .before .before .before .before .before .before .before .before .before .before .before .before .before .before .before .args .j) (asks-row (c .before .before .before .before .before .before .before .before .before .before .before .before .before .before .before .pre .1)) (c .before .before .before .before .before .before .before .before .before .before .read-row .result) (c .before .before .before .before .before .before .before .before .before .before .read-row .ensures) (c .before .before .before .before .before .before .before .before .if1 .left)))
 
--- src/cycle.rt:182:1
 negated-image-start-same-length-4 : (t : ℕ) → negated-image-start-lts.Need-same-length-4 (read-row-reads.Asked, read-row-reads.Learnt, keeps-side-reads.Asked, keeps-side-reads.Learnt, negated-image-below t, negated-image.Post, image-below t, image.Post) (negated-image-start-at t) negated-image-start.Post
 negated-image-start-same-length-4 t c = c .before .before .before .before .before .before .image .kept .1 .1 .1 .1 .1 .0
 
--- src/cycle.rt:182:1
 negated-image-start-same-length-5 : (t : ℕ) → negated-image-start-lts.Need-same-length-5 (read-row-reads.Asked, read-row-reads.Learnt, keeps-side-reads.Asked, keeps-side-reads.Learnt, negated-image-below t, negated-image.Post, image-below t, image.Post) (negated-image-start-at t) negated-image-start.Post
 negated-image-start-same-length-5 t c = c .before .before .before .before .before .before .image .kept .1 .1 .1 .1 .1 .1 .0
 
--- src/cycle.rt:182:1
 negated-image-start-same-length-6 : (t : ℕ) → negated-image-start-lts.Need-same-length-6 (read-row-reads.Asked, read-row-reads.Learnt, keeps-side-reads.Asked, keeps-side-reads.Learnt, negated-image-below t, negated-image.Post, image-below t, image.Post) (negated-image-start-at t) negated-image-start.Post
 negated-image-start-same-length-6 t c = c .before .before .before .before .before .before .image .kept .1 .1 .1 .1 .1 .1 .1 .0
 
--- src/cycle.rt:182:1
 negated-image-start-returns-3 : (t : ℕ) → negated-image-start-lts.Need-returns-3 (read-row-reads.Asked, read-row-reads.Learnt, keeps-side-reads.Asked, keeps-side-reads.Learnt, negated-image-below t, negated-image.Post, image-below t, image.Post) (negated-image-start-at t) negated-image-start.Post
-negated-image-start-returns-3 t c = start-other (c .before .before .before .before .before .before .before .before .before .before .before .before .before .before .before .before .before .before .before .before .before .before .args .frame) (c .before .before .before .before .before .before .before .before .before .before .before .before .before .before .before .before .before .before .before .before .before .before .args .formulas .now) (c .before .before .before .before .before .before .before .before .before .before .before .before .before .before .before .before .before .before .before .before .before .before .args .scratch .now) (c .before .before .before .before .before .before .before .before .before .before .before .before .before .before .before .before .before .before .before .before .before .before .args .j) (asks-row (c .before .before .before .before .before .before .before .before .before .before .before .before .before .before .before .before .before .before .before .before .before .before .pre .1)) (c .before .before .before .before .before .before .before .before .before .before .before .before .before .before .before .before .before .read-row .result) (c .before .before .before .before .before .before .before .before .before .before .before .before .before .before .before .before .before .read-row .ensures) negated (c .before .before .before .before .before .before .before .before .before .before .before .before .before .before .before .if1 .left) (sym (c .before .before .before .before .before .before .before .before .before .before .before .before .before .before .keeps-side .ensures) ∙ c .before .before .before .before .before .before .before .before .before .before .before .before .before .if2 .left) (c .before .before .before .before .before .before .image .ensures)
+negated-image-start-returns-3 t c = start-other (framed (c .before .before .before .before .before .before .before .before .before .before .before .before .before .before .before .before .before .before .before .before .before .before .args .frame .now)) (c .before .before .before .before .before .before .before .before .before .before .before .before .before .before .before .before .before .before .before .before .before .before .args .formulas .now) (c .before .before .before .before .before .before .before .before .before .before .before .before .before .before .before .before .before .before .before .before .before .before .args .scratch .now) (c .before .before .before .before .before .before .before .before .before .before .before .before .before .before .before .before .before .before .before .before .before .before .args .j) (asks-row (c .before .before .before .before .before .before .before .before .before .before .before .before .before .before .before .before .before .before .before .before .before .before .pre .1)) (c .before .before .before .before .before .before .before .before .before .before .before .before .before .before .before .before .before .read-row .result) (c .before .before .before .before .before .before .before .before .before .before .before .before .before .before .before .before .before .read-row .ensures) negated (c .before .before .before .before .before .before .before .before .before .before .before .before .before .before .before .if1 .left) (sym (c .before .before .before .before .before .before .before .before .before .before .before .before .before .before .keeps-side .ensures) ∙ c .before .before .before .before .before .before .before .before .before .before .before .before .before .if2 .left) (c .before .before .before .before .before .before .image .ensures)
 
--- src/cycle.rt:221:9
 negated-image-up-returns : (t : ℕ) → negated-image-up-lts.Need-returns (read-row-reads.Asked, read-row-reads.Learnt, leaf-reads.Asked, leaf-reads.Learnt, negated-image-below t, negated-image.Post, equivalent-below t, equivalent.Post, join-reads.Asked, join-reads.Learnt) (negated-image-up-at t) negated-image-up.Post
-negated-image-up-returns t c = record { images = λ at entry memo x. up-full negated (c .before .before .before .before .before .pre .1 .row) x (eq-eqb _ 65535 (c .if1 .taken)); above = kept-refl (c .before .before .before .before .before .args .j) (c .before .before .before .before .before .args .frame) (c .before .before .before .before .before .args .scratch .now) }
+negated-image-up-returns t c = record { images = λ at entry memo x. up-full negated (c .before .before .before .before .before .pre .1 .row) x (eq-eqb _ 65535 (c .if1 .taken)); above = kept-refl (c .before .before .before .before .before .args .j) (framed (c .before .before .before .before .before .args .frame .now)) (c .before .before .before .before .before .args .scratch .now) }
 
--- src/cycle.rt:223:9
 negated-image-up-read-row-requires : (t : ℕ) → negated-image-up-lts.Need-read-row-requires (read-row-reads.Asked, read-row-reads.Learnt, leaf-reads.Asked, leaf-reads.Learnt, negated-image-below t, negated-image.Post, equivalent-below t, equivalent.Post, join-reads.Asked, join-reads.Learnt) (negated-image-up-at t) negated-image-up.Post
 negated-image-up-read-row-requires t c κs = omega (arith, c .before .before .before .before .before .pre .1 .row .source .words, c .before .before .before .before .before .pre .1 .row .formula)
 
--- src/cycle.rt:225:9
 negated-image-up-leaf-requires : (t : ℕ) → negated-image-up-lts.Need-leaf-requires (read-row-reads.Asked, read-row-reads.Learnt, leaf-reads.Asked, leaf-reads.Learnt, negated-image-below t, negated-image.Post, equivalent-below t, equivalent.Post, join-reads.Asked, join-reads.Learnt) (negated-image-up-at t) negated-image-up.Post
-negated-image-up-leaf-requires t c κs = leaf-ready (c .before .before .before .before .before .before .before .before .before .before .before .before .args .frame) (c .before .before .before .before .before .before .before .before .before .before .before .before .args .formulas .now) (c .before .before .before .before .before .before .before .before .before .before .before .before .args .scratch .now) (c .before .before .before .before .before .before .before .before .before .before .before .before .args .j) (c .before .before .before .before .before .before .before .before .before .before .before .before .pre .1 .row) (c .before .before .before .before .before .before .read-row .result) (c .before .before .before .before .before .before .read-row .ensures) (c .before .before .before .before .if2 .taken) (c .before .before .before .before .before .before .before .before .before .before .before .before .pre .1 .ready (ne-eqb _ 65535 (c .before .before .before .before .before .before .before .if1 .left)))
+negated-image-up-leaf-requires t c κs = leaf-ready (framed (c .before .before .before .before .before .before .before .before .before .before .before .before .args .frame .now)) (c .before .before .before .before .before .before .before .before .before .before .before .before .args .formulas .now) (c .before .before .before .before .before .before .before .before .before .before .before .before .args .scratch .now) (c .before .before .before .before .before .before .before .before .before .before .before .before .args .j) (c .before .before .before .before .before .before .before .before .before .before .before .before .pre .1 .row) (c .before .before .before .before .before .before .read-row .result) (c .before .before .before .before .before .before .read-row .ensures) (c .before .before .before .before .if2 .taken) (c .before .before .before .before .before .before .before .before .before .before .before .before .pre .1 .ready (ne-eqb _ 65535 (c .before .before .before .before .before .before .before .if1 .left)))
 
--- src/cycle.rt:225:9
 negated-image-up-same-length : (t : ℕ) → negated-image-up-lts.Need-same-length (read-row-reads.Asked, read-row-reads.Learnt, leaf-reads.Asked, leaf-reads.Learnt, negated-image-below t, negated-image.Post, equivalent-below t, equivalent.Post, join-reads.Asked, join-reads.Learnt) (negated-image-up-at t) negated-image-up.Post
 negated-image-up-same-length t c = c .before .before .before .before .leaf .kept .1 .1 .1 .1 .1 .0
 
--- src/cycle.rt:225:9
 negated-image-up-same-length-2 : (t : ℕ) → negated-image-up-lts.Need-same-length-2 (read-row-reads.Asked, read-row-reads.Learnt, leaf-reads.Asked, leaf-reads.Learnt, negated-image-below t, negated-image.Post, equivalent-below t, equivalent.Post, join-reads.Asked, join-reads.Learnt) (negated-image-up-at t) negated-image-up.Post
 negated-image-up-same-length-2 t c = c .before .before .before .before .leaf .kept .1 .1 .1 .1 .1 .1 .0
 
--- src/cycle.rt:225:9
 negated-image-up-returns-2 : (t : ℕ) → negated-image-up-lts.Need-returns-2 (read-row-reads.Asked, read-row-reads.Learnt, leaf-reads.Asked, leaf-reads.Learnt, negated-image-below t, negated-image.Post, equivalent-below t, equivalent.Post, join-reads.Asked, join-reads.Learnt) (negated-image-up-at t) negated-image-up.Post
-negated-image-up-returns-2 t c = record { images = λ at entry memo x. up-leaf negated (c .before .before .before .before .before .before .before .before .before .before .before .before .before .before .before .before .before .pre .1 .row) x (c .before .before .before .before .before .before .before .before .before .before .before .read-row .result) (c .before .before .before .before .before .before .before .before .before .before .before .read-row .ensures) (ne-eqb _ 65535 (c .before .before .before .before .before .before .before .before .before .before .before .before .if1 .left)) (c .before .before .before .before .before .before .before .before .before .if2 .taken) (c .before .before .before .before .leaf .ensures); above = kept-refl (c .before .before .before .before .before .before .before .before .before .before .before .before .before .before .before .before .before .args .j) (c .before .before .before .before .before .before .before .before .before .before .before .before .before .before .before .before .before .args .frame) (c .before .before .before .before .before .before .before .before .before .before .before .before .before .before .before .before .before .args .scratch .now) }
+negated-image-up-returns-2 t c = record { images = λ at entry memo x. up-leaf negated (c .before .before .before .before .before .before .before .before .before .before .before .before .before .before .before .before .before .pre .1 .row) x (c .before .before .before .before .before .before .before .before .before .before .before .read-row .result) (c .before .before .before .before .before .before .before .before .before .before .before .read-row .ensures) (ne-eqb _ 65535 (c .before .before .before .before .before .before .before .before .before .before .before .before .if1 .left)) (c .before .before .before .before .before .before .before .before .before .if2 .taken) (c .before .before .before .before .leaf .ensures); above = kept-refl (c .before .before .before .before .before .before .before .before .before .before .before .before .before .before .before .before .before .args .j) (framed (c .before .before .before .before .before .before .before .before .before .before .before .before .before .before .before .before .before .args .frame .now)) (c .before .before .before .before .before .before .before .before .before .before .before .before .before .before .before .before .before .args .scratch .now) }
 
--- src/cycle.rt:228:9
 negated-image-up-returns-3 : (t : ℕ) → negated-image-up-lts.Need-returns-3 (read-row-reads.Asked, read-row-reads.Learnt, leaf-reads.Asked, leaf-reads.Learnt, negated-image-below t, negated-image.Post, equivalent-below t, equivalent.Post, join-reads.Asked, join-reads.Learnt) (negated-image-up-at t) negated-image-up.Post
-negated-image-up-returns-3 t c = record { images = λ at entry memo x. up-not negated (c .before .before .before .before .before .before .before .before .before .before .pre .1 .row) x (c .before .before .before .before .read-row .result) (c .before .before .before .before .read-row .ensures) (c .if3 .taken); above = kept-refl (c .before .before .before .before .before .before .before .before .before .before .args .j) (c .before .before .before .before .before .before .before .before .before .before .args .frame) (c .before .before .before .before .before .before .before .before .before .before .args .scratch .now) }
+negated-image-up-returns-3 t c = record { images = λ at entry memo x. up-not negated (c .before .before .before .before .before .before .before .before .before .before .pre .1 .row) x (c .before .before .before .before .read-row .result) (c .before .before .before .before .read-row .ensures) (c .if3 .taken); above = kept-refl (c .before .before .before .before .before .before .before .before .before .before .args .j) (framed (c .before .before .before .before .before .before .before .before .before .before .args .frame .now)) (c .before .before .before .before .before .before .before .before .before .before .args .scratch .now) }
 
--- src/cycle.rt:230:37
 negated-image-up-cast-negated-image : (t : ℕ) → negated-image-up-lts.Need-cast-negated-image (read-row-reads.Asked, read-row-reads.Learnt, leaf-reads.Asked, leaf-reads.Learnt, negated-image-below t, negated-image.Post, equivalent-below t, equivalent.Post, join-reads.Asked, join-reads.Learnt) (negated-image-up-at t) negated-image-up.Post
 negated-image-up-cast-negated-image t c = search needs
 
--- src/cycle.rt:230:9
 negated-image-up-negated-image-requires : (t : ℕ) → negated-image-up-lts.Need-negated-image-requires (read-row-reads.Asked, read-row-reads.Learnt, leaf-reads.Asked, leaf-reads.Learnt, negated-image-below t, negated-image.Post, equivalent-below t, equivalent.Post, join-reads.Asked, join-reads.Learnt) (negated-image-up-at t) negated-image-up.Post
-negated-image-up-negated-image-requires t c κs = (omega (arith, c .before .before .before .before .before .before .before .before .before .before .before .before .before .before .before .before .pre .0, right-lower (c .before .before .before .before .before .before .before .before .before .before .before .before .before .before .before .before .args .frame) (c .before .before .before .before .before .before .before .before .before .before .before .before .before .before .before .before .args .formulas .now) (c .before .before .before .before .before .before .before .before .before .before .before .before .before .before .before .before .args .scratch .now) (c .before .before .before .before .before .before .before .before .before .before .before .before .before .before .before .before .args .j) (c .before .before .before .before .before .before .before .before .before .before .before .before .before .before .before .before .pre .1 .row) (c .before .before .before .before .before .before .before .before .before .before .read-row .result) (c .before .before .before .before .before .before .before .before .before .before .read-row .ensures) (past-three (c .before .before .before .before .before .before .before .before .before .before .read-row .result .kind) (c .before .before .before .before .before .before .before .before .if2 .left) (c .before .before .before .before .before .before .if3 .left))), up-asks (c .before .before .before .before .before .before .before .before .before .before .before .before .before .before .before .before .pre .1) (ne-eqb _ 65535 (c .before .before .before .before .before .before .before .before .before .before .before .if1 .left)) (right-lower (c .before .before .before .before .before .before .before .before .before .before .before .before .before .before .before .before .args .frame) (c .before .before .before .before .before .before .before .before .before .before .before .before .before .before .before .before .args .formulas .now) (c .before .before .before .before .before .before .before .before .before .before .before .before .before .before .before .before .args .scratch .now) (c .before .before .before .before .before .before .before .before .before .before .before .before .before .before .before .before .args .j) (c .before .before .before .before .before .before .before .before .before .before .before .before .before .before .before .before .pre .1 .row) (c .before .before .before .before .before .before .before .before .before .before .read-row .result) (c .before .before .before .before .before .before .before .before .before .before .read-row .ensures) (past-three (c .before .before .before .before .before .before .before .before .before .before .read-row .result .kind) (c .before .before .before .before .before .before .before .before .if2 .left) (c .before .before .before .before .before .before .if3 .left))))
+negated-image-up-negated-image-requires t c κs = (omega (arith, c .before .before .before .before .before .before .before .before .before .before .before .before .before .before .before .before .pre .0, right-lower (framed (c .before .before .before .before .before .before .before .before .before .before .before .before .before .before .before .before .args .frame .now)) (c .before .before .before .before .before .before .before .before .before .before .before .before .before .before .before .before .args .formulas .now) (c .before .before .before .before .before .before .before .before .before .before .before .before .before .before .before .before .args .scratch .now) (c .before .before .before .before .before .before .before .before .before .before .before .before .before .before .before .before .args .j) (c .before .before .before .before .before .before .before .before .before .before .before .before .before .before .before .before .pre .1 .row) (c .before .before .before .before .before .before .before .before .before .before .read-row .result) (c .before .before .before .before .before .before .before .before .before .before .read-row .ensures) (past-three (c .before .before .before .before .before .before .before .before .before .before .read-row .result .kind) (c .before .before .before .before .before .before .before .before .if2 .left) (c .before .before .before .before .before .before .if3 .left))), up-asks (c .before .before .before .before .before .before .before .before .before .before .before .before .before .before .before .before .pre .1) (ne-eqb _ 65535 (c .before .before .before .before .before .before .before .before .before .before .before .if1 .left)) (right-lower (framed (c .before .before .before .before .before .before .before .before .before .before .before .before .before .before .before .before .args .frame .now)) (c .before .before .before .before .before .before .before .before .before .before .before .before .before .before .before .before .args .formulas .now) (c .before .before .before .before .before .before .before .before .before .before .before .before .before .before .before .before .args .scratch .now) (c .before .before .before .before .before .before .before .before .before .before .before .before .before .before .before .before .args .j) (c .before .before .before .before .before .before .before .before .before .before .before .before .before .before .before .before .pre .1 .row) (c .before .before .before .before .before .before .before .before .before .before .read-row .result) (c .before .before .before .before .before .before .before .before .before .before .read-row .ensures) (past-three (c .before .before .before .before .before .before .before .before .before .before .read-row .result .kind) (c .before .before .before .before .before .before .before .before .if2 .left) (c .before .before .before .before .before .before .if3 .left))))
 
--- src/cycle.rt:232:9
 negated-image-up-same-length-3 : (t : ℕ) → negated-image-up-lts.Need-same-length-3 (read-row-reads.Asked, read-row-reads.Learnt, leaf-reads.Asked, leaf-reads.Learnt, negated-image-below t, negated-image.Post, equivalent-below t, equivalent.Post, join-reads.Asked, join-reads.Learnt) (negated-image-up-at t) negated-image-up.Post
 negated-image-up-same-length-3 t c = c .before .before .before .before .before .before .before .negated-image .kept .1 .1 .1 .1 .1 .0
 
--- src/cycle.rt:232:9
 negated-image-up-same-length-4 : (t : ℕ) → negated-image-up-lts.Need-same-length-4 (read-row-reads.Asked, read-row-reads.Learnt, leaf-reads.Asked, leaf-reads.Learnt, negated-image-below t, negated-image.Post, equivalent-below t, equivalent.Post, join-reads.Asked, join-reads.Learnt) (negated-image-up-at t) negated-image-up.Post
 negated-image-up-same-length-4 t c = c .before .before .before .before .before .before .before .negated-image .kept .1 .1 .1 .1 .1 .1 .0
 
--- src/cycle.rt:232:9
 negated-image-up-same-length-5 : (t : ℕ) → negated-image-up-lts.Need-same-length-5 (read-row-reads.Asked, read-row-reads.Learnt, leaf-reads.Asked, leaf-reads.Learnt, negated-image-below t, negated-image.Post, equivalent-below t, equivalent.Post, join-reads.Asked, join-reads.Learnt) (negated-image-up-at t) negated-image-up.Post
 negated-image-up-same-length-5 t c = c .before .before .before .before .before .before .before .negated-image .kept .1 .1 .1 .1 .1 .1 .1 .0
 
--- src/cycle.rt:232:9
 negated-image-up-returns-4 : (t : ℕ) → negated-image-up-lts.Need-returns-4 (read-row-reads.Asked, read-row-reads.Learnt, leaf-reads.Asked, leaf-reads.Learnt, negated-image-below t, negated-image.Post, equivalent-below t, equivalent.Post, join-reads.Asked, join-reads.Learnt) (negated-image-up-at t) negated-image-up.Post
-negated-image-up-returns-4 t c = record { images = λ at entry memo x. up-right-full negated (c .before .before .before .before .before .before .before .before .before .before .before .before .before .before .before .before .before .before .before .before .before .before .before .before .pre .1 .row) x (c .before .before .before .before .before .before .before .before .before .before .before .before .before .before .before .before .before .before .read-row .result) (c .before .before .before .before .before .before .before .before .before .before .before .before .before .before .before .before .before .before .read-row .ensures) (ne-eqb _ 65535 (c .before .before .before .before .before .before .before .before .before .before .before .before .before .before .before .before .before .before .before .if1 .left)) (past-three (c .before .before .before .before .before .before .before .before .before .before .before .before .before .before .before .before .before .before .read-row .result .kind) (c .before .before .before .before .before .before .before .before .before .before .before .before .before .before .before .before .if2 .left) (c .before .before .before .before .before .before .before .before .before .before .before .before .before .before .if3 .left)) (c .before .before .before .before .before .before .before .negated-image .ensures .images) (eq-eqb _ 65535 (c .if4 .taken)); above = kept-from (omega (arith, right-lower (c .before .before .before .before .before .before .before .before .before .before .before .before .before .before .before .before .before .before .before .before .before .before .before .before .args .frame) (c .before .before .before .before .before .before .before .before .before .before .before .before .before .before .before .before .before .before .before .before .before .before .before .before .args .formulas .now) (c .before .before .before .before .before .before .before .before .before .before .before .before .before .before .before .before .before .before .before .before .before .before .before .before .args .scratch .now) (c .before .before .before .before .before .before .before .before .before .before .before .before .before .before .before .before .before .before .before .before .before .before .before .before .args .j) (c .before .before .before .before .before .before .before .before .before .before .before .before .before .before .before .before .before .before .before .before .before .before .before .before .pre .1 .row) (c .before .before .before .before .before .before .before .before .before .before .before .before .before .before .before .before .before .before .read-row .result) (c .before .before .before .before .before .before .before .before .before .before .before .before .before .before .before .before .before .before .read-row .ensures) (past-three (c .before .before .before .before .before .before .before .before .before .before .before .before .before .before .before .before .before .before .read-row .result .kind) (c .before .before .before .before .before .before .before .before .before .before .before .before .before .before .before .before .if2 .left) (c .before .before .before .before .before .before .before .before .before .before .before .before .before .before .if3 .left)))) (c .before .before .before .before .before .before .before .negated-image .ensures .above) }
+negated-image-up-returns-4 t c = record { images = λ at entry memo x. up-right-full negated (c .before .before .before .before .before .before .before .before .before .before .before .before .before .before .before .before .before .before .before .before .before .before .before .before .pre .1 .row) x (c .before .before .before .before .before .before .before .before .before .before .before .before .before .before .before .before .before .before .read-row .result) (c .before .before .before .before .before .before .before .before .before .before .before .before .before .before .before .before .before .before .read-row .ensures) (ne-eqb _ 65535 (c .before .before .before .before .before .before .before .before .before .before .before .before .before .before .before .before .before .before .before .if1 .left)) (past-three (c .before .before .before .before .before .before .before .before .before .before .before .before .before .before .before .before .before .before .read-row .result .kind) (c .before .before .before .before .before .before .before .before .before .before .before .before .before .before .before .before .if2 .left) (c .before .before .before .before .before .before .before .before .before .before .before .before .before .before .if3 .left)) (c .before .before .before .before .before .before .before .negated-image .ensures .images) (eq-eqb _ 65535 (c .if4 .taken)); above = kept-from (omega (arith, right-lower (framed (c .before .before .before .before .before .before .before .before .before .before .before .before .before .before .before .before .before .before .before .before .before .before .before .before .args .frame .now)) (c .before .before .before .before .before .before .before .before .before .before .before .before .before .before .before .before .before .before .before .before .before .before .before .before .args .formulas .now) (c .before .before .before .before .before .before .before .before .before .before .before .before .before .before .before .before .before .before .before .before .before .before .before .before .args .scratch .now) (c .before .before .before .before .before .before .before .before .before .before .before .before .before .before .before .before .before .before .before .before .before .before .before .before .args .j) (c .before .before .before .before .before .before .before .before .before .before .before .before .before .before .before .before .before .before .before .before .before .before .before .before .pre .1 .row) (c .before .before .before .before .before .before .before .before .before .before .before .before .before .before .before .before .before .before .read-row .result) (c .before .before .before .before .before .before .before .before .before .before .before .before .before .before .before .before .before .before .read-row .ensures) (past-three (c .before .before .before .before .before .before .before .before .before .before .before .before .before .before .before .before .before .before .read-row .result .kind) (c .before .before .before .before .before .before .before .before .before .before .before .before .before .before .before .before .if2 .left) (c .before .before .before .before .before .before .before .before .before .before .before .before .before .before .if3 .left)))) (c .before .before .before .before .before .before .before .negated-image .ensures .above) }
 
--- src/cycle.rt:235:9
 negated-image-up-equivalent-requires : (t : ℕ) → negated-image-up-lts.Need-equivalent-requires (read-row-reads.Asked, read-row-reads.Learnt, leaf-reads.Asked, leaf-reads.Learnt, negated-image-below t, negated-image.Post, equivalent-below t, equivalent.Post, join-reads.Asked, join-reads.Learnt) (negated-image-up-at t) negated-image-up.Post
-negated-image-up-equivalent-requires t c κs = (omega (arith, c .before .before .before .before .before .before .before .before .before .before .before .before .before .before .before .before .before .before .before .before .before .before .before .before .before .before .before .before .before .before .before .pre .0), asks-second (c .before .before .before .before .before .before .before .before .before .before .before .before .before .before .before .before .before .before .before .before .before .before .before .before .before .before .before .before .before .before .before .args .frame) (c .before .before .before .before .before .before .before .before .before .before .before .before .before .before .before .before .before .before .before .before .before .before .before .before .before .before .before .before .before .before .before .args .formulas .now) (c .before .before .before .before .before .before .before .before .before .before .before .before .before .before .before .before .before .before .before .before .before .before .before .before .before .before .before .before .before .before .before .args .scratch .now) (c .before .before .before .before .before .before .before .before .before .before .before .before .before .before .before .before .before .before .before .before .before .before .before .before .before .before .before .before .before .before .before .args .j) (c .before .before .before .before .before .before .before .before .before .before .before .before .before .before .before .before .before .before .before .before .before .before .before .before .before .before .before .before .before .before .before .pre .1 .row) (c .before .before .before .before .before .before .before .before .before .before .before .before .before .before .before .before .before .before .before .before .before .before .before .before .before .read-row .result) (c .before .before .before .before .before .before .before .before .before .before .before .before .before .before .before .before .before .before .before .before .before .before .before .before .before .read-row .ensures) (c .before .before .before .before .before .before .before .before .before .before .before .before .before .before .before .before .before .before .before .before .before .before .before .before .before .before .before .before .before .before .before .pre .1) (ne-eqb _ 65535 (c .before .before .before .before .before .before .before .before .before .before .before .before .before .before .before .before .before .before .before .before .before .before .before .before .before .before .if1 .left)) (past-three (c .before .before .before .before .before .before .before .before .before .before .before .before .before .before .before .before .before .before .before .before .before .before .before .before .before .read-row .result .kind) (c .before .before .before .before .before .before .before .before .before .before .before .before .before .before .before .before .before .before .before .before .before .before .before .if2 .left) (c .before .before .before .before .before .before .before .before .before .before .before .before .before .before .before .before .before .before .before .before .before .if3 .left)) (c .before .before .before .before .before .before .before .before .before .before .before .before .before .before .negated-image .ensures .images) (ne-eqb _ 65535 (c .before .before .before .before .before .before .before .if4 .left)) (c .before .before .before .before .before .before .before .before .before .before .before .before .before .before .negated-image .kept .1 .1 .1 .1 .1 .1 .1 .0))
+negated-image-up-equivalent-requires t c κs = (omega (arith, c .before .before .before .before .before .before .before .before .before .before .before .before .before .before .before .before .before .before .before .before .before .before .before .before .before .before .before .before .before .before .before .pre .0), asks-second (framed (c .before .before .before .before .before .before .before .before .before .before .before .before .before .before .before .before .before .before .before .before .before .before .before .before .before .before .before .before .before .before .before .args .frame .now)) (c .before .before .before .before .before .before .before .before .before .before .before .before .before .before .before .before .before .before .before .before .before .before .before .before .before .before .before .before .before .before .before .args .formulas .now) (c .before .before .before .before .before .before .before .before .before .before .before .before .before .before .before .before .before .before .before .before .before .before .before .before .before .before .before .before .before .before .before .args .scratch .now) (c .before .before .before .before .before .before .before .before .before .before .before .before .before .before .before .before .before .before .before .before .before .before .before .before .before .before .before .before .before .before .before .args .j) (c .before .before .before .before .before .before .before .before .before .before .before .before .before .before .before .before .before .before .before .before .before .before .before .before .before .before .before .before .before .before .before .pre .1 .row) (c .before .before .before .before .before .before .before .before .before .before .before .before .before .before .before .before .before .before .before .before .before .before .before .before .before .read-row .result) (c .before .before .before .before .before .before .before .before .before .before .before .before .before .before .before .before .before .before .before .before .before .before .before .before .before .read-row .ensures) (c .before .before .before .before .before .before .before .before .before .before .before .before .before .before .before .before .before .before .before .before .before .before .before .before .before .before .before .before .before .before .before .pre .1) (ne-eqb _ 65535 (c .before .before .before .before .before .before .before .before .before .before .before .before .before .before .before .before .before .before .before .before .before .before .before .before .before .before .if1 .left)) (past-three (c .before .before .before .before .before .before .before .before .before .before .before .before .before .before .before .before .before .before .before .before .before .before .before .before .before .read-row .result .kind) (c .before .before .before .before .before .before .before .before .before .before .before .before .before .before .before .before .before .before .before .before .before .before .before .if2 .left) (c .before .before .before .before .before .before .before .before .before .before .before .before .before .before .before .before .before .before .before .before .before .if3 .left)) (c .before .before .before .before .before .before .before .before .before .before .before .before .before .before .negated-image .ensures .images) (ne-eqb _ 65535 (c .before .before .before .before .before .before .before .if4 .left)) (c .before .before .before .before .before .before .before .before .before .before .before .before .before .before .negated-image .kept .1 .1 .1 .1 .1 .1 .1 .0))
 
--- src/cycle.rt:235:9
 negated-image-up-same-length-6 : (t : ℕ) → negated-image-up-lts.Need-same-length-6 (read-row-reads.Asked, read-row-reads.Learnt, leaf-reads.Asked, leaf-reads.Learnt, negated-image-below t, negated-image.Post, equivalent-below t, equivalent.Post, join-reads.Asked, join-reads.Learnt) (negated-image-up-at t) negated-image-up.Post
 negated-image-up-same-length-6 t c = c .before .before .before .before .before .before .equivalent .kept .1 .1 .1 .1 .1 .1 .1 .1 .0 ∙ c .before .before .before .before .before .before .before .before .before .before .before .before .before .before .before .before .before .before .before .before .before .negated-image .kept .1 .1 .1 .1 .1 .0
 
--- src/cycle.rt:235:9
 negated-image-up-same-length-7 : (t : ℕ) → negated-image-up-lts.Need-same-length-7 (read-row-reads.Asked, read-row-reads.Learnt, leaf-reads.Asked, leaf-reads.Learnt, negated-image-below t, negated-image.Post, equivalent-below t, equivalent.Post, join-reads.Asked, join-reads.Learnt) (negated-image-up-at t) negated-image-up.Post
 negated-image-up-same-length-7 t c = c .before .before .before .before .before .before .equivalent .kept .1 .1 .1 .1 .1 .1 .1 .1 .1 .0 ∙ c .before .before .before .before .before .before .before .before .before .before .before .before .before .before .before .before .before .before .before .before .before .negated-image .kept .1 .1 .1 .1 .1 .1 .0
 
--- src/cycle.rt:235:9
 negated-image-up-same-length-8 : (t : ℕ) → negated-image-up-lts.Need-same-length-8 (read-row-reads.Asked, read-row-reads.Learnt, leaf-reads.Asked, leaf-reads.Learnt, negated-image-below t, negated-image.Post, equivalent-below t, equivalent.Post, join-reads.Asked, join-reads.Learnt) (negated-image-up-at t) negated-image-up.Post
 negated-image-up-same-length-8 t c = c .before .before .before .before .before .before .equivalent .kept .1 .1 .1 .1 .1 .1 .1 .1 .1 .1 .0 ∙ c .before .before .before .before .before .before .before .before .before .before .before .before .before .before .before .before .before .before .before .before .before .negated-image .kept .1 .1 .1 .1 .1 .1 .1 .0
 
--- src/cycle.rt:235:9
 negated-image-up-returns-5 : (t : ℕ) → negated-image-up-lts.Need-returns-5 (read-row-reads.Asked, read-row-reads.Learnt, leaf-reads.Asked, leaf-reads.Learnt, negated-image-below t, negated-image.Post, equivalent-below t, equivalent.Post, join-reads.Asked, join-reads.Learnt) (negated-image-up-at t) negated-image-up.Post
-negated-image-up-returns-5 t c = record { images = λ at entry memo x. up-equivalent negated (c .before .before .before .before .before .before .before .before .before .before .before .before .before .before .before .before .before .before .before .before .before .before .before .before .before .before .before .before .before .before .before .before .before .before .before .before .before .before .pre .1 .row) x (c .before .before .before .before .before .before .before .before .before .before .before .before .before .before .before .before .before .before .before .before .before .before .before .before .before .before .before .before .before .before .before .before .read-row .result) (c .before .before .before .before .before .before .before .before .before .before .before .before .before .before .before .before .before .before .before .before .before .before .before .before .before .before .before .before .before .before .before .before .read-row .ensures) (ne-eqb _ 65535 (c .before .before .before .before .before .before .before .before .before .before .before .before .before .before .before .before .before .before .before .before .before .before .before .before .before .before .before .before .before .before .before .before .before .if1 .left)) (past-three (c .before .before .before .before .before .before .before .before .before .before .before .before .before .before .before .before .before .before .before .before .before .before .before .before .before .before .before .before .before .before .before .before .read-row .result .kind) (c .before .before .before .before .before .before .before .before .before .before .before .before .before .before .before .before .before .before .before .before .before .before .before .before .before .before .before .before .before .before .if2 .left) (c .before .before .before .before .before .before .before .before .before .before .before .before .before .before .before .before .before .before .before .before .before .before .before .before .before .before .before .before .if3 .left)) (c .before .before .before .before .before .before .before .before .before .before .before .before .before .before .before .before .before .before .before .before .before .negated-image .ensures .images) (ne-eqb _ 65535 (c .before .before .before .before .before .before .before .before .before .before .before .before .before .before .if4 .left)) (c .before .before .before .before .before .before .before .before .before .before .before .before .if5 .taken) (c .before .before .before .before .before .before .equivalent .ensures .images); above = kept-then (kept-from (omega (arith, right-lower (c .before .before .before .before .before .before .before .before .before .before .before .before .before .before .before .before .before .before .before .before .before .before .before .before .before .before .before .before .before .before .before .before .before .before .before .before .before .before .args .frame) (c .before .before .before .before .before .before .before .before .before .before .before .before .before .before .before .before .before .before .before .before .before .before .before .before .before .before .before .before .before .before .before .before .before .before .before .before .before .before .args .formulas .now) (c .before .before .before .before .before .before .before .before .before .before .before .before .before .before .before .before .before .before .before .before .before .before .before .before .before .before .before .before .before .before .before .before .before .before .before .before .before .before .args .scratch .now) (c .before .before .before .before .before .before .before .before .before .before .before .before .before .before .before .before .before .before .before .before .before .before .before .before .before .before .before .before .before .before .before .before .before .before .before .before .before .before .args .j) (c .before .before .before .before .before .before .before .before .before .before .before .before .before .before .before .before .before .before .before .before .before .before .before .before .before .before .before .before .before .before .before .before .before .before .before .before .before .before .pre .1 .row) (c .before .before .before .before .before .before .before .before .before .before .before .before .before .before .before .before .before .before .before .before .before .before .before .before .before .before .before .before .before .before .before .before .read-row .result) (c .before .before .before .before .before .before .before .before .before .before .before .before .before .before .before .before .before .before .before .before .before .before .before .before .before .before .before .before .before .before .before .before .read-row .ensures) (past-three (c .before .before .before .before .before .before .before .before .before .before .before .before .before .before .before .before .before .before .before .before .before .before .before .before .before .before .before .before .before .before .before .before .read-row .result .kind) (c .before .before .before .before .before .before .before .before .before .before .before .before .before .before .before .before .before .before .before .before .before .before .before .before .before .before .before .before .before .before .if2 .left) (c .before .before .before .before .before .before .before .before .before .before .before .before .before .before .before .before .before .before .before .before .before .before .before .before .before .before .before .before .if3 .left)))) (c .before .before .before .before .before .before .before .before .before .before .before .before .before .before .before .before .before .before .before .before .before .negated-image .ensures .above)) (c .before .before .before .before .before .before .equivalent .ensures .above) }
+negated-image-up-returns-5 t c = record { images = λ at entry memo x. up-equivalent negated (c .before .before .before .before .before .before .before .before .before .before .before .before .before .before .before .before .before .before .before .before .before .before .before .before .before .before .before .before .before .before .before .before .before .before .before .before .before .before .pre .1 .row) x (c .before .before .before .before .before .before .before .before .before .before .before .before .before .before .before .before .before .before .before .before .before .before .before .before .before .before .before .before .before .before .before .before .read-row .result) (c .before .before .before .before .before .before .before .before .before .before .before .before .before .before .before .before .before .before .before .before .before .before .before .before .before .before .before .before .before .before .before .before .read-row .ensures) (ne-eqb _ 65535 (c .before .before .before .before .before .before .before .before .before .before .before .before .before .before .before .before .before .before .before .before .before .before .before .before .before .before .before .before .before .before .before .before .before .if1 .left)) (past-three (c .before .before .before .before .before .before .before .before .before .before .before .before .before .before .before .before .before .before .before .before .before .before .before .before .before .before .before .before .before .before .before .before .read-row .result .kind) (c .before .before .before .before .before .before .before .before .before .before .before .before .before .before .before .before .before .before .before .before .before .before .before .before .before .before .before .before .before .before .if2 .left) (c .before .before .before .before .before .before .before .before .before .before .before .before .before .before .before .before .before .before .before .before .before .before .before .before .before .before .before .before .if3 .left)) (c .before .before .before .before .before .before .before .before .before .before .before .before .before .before .before .before .before .before .before .before .before .negated-image .ensures .images) (ne-eqb _ 65535 (c .before .before .before .before .before .before .before .before .before .before .before .before .before .before .if4 .left)) (c .before .before .before .before .before .before .before .before .before .before .before .before .if5 .taken) (c .before .before .before .before .before .before .equivalent .ensures .images); above = kept-then (kept-from (omega (arith, right-lower (framed (c .before .before .before .before .before .before .before .before .before .before .before .before .before .before .before .before .before .before .before .before .before .before .before .before .before .before .before .before .before .before .before .before .before .before .before .before .before .before .args .frame .now)) (c .before .before .before .before .before .before .before .before .before .before .before .before .before .before .before .before .before .before .before .before .before .before .before .before .before .before .before .before .before .before .before .before .before .before .before .before .before .before .args .formulas .now) (c .before .before .before .before .before .before .before .before .before .before .before .before .before .before .before .before .before .before .before .before .before .before .before .before .before .before .before .before .before .before .before .before .before .before .before .before .before .before .args .scratch .now) (c .before .before .before .before .before .before .before .before .before .before .before .before .before .before .before .before .before .before .before .before .before .before .before .before .before .before .before .before .before .before .before .before .before .before .before .before .before .before .args .j) (c .before .before .before .before .before .before .before .before .before .before .before .before .before .before .before .before .before .before .before .before .before .before .before .before .before .before .before .before .before .before .before .before .before .before .before .before .before .before .pre .1 .row) (c .before .before .before .before .before .before .before .before .before .before .before .before .before .before .before .before .before .before .before .before .before .before .before .before .before .before .before .before .before .before .before .before .read-row .result) (c .before .before .before .before .before .before .before .before .before .before .before .before .before .before .before .before .before .before .before .before .before .before .before .before .before .before .before .before .before .before .before .before .read-row .ensures) (past-three (c .before .before .before .before .before .before .before .before .before .before .before .before .before .before .before .before .before .before .before .before .before .before .before .before .before .before .before .before .before .before .before .before .read-row .result .kind) (c .before .before .before .before .before .before .before .before .before .before .before .before .before .before .before .before .before .before .before .before .before .before .before .before .before .before .before .before .before .before .if2 .left) (c .before .before .before .before .before .before .before .before .before .before .before .before .before .before .before .before .before .before .before .before .before .before .before .before .before .before .before .before .if3 .left)))) (c .before .before .before .before .before .before .before .before .before .before .before .before .before .before .before .before .before .before .before .before .before .negated-image .ensures .above)) (c .before .before .before .before .before .before .equivalent .ensures .above) }
 
--- src/cycle.rt:249:5
+negated-image-up-element-copy-out-join : (t : ℕ) → negated-image-up-lts.Need-element-copy-out-join (read-row-reads.Asked, read-row-reads.Learnt, leaf-reads.Asked, leaf-reads.Learnt, negated-image-below t, negated-image.Post, equivalent-below t, equivalent.Post, join-reads.Asked, join-reads.Learnt) (negated-image-up-at t) negated-image-up.Post
+negated-image-up-element-copy-out-join t c = search needs
+
 negated-image-up-join-requires : (t : ℕ) → negated-image-up-lts.Need-join-requires (read-row-reads.Asked, read-row-reads.Learnt, leaf-reads.Asked, leaf-reads.Learnt, negated-image-below t, negated-image.Post, equivalent-below t, equivalent.Post, join-reads.Asked, join-reads.Learnt) (negated-image-up-at t) negated-image-up.Post
-negated-image-up-join-requires t c κs = asks-join (asks-second (c .before .before .before .before .before .before .before .before .before .before .before .before .before .before .before .before .before .before .before .before .before .before .before .before .before .before .before .before .before .args .frame) (c .before .before .before .before .before .before .before .before .before .before .before .before .before .before .before .before .before .before .before .before .before .before .before .before .before .before .before .before .before .args .formulas .now) (c .before .before .before .before .before .before .before .before .before .before .before .before .before .before .before .before .before .before .before .before .before .before .before .before .before .before .before .before .before .args .scratch .now) (c .before .before .before .before .before .before .before .before .before .before .before .before .before .before .before .before .before .before .before .before .before .before .before .before .before .before .before .before .before .args .j) (c .before .before .before .before .before .before .before .before .before .before .before .before .before .before .before .before .before .before .before .before .before .before .before .before .before .before .before .before .before .pre .1 .row) (c .before .before .before .before .before .before .before .before .before .before .before .before .before .before .before .before .before .before .before .before .before .before .before .read-row .result) (c .before .before .before .before .before .before .before .before .before .before .before .before .before .before .before .before .before .before .before .before .before .before .before .read-row .ensures) (c .before .before .before .before .before .before .before .before .before .before .before .before .before .before .before .before .before .before .before .before .before .before .before .before .before .before .before .before .before .pre .1) (ne-eqb _ 65535 (c .before .before .before .before .before .before .before .before .before .before .before .before .before .before .before .before .before .before .before .before .before .before .before .before .if1 .left)) (past-three (c .before .before .before .before .before .before .before .before .before .before .before .before .before .before .before .before .before .before .before .before .before .before .before .read-row .result .kind) (c .before .before .before .before .before .before .before .before .before .before .before .before .before .before .before .before .before .before .before .before .before .if2 .left) (c .before .before .before .before .before .before .before .before .before .before .before .before .before .before .before .before .before .before .before .if3 .left)) (c .before .before .before .before .before .before .before .before .before .before .before .before .negated-image .ensures .images) (ne-eqb _ 65535 (c .before .before .before .before .before .if4 .left)) (c .before .before .before .before .before .before .before .before .before .before .before .before .negated-image .kept .1 .1 .1 .1 .1 .1 .1 .0))
+negated-image-up-join-requires t c κs = asks-join (asks-second (framed (c .before .before .before .before .before .before .before .before .before .before .before .before .before .before .before .before .before .before .before .before .before .before .before .before .before .before .before .before .before .before .args .frame .now)) (c .before .before .before .before .before .before .before .before .before .before .before .before .before .before .before .before .before .before .before .before .before .before .before .before .before .before .before .before .before .before .args .formulas .now) (c .before .before .before .before .before .before .before .before .before .before .before .before .before .before .before .before .before .before .before .before .before .before .before .before .before .before .before .before .before .before .args .scratch .now) (c .before .before .before .before .before .before .before .before .before .before .before .before .before .before .before .before .before .before .before .before .before .before .before .before .before .before .before .before .before .before .args .j) (c .before .before .before .before .before .before .before .before .before .before .before .before .before .before .before .before .before .before .before .before .before .before .before .before .before .before .before .before .before .before .pre .1 .row) (c .before .before .before .before .before .before .before .before .before .before .before .before .before .before .before .before .before .before .before .before .before .before .before .before .read-row .result) (c .before .before .before .before .before .before .before .before .before .before .before .before .before .before .before .before .before .before .before .before .before .before .before .before .read-row .ensures) (c .before .before .before .before .before .before .before .before .before .before .before .before .before .before .before .before .before .before .before .before .before .before .before .before .before .before .before .before .before .before .pre .1) (ne-eqb _ 65535 (c .before .before .before .before .before .before .before .before .before .before .before .before .before .before .before .before .before .before .before .before .before .before .before .before .before .if1 .left)) (past-three (c .before .before .before .before .before .before .before .before .before .before .before .before .before .before .before .before .before .before .before .before .before .before .before .before .read-row .result .kind) (c .before .before .before .before .before .before .before .before .before .before .before .before .before .before .before .before .before .before .before .before .before .before .if2 .left) (c .before .before .before .before .before .before .before .before .before .before .before .before .before .before .before .before .before .before .before .before .if3 .left)) (c .before .before .before .before .before .before .before .before .before .before .before .before .before .negated-image .ensures .images) (ne-eqb _ 65535 (c .before .before .before .before .before .before .if4 .left)) (c .before .before .before .before .before .before .before .before .before .before .before .before .before .negated-image .kept .1 .1 .1 .1 .1 .1 .1 .0))
 
--- src/cycle.rt:206:1
 negated-image-up-same-length-9 : (t : ℕ) → negated-image-up-lts.Need-same-length-9 (read-row-reads.Asked, read-row-reads.Learnt, leaf-reads.Asked, leaf-reads.Learnt, negated-image-below t, negated-image.Post, equivalent-below t, equivalent.Post, join-reads.Asked, join-reads.Learnt) (negated-image-up-at t) negated-image-up.Post
-negated-image-up-same-length-9 t c = c .before .before .join .kept .1 .0 ∙ c .before .before .before .before .before .before .before .before .before .before .before .before .before .before .before .negated-image .kept .1 .1 .1 .1 .1 .0
+negated-image-up-same-length-9 t c = c .before .before .join .kept .1 .0 ∙ c .before .before .before .before .before .before .before .before .before .before .before .before .before .before .before .before .negated-image .kept .1 .1 .1 .1 .1 .0
 
--- src/cycle.rt:206:1
 negated-image-up-same-length-10 : (t : ℕ) → negated-image-up-lts.Need-same-length-10 (read-row-reads.Asked, read-row-reads.Learnt, leaf-reads.Asked, leaf-reads.Learnt, negated-image-below t, negated-image.Post, equivalent-below t, equivalent.Post, join-reads.Asked, join-reads.Learnt) (negated-image-up-at t) negated-image-up.Post
-negated-image-up-same-length-10 t c = c .before .before .before .before .before .before .before .before .before .before .before .before .before .before .before .negated-image .kept .1 .1 .1 .1 .1 .1 .0
+negated-image-up-same-length-10 t c = c .before .before .before .before .before .before .before .before .before .before .before .before .before .before .before .before .negated-image .kept .1 .1 .1 .1 .1 .1 .0
 
--- src/cycle.rt:206:1
 negated-image-up-same-length-11 : (t : ℕ) → negated-image-up-lts.Need-same-length-11 (read-row-reads.Asked, read-row-reads.Learnt, leaf-reads.Asked, leaf-reads.Learnt, negated-image-below t, negated-image.Post, equivalent-below t, equivalent.Post, join-reads.Asked, join-reads.Learnt) (negated-image-up-at t) negated-image-up.Post
-negated-image-up-same-length-11 t c = c .before .before .before .before .before .before .before .before .before .before .before .before .before .before .before .negated-image .kept .1 .1 .1 .1 .1 .1 .1 .0
+negated-image-up-same-length-11 t c = c .before .before .before .before .before .before .before .before .before .before .before .before .before .before .before .before .negated-image .kept .1 .1 .1 .1 .1 .1 .1 .0
 
--- src/cycle.rt:206:1
 negated-image-up-returns-6 : (t : ℕ) → negated-image-up-lts.Need-returns-6 (read-row-reads.Asked, read-row-reads.Learnt, leaf-reads.Asked, leaf-reads.Learnt, negated-image-below t, negated-image.Post, equivalent-below t, equivalent.Post, join-reads.Asked, join-reads.Learnt) (negated-image-up-at t) negated-image-up.Post
-negated-image-up-returns-6 t c = record { images = λ at entry memo x. up-join negated (c .before .before .before .before .before .before .before .before .before .before .before .before .before .before .before .before .before .before .before .before .before .before .before .before .before .before .before .before .before .before .before .before .pre .1 .row) x (c .before .before .before .before .before .before .before .before .before .before .before .before .before .before .before .before .before .before .before .before .before .before .before .before .before .before .read-row .result) (c .before .before .before .before .before .before .before .before .before .before .before .before .before .before .before .before .before .before .before .before .before .before .before .before .before .before .read-row .ensures) (ne-eqb _ 65535 (c .before .before .before .before .before .before .before .before .before .before .before .before .before .before .before .before .before .before .before .before .before .before .before .before .before .before .before .if1 .left)) (past-three (c .before .before .before .before .before .before .before .before .before .before .before .before .before .before .before .before .before .before .before .before .before .before .before .before .before .before .read-row .result .kind) (c .before .before .before .before .before .before .before .before .before .before .before .before .before .before .before .before .before .before .before .before .before .before .before .before .if2 .left) (c .before .before .before .before .before .before .before .before .before .before .before .before .before .before .before .before .before .before .before .before .before .before .if3 .left)) (c .before .before .before .before .before .before .before .before .before .before .before .before .before .before .before .negated-image .ensures .images) (ne-eqb _ 65535 (c .before .before .before .before .before .before .before .before .if4 .left)) (c .before .before .before .before .before .before .if5 .left) (c .before .before .join .ensures _ _ _ refl (c .before .before .before .before .before .before .before .before .before .before .before .before .before .before .before .negated-image .ensures .images .builds .done (ne-eqb _ 65535 (c .before .before .before .before .before .before .before .before .if4 .left)) .ready)); above = kept-from (omega (arith, right-lower (c .before .before .before .before .before .before .before .before .before .before .before .before .before .before .before .before .before .before .before .before .before .before .before .before .before .before .before .before .before .before .before .before .args .frame) (c .before .before .before .before .before .before .before .before .before .before .before .before .before .before .before .before .before .before .before .before .before .before .before .before .before .before .before .before .before .before .before .before .args .formulas .now) (c .before .before .before .before .before .before .before .before .before .before .before .before .before .before .before .before .before .before .before .before .before .before .before .before .before .before .before .before .before .before .before .before .args .scratch .now) (c .before .before .before .before .before .before .before .before .before .before .before .before .before .before .before .before .before .before .before .before .before .before .before .before .before .before .before .before .before .before .before .before .args .j) (c .before .before .before .before .before .before .before .before .before .before .before .before .before .before .before .before .before .before .before .before .before .before .before .before .before .before .before .before .before .before .before .before .pre .1 .row) (c .before .before .before .before .before .before .before .before .before .before .before .before .before .before .before .before .before .before .before .before .before .before .before .before .before .before .read-row .result) (c .before .before .before .before .before .before .before .before .before .before .before .before .before .before .before .before .before .before .before .before .before .before .before .before .before .before .read-row .ensures) (past-three (c .before .before .before .before .before .before .before .before .before .before .before .before .before .before .before .before .before .before .before .before .before .before .before .before .before .before .read-row .result .kind) (c .before .before .before .before .before .before .before .before .before .before .before .before .before .before .before .before .before .before .before .before .before .before .before .before .if2 .left) (c .before .before .before .before .before .before .before .before .before .before .before .before .before .before .before .before .before .before .before .before .before .before .if3 .left)))) (c .before .before .before .before .before .before .before .before .before .before .before .before .before .before .before .negated-image .ensures .above) }
+negated-image-up-returns-6 t c = record { images = λ at entry memo x. up-join negated (c .before .before .before .before .before .before .before .before .before .before .before .before .before .before .before .before .before .before .before .before .before .before .before .before .before .before .before .before .before .before .before .before .before .pre .1 .row) x (c .before .before .before .before .before .before .before .before .before .before .before .before .before .before .before .before .before .before .before .before .before .before .before .before .before .before .before .read-row .result) (c .before .before .before .before .before .before .before .before .before .before .before .before .before .before .before .before .before .before .before .before .before .before .before .before .before .before .before .read-row .ensures) (ne-eqb _ 65535 (c .before .before .before .before .before .before .before .before .before .before .before .before .before .before .before .before .before .before .before .before .before .before .before .before .before .before .before .before .if1 .left)) (past-three (c .before .before .before .before .before .before .before .before .before .before .before .before .before .before .before .before .before .before .before .before .before .before .before .before .before .before .before .read-row .result .kind) (c .before .before .before .before .before .before .before .before .before .before .before .before .before .before .before .before .before .before .before .before .before .before .before .before .before .if2 .left) (c .before .before .before .before .before .before .before .before .before .before .before .before .before .before .before .before .before .before .before .before .before .before .before .if3 .left)) (c .before .before .before .before .before .before .before .before .before .before .before .before .before .before .before .before .negated-image .ensures .images) (ne-eqb _ 65535 (c .before .before .before .before .before .before .before .before .before .if4 .left)) (c .before .before .before .before .before .before .before .if5 .left) (c .before .before .join .ensures _ _ _ refl (c .before .before .before .before .before .before .before .before .before .before .before .before .before .before .before .before .negated-image .ensures .images .builds .done (ne-eqb _ 65535 (c .before .before .before .before .before .before .before .before .before .if4 .left)) .ready)); above = kept-from (omega (arith, right-lower (framed (c .before .before .before .before .before .before .before .before .before .before .before .before .before .before .before .before .before .before .before .before .before .before .before .before .before .before .before .before .before .before .before .before .before .args .frame .now)) (c .before .before .before .before .before .before .before .before .before .before .before .before .before .before .before .before .before .before .before .before .before .before .before .before .before .before .before .before .before .before .before .before .before .args .formulas .now) (c .before .before .before .before .before .before .before .before .before .before .before .before .before .before .before .before .before .before .before .before .before .before .before .before .before .before .before .before .before .before .before .before .before .args .scratch .now) (c .before .before .before .before .before .before .before .before .before .before .before .before .before .before .before .before .before .before .before .before .before .before .before .before .before .before .before .before .before .before .before .before .before .args .j) (c .before .before .before .before .before .before .before .before .before .before .before .before .before .before .before .before .before .before .before .before .before .before .before .before .before .before .before .before .before .before .before .before .before .pre .1 .row) (c .before .before .before .before .before .before .before .before .before .before .before .before .before .before .before .before .before .before .before .before .before .before .before .before .before .before .before .read-row .result) (c .before .before .before .before .before .before .before .before .before .before .before .before .before .before .before .before .before .before .before .before .before .before .before .before .before .before .before .read-row .ensures) (past-three (c .before .before .before .before .before .before .before .before .before .before .before .before .before .before .before .before .before .before .before .before .before .before .before .before .before .before .before .read-row .result .kind) (c .before .before .before .before .before .before .before .before .before .before .before .before .before .before .before .before .before .before .before .before .before .before .before .before .before .if2 .left) (c .before .before .before .before .before .before .before .before .before .before .before .before .before .before .before .before .before .before .before .before .before .before .before .if3 .left)))) (c .before .before .before .before .before .before .before .before .before .before .before .before .before .before .before .before .negated-image .ensures .above) }
 
--- src/cycle.rt:333:9
 operand-negated-image-requires : (t : ℕ) → operand-lts.Need-negated-image-requires (negated-image-below t, negated-image.Post, image-below t, image.Post) (operand-at t) operand.Post
 operand-negated-image-requires t c κs = (omega (arith, c .before .before .before .before .before .before .before .before .before .before .pre .0), c .before .before .before .before .before .before .before .before .before .before .pre .1)
 
--- src/cycle.rt:333:9
 operand-same-length : (t : ℕ) → operand-lts.Need-same-length (negated-image-below t, negated-image.Post, image-below t, image.Post) (operand-at t) operand.Post
 operand-same-length t c = c .before .before .before .before .before .before .negated-image .kept .1 .1 .1 .1 .1 .0
 
--- src/cycle.rt:333:9
 operand-same-length-2 : (t : ℕ) → operand-lts.Need-same-length-2 (negated-image-below t, negated-image.Post, image-below t, image.Post) (operand-at t) operand.Post
 operand-same-length-2 t c = c .before .before .before .before .before .before .negated-image .kept .1 .1 .1 .1 .1 .1 .0
 
--- src/cycle.rt:333:9
 operand-same-length-3 : (t : ℕ) → operand-lts.Need-same-length-3 (negated-image-below t, negated-image.Post, image-below t, image.Post) (operand-at t) operand.Post
 operand-same-length-3 t c = c .before .before .before .before .before .before .negated-image .kept .1 .1 .1 .1 .1 .1 .1 .0
 
--- src/cycle.rt:333:9
 operand-returns : (t : ℕ) → operand-lts.Need-returns (negated-image-below t, negated-image.Post, image-below t, image.Post) (operand-at t) operand.Post
 operand-returns t c = rw (c .before .before .before .before .before .before .before .before .before .before .before .before .if1 .taken) (c .before .before .before .before .before .before .negated-image .ensures)
 
--- src/cycle.rt:335:5
 operand-image-requires : (t : ℕ) → operand-lts.Need-image-requires (negated-image-below t, negated-image.Post, image-below t, image.Post) (operand-at t) operand.Post
 operand-image-requires t c κs = (omega (arith, c .before .before .before .before .before .before .before .before .before .before .pre .0), c .before .before .before .before .before .before .before .before .before .before .pre .1)
 
--- src/cycle.rt:318:1
 operand-same-length-4 : (t : ℕ) → operand-lts.Need-same-length-4 (negated-image-below t, negated-image.Post, image-below t, image.Post) (operand-at t) operand.Post
 operand-same-length-4 t c = c .before .before .before .before .before .before .image .kept .1 .1 .1 .1 .1 .0
 
--- src/cycle.rt:318:1
 operand-same-length-5 : (t : ℕ) → operand-lts.Need-same-length-5 (negated-image-below t, negated-image.Post, image-below t, image.Post) (operand-at t) operand.Post
 operand-same-length-5 t c = c .before .before .before .before .before .before .image .kept .1 .1 .1 .1 .1 .1 .0
 
--- src/cycle.rt:318:1
 operand-same-length-6 : (t : ℕ) → operand-lts.Need-same-length-6 (negated-image-below t, negated-image.Post, image-below t, image.Post) (operand-at t) operand.Post
 operand-same-length-6 t c = c .before .before .before .before .before .before .image .kept .1 .1 .1 .1 .1 .1 .1 .0
 
--- src/cycle.rt:318:1
 operand-returns-2 : (t : ℕ) → operand-lts.Need-returns-2 (negated-image-below t, negated-image.Post, image-below t, image.Post) (operand-at t) operand.Post
 operand-returns-2 t c = rw (c .before .before .before .before .before .before .before .before .before .before .before .before .if1 .left) (c .before .before .before .before .before .before .image .ensures)
 
--- src/cycle.rt:295:9
 pair-read-row-requires : (t : ℕ) → pair-lts.Need-read-row-requires (read-row-reads.Asked, read-row-reads.Learnt, negated-image-below t, negated-image.Post, operand-below t, operand.Post, join-reads.Asked, join-reads.Learnt) (pair-at t) pair.Post
 pair-read-row-requires t c κs = omega (arith, c .before .before .before .before .pre .1 .asks .source .words, c .before .before .before .before .pre .1 .asks .formula)
 
--- src/cycle.rt:296:37
 pair-cast-negated-image : (t : ℕ) → pair-lts.Need-cast-negated-image (read-row-reads.Asked, read-row-reads.Learnt, negated-image-below t, negated-image.Post, operand-below t, operand.Post, join-reads.Asked, join-reads.Learnt) (pair-at t) pair.Post
 pair-cast-negated-image t c = search needs
 
--- src/cycle.rt:296:9
 pair-negated-image-requires : (t : ℕ) → pair-lts.Need-negated-image-requires (read-row-reads.Asked, read-row-reads.Learnt, negated-image-below t, negated-image.Post, operand-below t, operand.Post, join-reads.Asked, join-reads.Learnt) (pair-at t) pair.Post
 pair-negated-image-requires t c κs = (omega (arith, c .before .before .before .before .before .before .before .before .before .before .before .pre .0, pair-left (c .before .before .before .before .before .before .before .before .before .before .before .pre .1) (c .before .before .before .before .before .before .read-row .ensures)), asks-lower (c .before .before .before .before .before .before .before .before .before .before .before .pre .1 .asks) (pair-left (c .before .before .before .before .before .before .before .before .before .before .before .pre .1) (c .before .before .before .before .before .before .read-row .ensures)))
 
--- src/cycle.rt:298:9
 pair-same-length : (t : ℕ) → pair-lts.Need-same-length (read-row-reads.Asked, read-row-reads.Learnt, negated-image-below t, negated-image.Post, operand-below t, operand.Post, join-reads.Asked, join-reads.Learnt) (pair-at t) pair.Post
 pair-same-length t c = c .before .before .before .before .before .before .before .negated-image .kept .1 .1 .1 .1 .1 .0
 
--- src/cycle.rt:298:9
 pair-same-length-2 : (t : ℕ) → pair-lts.Need-same-length-2 (read-row-reads.Asked, read-row-reads.Learnt, negated-image-below t, negated-image.Post, operand-below t, operand.Post, join-reads.Asked, join-reads.Learnt) (pair-at t) pair.Post
 pair-same-length-2 t c = c .before .before .before .before .before .before .before .negated-image .kept .1 .1 .1 .1 .1 .1 .0
 
--- src/cycle.rt:298:9
 pair-same-length-3 : (t : ℕ) → pair-lts.Need-same-length-3 (read-row-reads.Asked, read-row-reads.Learnt, negated-image-below t, negated-image.Post, operand-below t, operand.Post, join-reads.Asked, join-reads.Learnt) (pair-at t) pair.Post
 pair-same-length-3 t c = c .before .before .before .before .before .before .before .negated-image .kept .1 .1 .1 .1 .1 .1 .1 .0
 
--- src/cycle.rt:298:9
 pair-returns : (t : ℕ) → pair-lts.Need-returns (read-row-reads.Asked, read-row-reads.Learnt, negated-image-below t, negated-image.Post, operand-below t, operand.Post, join-reads.Asked, join-reads.Learnt) (pair-at t) pair.Post
-pair-returns t c = record { images = images-as (pair-read (c .before .before .before .before .before .before .before .before .before .before .before .before .before .before .before .before .before .before .before .pre .1) (c .before .before .before .before .before .before .before .before .before .before .before .before .before .before .read-row .ensures) (c .before .before .before .before .before .before .before .before .before .before .before .before .before .before .before .before .before .before .before .args .crossed)) (pair-left-full plain (steady-image-at (c .before .before .before .before .before .before .before .before .before .before .before .before .before .before .before .before .before .before .before .args .frame) (c .before .before .before .before .before .before .before .before .before .before .before .before .before .before .before .before .before .before .before .args .formulas .now) (side (not (c .before .before .before .before .before .before .before .before .before .before .before .before .before .before .before .before .before .before .before .args .crossed))) (c .before .before .before .before .before .before .before .before .before .before .before .before .before .before .read-row .result .b)) (c .before .before .before .before .before .before .before .negated-image .ensures .images) (eq-eqb _ 65535 (c .if1 .taken))); above = kept-from (omega (arith, pair-left (c .before .before .before .before .before .before .before .before .before .before .before .before .before .before .before .before .before .before .before .pre .1) (c .before .before .before .before .before .before .before .before .before .before .before .before .before .before .read-row .ensures))) (c .before .before .before .before .before .before .before .negated-image .ensures .above) }
+pair-returns t c = record { images = images-as (pair-read (c .before .before .before .before .before .before .before .before .before .before .before .before .before .before .before .before .before .before .before .pre .1) (c .before .before .before .before .before .before .before .before .before .before .before .before .before .before .read-row .ensures) (c .before .before .before .before .before .before .before .before .before .before .before .before .before .before .before .before .before .before .before .args .crossed)) (pair-left-full plain (steady-image-at (framed (c .before .before .before .before .before .before .before .before .before .before .before .before .before .before .before .before .before .before .before .args .frame .now)) (c .before .before .before .before .before .before .before .before .before .before .before .before .before .before .before .before .before .before .before .args .formulas .now) (side (not (c .before .before .before .before .before .before .before .before .before .before .before .before .before .before .before .before .before .before .before .args .crossed))) (c .before .before .before .before .before .before .before .before .before .before .before .before .before .before .read-row .result .b)) (c .before .before .before .before .before .before .before .negated-image .ensures .images) (eq-eqb _ 65535 (c .if1 .taken))); above = kept-from (omega (arith, pair-left (c .before .before .before .before .before .before .before .before .before .before .before .before .before .before .before .before .before .before .before .pre .1) (c .before .before .before .before .before .before .before .before .before .before .before .before .before .before .read-row .ensures))) (c .before .before .before .before .before .before .before .negated-image .ensures .above) }
 
--- src/cycle.rt:302:9
 pair-cast-operand : (t : ℕ) → pair-lts.Need-cast-operand (read-row-reads.Asked, read-row-reads.Learnt, negated-image-below t, negated-image.Post, operand-below t, operand.Post, join-reads.Asked, join-reads.Learnt) (pair-at t) pair.Post
 pair-cast-operand t c = search needs
 
--- src/cycle.rt:300:9
 pair-operand-requires : (t : ℕ) → pair-lts.Need-operand-requires (read-row-reads.Asked, read-row-reads.Learnt, negated-image-below t, negated-image.Post, operand-below t, operand.Post, join-reads.Asked, join-reads.Learnt) (pair-at t) pair.Post
 pair-operand-requires t c κs = (omega (arith, c .before .before .before .before .before .before .before .before .before .before .before .before .before .before .before .before .before .before .before .before .before .before .before .before .before .pre .0, pair-right (c .before .before .before .before .before .before .before .before .before .before .before .before .before .before .before .before .before .before .before .before .before .before .before .before .before .pre .1) (c .before .before .before .before .before .before .before .before .before .before .before .before .before .before .before .before .before .before .before .before .read-row .ensures)), asks-next (c .before .before .before .before .before .before .before .before .before .before .before .before .before .before .before .before .before .before .before .before .read-row .result .b) (c .before .before .before .before .before .before .before .before .before .before .before .before .before .before .before .before .before .before .before .before .before .before .before .before .before .pre .1 .asks) (c .before .before .before .before .before .before .before .before .before .before .before .before .before .negated-image .ensures .images) (ne-eqb _ 65535 (c .before .before .before .before .before .before .if1 .left)) (c .before .before .before .before .before .before .before .before .before .before .before .before .before .negated-image .kept .1 .1 .1 .1 .1 .1 .1 .0) (omega (arith, pair-right (c .before .before .before .before .before .before .before .before .before .before .before .before .before .before .before .before .before .before .before .before .before .before .before .before .before .pre .1) (c .before .before .before .before .before .before .before .before .before .before .before .before .before .before .before .before .before .before .before .before .read-row .ensures), c .before .before .before .before .before .before .before .before .before .before .before .before .before .before .before .before .before .before .before .before .before .before .before .before .before .pre .1 .asks .formula)))
 
--- src/cycle.rt:312:9
 pair-same-length-4 : (t : ℕ) → pair-lts.Need-same-length-4 (read-row-reads.Asked, read-row-reads.Learnt, negated-image-below t, negated-image.Post, operand-below t, operand.Post, join-reads.Asked, join-reads.Learnt) (pair-at t) pair.Post
 pair-same-length-4 t c = c .before .before .before .before .before .before .before .operand .kept .1 .1 .1 .1 .1 .1 .0 ∙ c .before .before .before .before .before .before .before .before .before .before .before .before .before .before .before .before .before .before .before .before .before .negated-image .kept .1 .1 .1 .1 .1 .0
 
--- src/cycle.rt:312:9
 pair-same-length-5 : (t : ℕ) → pair-lts.Need-same-length-5 (read-row-reads.Asked, read-row-reads.Learnt, negated-image-below t, negated-image.Post, operand-below t, operand.Post, join-reads.Asked, join-reads.Learnt) (pair-at t) pair.Post
 pair-same-length-5 t c = c .before .before .before .before .before .before .before .operand .kept .1 .1 .1 .1 .1 .1 .1 .0 ∙ c .before .before .before .before .before .before .before .before .before .before .before .before .before .before .before .before .before .before .before .before .before .negated-image .kept .1 .1 .1 .1 .1 .1 .0
 
--- src/cycle.rt:312:9
 pair-same-length-6 : (t : ℕ) → pair-lts.Need-same-length-6 (read-row-reads.Asked, read-row-reads.Learnt, negated-image-below t, negated-image.Post, operand-below t, operand.Post, join-reads.Asked, join-reads.Learnt) (pair-at t) pair.Post
 pair-same-length-6 t c = c .before .before .before .before .before .before .before .operand .kept .1 .1 .1 .1 .1 .1 .1 .1 .0 ∙ c .before .before .before .before .before .before .before .before .before .before .before .before .before .before .before .before .before .before .before .before .before .negated-image .kept .1 .1 .1 .1 .1 .1 .1 .0
 
--- src/cycle.rt:312:9
 pair-returns-2 : (t : ℕ) → pair-lts.Need-returns-2 (read-row-reads.Asked, read-row-reads.Learnt, negated-image-below t, negated-image.Post, operand-below t, operand.Post, join-reads.Asked, join-reads.Learnt) (pair-at t) pair.Post
-pair-returns-2 t c = record { images = images-as (pair-read (c .before .before .before .before .before .before .before .before .before .before .before .before .before .before .before .before .before .before .before .before .before .before .before .before .before .before .before .before .before .before .before .before .before .pre .1) (c .before .before .before .before .before .before .before .before .before .before .before .before .before .before .before .before .before .before .before .before .before .before .before .before .before .before .before .before .read-row .ensures) (c .before .before .before .before .before .before .before .before .before .before .before .before .before .before .before .before .before .before .before .before .before .before .before .before .before .before .before .before .before .before .before .before .before .args .crossed)) (pair-right-full plain (steady-image-at (c .before .before .before .before .before .before .before .before .before .before .before .before .before .before .before .before .before .before .before .before .before .before .before .before .before .before .before .before .before .before .before .before .before .args .frame) (c .before .before .before .before .before .before .before .before .before .before .before .before .before .before .before .before .before .before .before .before .before .before .before .before .before .before .before .before .before .before .before .before .before .args .formulas .now) (side (not (c .before .before .before .before .before .before .before .before .before .before .before .before .before .before .before .before .before .before .before .before .before .before .before .before .before .before .before .before .before .before .before .before .before .args .crossed))) (c .before .before .before .before .before .before .before .before .before .before .before .before .before .before .before .before .before .before .before .before .before .before .before .before .before .before .before .before .read-row .result .b)) (c .before .before .before .before .before .before .before .before .before .before .before .before .before .before .before .before .before .before .before .before .before .negated-image .ensures .images) (ne-eqb _ 65535 (c .before .before .before .before .before .before .before .before .before .before .before .before .before .before .if1 .left)) (c .before .before .before .before .before .before .before .operand .ensures .images) (eq-eqb _ 65535 (c .if2 .taken))); above = kept-then (kept-from (omega (arith, pair-left (c .before .before .before .before .before .before .before .before .before .before .before .before .before .before .before .before .before .before .before .before .before .before .before .before .before .before .before .before .before .before .before .before .before .pre .1) (c .before .before .before .before .before .before .before .before .before .before .before .before .before .before .before .before .before .before .before .before .before .before .before .before .before .before .before .before .read-row .ensures))) (c .before .before .before .before .before .before .before .before .before .before .before .before .before .before .before .before .before .before .before .before .before .negated-image .ensures .above)) (kept-from (omega (arith, pair-right (c .before .before .before .before .before .before .before .before .before .before .before .before .before .before .before .before .before .before .before .before .before .before .before .before .before .before .before .before .before .before .before .before .before .pre .1) (c .before .before .before .before .before .before .before .before .before .before .before .before .before .before .before .before .before .before .before .before .before .before .before .before .before .before .before .before .read-row .ensures))) (c .before .before .before .before .before .before .before .operand .ensures .above)) }
+pair-returns-2 t c = record { images = images-as (pair-read (c .before .before .before .before .before .before .before .before .before .before .before .before .before .before .before .before .before .before .before .before .before .before .before .before .before .before .before .before .before .before .before .before .before .pre .1) (c .before .before .before .before .before .before .before .before .before .before .before .before .before .before .before .before .before .before .before .before .before .before .before .before .before .before .before .before .read-row .ensures) (c .before .before .before .before .before .before .before .before .before .before .before .before .before .before .before .before .before .before .before .before .before .before .before .before .before .before .before .before .before .before .before .before .before .args .crossed)) (pair-right-full plain (steady-image-at (framed (c .before .before .before .before .before .before .before .before .before .before .before .before .before .before .before .before .before .before .before .before .before .before .before .before .before .before .before .before .before .before .before .before .before .args .frame .now)) (c .before .before .before .before .before .before .before .before .before .before .before .before .before .before .before .before .before .before .before .before .before .before .before .before .before .before .before .before .before .before .before .before .before .args .formulas .now) (side (not (c .before .before .before .before .before .before .before .before .before .before .before .before .before .before .before .before .before .before .before .before .before .before .before .before .before .before .before .before .before .before .before .before .before .args .crossed))) (c .before .before .before .before .before .before .before .before .before .before .before .before .before .before .before .before .before .before .before .before .before .before .before .before .before .before .before .before .read-row .result .b)) (c .before .before .before .before .before .before .before .before .before .before .before .before .before .before .before .before .before .before .before .before .before .negated-image .ensures .images) (ne-eqb _ 65535 (c .before .before .before .before .before .before .before .before .before .before .before .before .before .before .if1 .left)) (c .before .before .before .before .before .before .before .operand .ensures .images) (eq-eqb _ 65535 (c .if2 .taken))); above = kept-then (kept-from (omega (arith, pair-left (c .before .before .before .before .before .before .before .before .before .before .before .before .before .before .before .before .before .before .before .before .before .before .before .before .before .before .before .before .before .before .before .before .before .pre .1) (c .before .before .before .before .before .before .before .before .before .before .before .before .before .before .before .before .before .before .before .before .before .before .before .before .before .before .before .before .read-row .ensures))) (c .before .before .before .before .before .before .before .before .before .before .before .before .before .before .before .before .before .before .before .before .before .negated-image .ensures .above)) (kept-from (omega (arith, pair-right (c .before .before .before .before .before .before .before .before .before .before .before .before .before .before .before .before .before .before .before .before .before .before .before .before .before .before .before .before .before .before .before .before .before .pre .1) (c .before .before .before .before .before .before .before .before .before .before .before .before .before .before .before .before .before .before .before .before .before .before .before .before .before .before .before .before .read-row .ensures))) (c .before .before .before .before .before .before .before .operand .ensures .above)) }
 
--- src/cycle.rt:314:5
+pair-element-copy-out-join : (t : ℕ) → pair-lts.Need-element-copy-out-join (read-row-reads.Asked, read-row-reads.Learnt, negated-image-below t, negated-image.Post, operand-below t, operand.Post, join-reads.Asked, join-reads.Learnt) (pair-at t) pair.Post
+pair-element-copy-out-join t c = search needs
+
 pair-join-requires : (t : ℕ) → pair-lts.Need-join-requires (read-row-reads.Asked, read-row-reads.Learnt, negated-image-below t, negated-image.Post, operand-below t, operand.Post, join-reads.Asked, join-reads.Learnt) (pair-at t) pair.Post
-pair-join-requires t c κs = join-asks ((c .before .before .before .before .before .before .before .before .before .before .before .before .before .before .before .before .before .before .before .before .before .before .before .negated-image .ensures .images) .builds) (ne-eqb _ 65535 (c .before .before .before .before .before .before .before .before .before .before .before .before .before .before .before .before .if1 .left)) ((c .before .before .before .before .before .before .before .before .before .operand .ensures .images) .builds) (ne-eqb _ 65535 (c .before .before .if2 .left))
+pair-join-requires t c κs = join-asks ((c .before .before .before .before .before .before .before .before .before .before .before .before .before .before .before .before .before .before .before .before .before .before .before .before .negated-image .ensures .images) .builds) (ne-eqb _ 65535 (c .before .before .before .before .before .before .before .before .before .before .before .before .before .before .before .before .before .if1 .left)) ((c .before .before .before .before .before .before .before .before .before .before .operand .ensures .images) .builds) (ne-eqb _ 65535 (c .before .before .before .if2 .left))
 
--- src/cycle.rt:281:1
 pair-same-length-7 : (t : ℕ) → pair-lts.Need-same-length-7 (read-row-reads.Asked, read-row-reads.Learnt, negated-image-below t, negated-image.Post, operand-below t, operand.Post, join-reads.Asked, join-reads.Learnt) (pair-at t) pair.Post
-pair-same-length-7 t c = c .before .before .join .kept .1 .0 ∙ c .before .before .before .before .before .before .before .before .before .before .before .before .operand .kept .1 .1 .1 .1 .1 .1 .0 ∙ c .before .before .before .before .before .before .before .before .before .before .before .before .before .before .before .before .before .before .before .before .before .before .before .before .before .before .negated-image .kept .1 .1 .1 .1 .1 .0
+pair-same-length-7 t c = c .before .before .join .kept .1 .0 ∙ c .before .before .before .before .before .before .before .before .before .before .before .before .before .operand .kept .1 .1 .1 .1 .1 .1 .0 ∙ c .before .before .before .before .before .before .before .before .before .before .before .before .before .before .before .before .before .before .before .before .before .before .before .before .before .before .before .negated-image .kept .1 .1 .1 .1 .1 .0
 
--- src/cycle.rt:281:1
 pair-same-length-8 : (t : ℕ) → pair-lts.Need-same-length-8 (read-row-reads.Asked, read-row-reads.Learnt, negated-image-below t, negated-image.Post, operand-below t, operand.Post, join-reads.Asked, join-reads.Learnt) (pair-at t) pair.Post
-pair-same-length-8 t c = c .before .before .before .before .before .before .before .before .before .before .before .before .operand .kept .1 .1 .1 .1 .1 .1 .1 .0 ∙ c .before .before .before .before .before .before .before .before .before .before .before .before .before .before .before .before .before .before .before .before .before .before .before .before .before .before .negated-image .kept .1 .1 .1 .1 .1 .1 .0
+pair-same-length-8 t c = c .before .before .before .before .before .before .before .before .before .before .before .before .before .operand .kept .1 .1 .1 .1 .1 .1 .1 .0 ∙ c .before .before .before .before .before .before .before .before .before .before .before .before .before .before .before .before .before .before .before .before .before .before .before .before .before .before .before .negated-image .kept .1 .1 .1 .1 .1 .1 .0
 
--- src/cycle.rt:281:1
 pair-same-length-9 : (t : ℕ) → pair-lts.Need-same-length-9 (read-row-reads.Asked, read-row-reads.Learnt, negated-image-below t, negated-image.Post, operand-below t, operand.Post, join-reads.Asked, join-reads.Learnt) (pair-at t) pair.Post
-pair-same-length-9 t c = c .before .before .before .before .before .before .before .before .before .before .before .before .operand .kept .1 .1 .1 .1 .1 .1 .1 .1 .0 ∙ c .before .before .before .before .before .before .before .before .before .before .before .before .before .before .before .before .before .before .before .before .before .before .before .before .before .before .negated-image .kept .1 .1 .1 .1 .1 .1 .1 .0
+pair-same-length-9 t c = c .before .before .before .before .before .before .before .before .before .before .before .before .before .operand .kept .1 .1 .1 .1 .1 .1 .1 .1 .0 ∙ c .before .before .before .before .before .before .before .before .before .before .before .before .before .before .before .before .before .before .before .before .before .before .before .before .before .before .before .negated-image .kept .1 .1 .1 .1 .1 .1 .1 .0
 
--- src/cycle.rt:281:1
 pair-returns-3 : (t : ℕ) → pair-lts.Need-returns-3 (read-row-reads.Asked, read-row-reads.Learnt, negated-image-below t, negated-image.Post, operand-below t, operand.Post, join-reads.Asked, join-reads.Learnt) (pair-at t) pair.Post
-pair-returns-3 t c = record { images = images-as (pair-read (c .before .before .before .before .before .before .before .before .before .before .before .before .before .before .before .before .before .before .before .before .before .before .before .before .before .before .before .before .before .before .before .before .before .before .before .before .before .before .pre .1) (c .before .before .before .before .before .before .before .before .before .before .before .before .before .before .before .before .before .before .before .before .before .before .before .before .before .before .before .before .before .before .before .before .before .read-row .ensures) (c .before .before .before .before .before .before .before .before .before .before .before .before .before .before .before .before .before .before .before .before .before .before .before .before .before .before .before .before .before .before .before .before .before .before .before .before .before .before .args .crossed)) (pair-done plain (steady-image-at (c .before .before .before .before .before .before .before .before .before .before .before .before .before .before .before .before .before .before .before .before .before .before .before .before .before .before .before .before .before .before .before .before .before .before .before .before .before .before .args .frame) (c .before .before .before .before .before .before .before .before .before .before .before .before .before .before .before .before .before .before .before .before .before .before .before .before .before .before .before .before .before .before .before .before .before .before .before .before .before .before .args .formulas .now) (side (not (c .before .before .before .before .before .before .before .before .before .before .before .before .before .before .before .before .before .before .before .before .before .before .before .before .before .before .before .before .before .before .before .before .before .before .before .before .before .before .args .crossed))) (c .before .before .before .before .before .before .before .before .before .before .before .before .before .before .before .before .before .before .before .before .before .before .before .before .before .before .before .before .before .before .before .before .before .read-row .result .b)) (c .before .before .before .before .before .before .before .before .before .before .before .before .before .before .before .before .before .before .before .before .before .before .before .before .before .before .negated-image .ensures .images) (ne-eqb _ 65535 (c .before .before .before .before .before .before .before .before .before .before .before .before .before .before .before .before .before .before .before .if1 .left)) (c .before .before .before .before .before .before .before .before .before .before .before .before .operand .ensures .images) (ne-eqb _ 65535 (c .before .before .before .before .before .if2 .left)) (c .before .before .join .ensures _ _ _ refl ((c .before .before .before .before .before .before .before .before .before .before .before .before .operand .ensures .images) .builds .done (ne-eqb _ 65535 (c .before .before .before .before .before .if2 .left)) .ready))); above = kept-then (kept-from (omega (arith, pair-left (c .before .before .before .before .before .before .before .before .before .before .before .before .before .before .before .before .before .before .before .before .before .before .before .before .before .before .before .before .before .before .before .before .before .before .before .before .before .before .pre .1) (c .before .before .before .before .before .before .before .before .before .before .before .before .before .before .before .before .before .before .before .before .before .before .before .before .before .before .before .before .before .before .before .before .before .read-row .ensures))) (c .before .before .before .before .before .before .before .before .before .before .before .before .before .before .before .before .before .before .before .before .before .before .before .before .before .before .negated-image .ensures .above)) (kept-from (omega (arith, pair-right (c .before .before .before .before .before .before .before .before .before .before .before .before .before .before .before .before .before .before .before .before .before .before .before .before .before .before .before .before .before .before .before .before .before .before .before .before .before .before .pre .1) (c .before .before .before .before .before .before .before .before .before .before .before .before .before .before .before .before .before .before .before .before .before .before .before .before .before .before .before .before .before .before .before .before .before .read-row .ensures))) (c .before .before .before .before .before .before .before .before .before .before .before .before .operand .ensures .above)) }
+pair-returns-3 t c = record { images = images-as (pair-read (c .before .before .before .before .before .before .before .before .before .before .before .before .before .before .before .before .before .before .before .before .before .before .before .before .before .before .before .before .before .before .before .before .before .before .before .before .before .before .before .pre .1) (c .before .before .before .before .before .before .before .before .before .before .before .before .before .before .before .before .before .before .before .before .before .before .before .before .before .before .before .before .before .before .before .before .before .before .read-row .ensures) (c .before .before .before .before .before .before .before .before .before .before .before .before .before .before .before .before .before .before .before .before .before .before .before .before .before .before .before .before .before .before .before .before .before .before .before .before .before .before .before .args .crossed)) (pair-done plain (steady-image-at (framed (c .before .before .before .before .before .before .before .before .before .before .before .before .before .before .before .before .before .before .before .before .before .before .before .before .before .before .before .before .before .before .before .before .before .before .before .before .before .before .before .args .frame .now)) (c .before .before .before .before .before .before .before .before .before .before .before .before .before .before .before .before .before .before .before .before .before .before .before .before .before .before .before .before .before .before .before .before .before .before .before .before .before .before .before .args .formulas .now) (side (not (c .before .before .before .before .before .before .before .before .before .before .before .before .before .before .before .before .before .before .before .before .before .before .before .before .before .before .before .before .before .before .before .before .before .before .before .before .before .before .before .args .crossed))) (c .before .before .before .before .before .before .before .before .before .before .before .before .before .before .before .before .before .before .before .before .before .before .before .before .before .before .before .before .before .before .before .before .before .before .read-row .result .b)) (c .before .before .before .before .before .before .before .before .before .before .before .before .before .before .before .before .before .before .before .before .before .before .before .before .before .before .before .negated-image .ensures .images) (ne-eqb _ 65535 (c .before .before .before .before .before .before .before .before .before .before .before .before .before .before .before .before .before .before .before .before .if1 .left)) (c .before .before .before .before .before .before .before .before .before .before .before .before .before .operand .ensures .images) (ne-eqb _ 65535 (c .before .before .before .before .before .before .if2 .left)) (c .before .before .join .ensures _ _ _ refl ((c .before .before .before .before .before .before .before .before .before .before .before .before .before .operand .ensures .images) .builds .done (ne-eqb _ 65535 (c .before .before .before .before .before .before .if2 .left)) .ready))); above = kept-then (kept-from (omega (arith, pair-left (c .before .before .before .before .before .before .before .before .before .before .before .before .before .before .before .before .before .before .before .before .before .before .before .before .before .before .before .before .before .before .before .before .before .before .before .before .before .before .before .pre .1) (c .before .before .before .before .before .before .before .before .before .before .before .before .before .before .before .before .before .before .before .before .before .before .before .before .before .before .before .before .before .before .before .before .before .before .read-row .ensures))) (c .before .before .before .before .before .before .before .before .before .before .before .before .before .before .before .before .before .before .before .before .before .before .before .before .before .before .before .negated-image .ensures .above)) (kept-from (omega (arith, pair-right (c .before .before .before .before .before .before .before .before .before .before .before .before .before .before .before .before .before .before .before .before .before .before .before .before .before .before .before .before .before .before .before .before .before .before .before .before .before .before .before .pre .1) (c .before .before .before .before .before .before .before .before .before .before .before .before .before .before .before .before .before .before .before .before .before .before .before .before .before .before .before .before .before .before .before .before .before .before .read-row .ensures))) (c .before .before .before .before .before .before .before .before .before .before .before .before .before .operand .ensures .above)) }
 
 pub +equivalent+image+image-anew+image-start+image-up+negated-image+negated-image-anew+negated-image-start+negated-image-up+operand+pair-spec :
     {M : Type 1} → statement M
@@ -982,6 +838,7 @@ pub +equivalent+image+image-anew+image-start+image-up+negated-image+negated-imag
     (join-reads.Asked, join-reads.Learnt, pair-below t, pair.Post)
     (equivalent-at t)
     equivalent.Post
+    (equivalent-element-copy-out-join t)
     (equivalent-join-requires t)
     (equivalent-same-length t)
     (equivalent-returns t)
@@ -990,6 +847,7 @@ pub +equivalent+image+image-anew+image-start+image-up+negated-image+negated-imag
     (equivalent-same-length-3 t)
     (equivalent-same-length-4 t)
     (equivalent-returns-2 t)
+    (equivalent-element-copy-out-join-2 t)
     (equivalent-join-requires-2 t)
     (equivalent-same-length-5 t)
     (equivalent-same-length-6 t)
@@ -1103,6 +961,7 @@ pub +equivalent+image+image-anew+image-start+image-up+negated-image+negated-imag
     (image-up-same-length-7 t)
     (image-up-same-length-8 t)
     (image-up-returns-5 t)
+    (image-up-element-copy-out-join t)
     (image-up-join-requires t)
     (image-up-same-length-9 t)
     (image-up-same-length-10 t)
@@ -1116,6 +975,7 @@ pub +equivalent+image+image-anew+image-start+image-up+negated-image+negated-imag
     )
     (negated-image-at t)
     negated-image.Post
+    (negated-image-element-copy-out-known t)
     (negated-image-add-known t)
     (negated-image-mul-known t)
     (negated-image-slice-read-known t)
@@ -1146,6 +1006,7 @@ pub +equivalent+image+image-anew+image-start+image-up+negated-image+negated-imag
     (negated-image-anew-descend-requires t)
     (negated-image-anew-negated-image-start-requires t)
     (negated-image-anew-loop-holds t)
+    (negated-image-anew-element-copy-out-k t)
     (negated-image-anew-add-k t)
     (negated-image-anew-mul-word t)
     (negated-image-anew-slice-read-word t)
@@ -1218,6 +1079,7 @@ pub +equivalent+image+image-anew+image-start+image-up+negated-image+negated-imag
     (negated-image-up-same-length-7 t)
     (negated-image-up-same-length-8 t)
     (negated-image-up-returns-5 t)
+    (negated-image-up-element-copy-out-join t)
     (negated-image-up-join-requires t)
     (negated-image-up-same-length-9 t)
     (negated-image-up-same-length-10 t)
@@ -1262,6 +1124,7 @@ pub +equivalent+image+image-anew+image-start+image-up+negated-image+negated-imag
     (pair-same-length-5 t)
     (pair-same-length-6 t)
     (pair-returns-2 t)
+    (pair-element-copy-out-join t)
     (pair-join-requires t)
     (pair-same-length-7 t)
     (pair-same-length-8 t)

@@ -9,44 +9,38 @@ use mathlib.Core.Path.{refl}
 use Rattle.normal_form.specs.Builder.{plain, negated}
 use Rattle.formula_builder.proofs.Steps.{builds-as}
 use Rattle.images.proofs.Rising.{leaf-twin, leaf-copied, leaf-constant}
+use Rattle.formula_builder.specs.Held.{framed}
 
--- src/leaves.rt:24:13
 twin-row-requires : tie.Need-twin-row-requires
 twin-row-requires c κs = search needs
 
--- src/leaves.rt:24:13
 same-length : tie.Need-same-length
 same-length c = search needs
 
--- src/leaves.rt:24:13
 same-length-2 : tie.Need-same-length-2
 same-length-2 c = search needs
 
--- src/leaves.rt:24:13
 returns : tie.Need-returns
-returns c = rw (c .before .before .before .before .before .before .before .before .before .if2 .taken) (builds-as (leaf-twin (c .before .before .before .before .before .before .before .before .before .before .before .before .before .before .args .frame .variables) (c .before .before .before .before .before .before .before .before .before .before .before .before .before .before .args .w) (c .before .before .before .before .before .before .before .before .before .before .if1 .taken)) (c .before .before .before .before .twin-row .ensures))
+returns c = rw (c .before .before .before .before .before .before .before .before .before .if2 .taken) (builds-as (leaf-twin (framed (c .before .before .before .before .before .before .before .before .before .before .before .before .before .before .args .frame .now) .variables) (c .before .before .before .before .before .before .before .before .before .before .before .before .before .before .args .w) (c .before .before .before .before .before .before .before .before .before .before .if1 .taken)) (c .before .before .before .before .twin-row .ensures))
 
--- src/leaves.rt:26:9
+element-copy-out-row : tie.Need-element-copy-out-row
+element-copy-out-row c = search needs
+
 row-requires : tie.Need-row-requires
 row-requires c κs = search needs
 
--- src/leaves.rt:26:9
 same-length-3 : tie.Need-same-length-3
 same-length-3 c = search needs
 
--- src/leaves.rt:26:9
 returns-2 : tie.Need-returns-2
-returns-2 c = rw (c .before .before .before .before .before .if2 .left) (builds-as (leaf-copied (c .before .before .before .before .before .before .before .before .before .before .args .frame .variables) (c .before .before .before .before .before .before .before .before .before .before .args .w) (c .before .before .before .before .before .before .if1 .taken) (c .before .before .before .before .before .before .before .before .before .before .pre .unused (c .before .before .before .before .before .before .if1 .taken))) (c .before .before .row .ensures (c .before .before .before .before .before .before .before .before .before .before .args .frame) (c .before .before .before .before .before .before .before .before .before .before .args .twins .now) (c .before .before .before .before .before .before .before .before .before .before .args .originals .now) refl (c .before .before .before .before .before .before .before .before .before .before .pre .ready)))
+returns-2 c = rw (c .before .before .before .before .before .before .if2 .left) (builds-as (leaf-copied (framed (c .before .before .before .before .before .before .before .before .before .before .before .args .frame .now) .variables) (c .before .before .before .before .before .before .before .before .before .before .before .args .w) (c .before .before .before .before .before .before .before .if1 .taken) (c .before .before .before .before .before .before .before .before .before .before .before .pre .unused (c .before .before .before .before .before .before .before .if1 .taken))) (c .before .before .row .ensures (framed (c .before .before .before .before .before .before .before .before .before .before .before .args .frame .now)) (c .before .before .before .before .before .before .before .before .before .before .before .args .twins .now) (c .before .before .before .before .before .before .before .before .before .before .before .args .originals .now) refl (c .before .before .before .before .before .before .before .before .before .before .before .pre .ready)))
 
--- src/leaves.rt:29:16
 sub-result : tie.Need-sub-result
 sub-result c = search needs
 
--- src/leaves.rt:29:9
 returns-3 : tie.Need-returns-3
 returns-3 c = rw (c .before .if3 .taken) (leaf-constant negated (c .before .before .before .before .before .before .args .w) (c .before .before .before .before .before .before .pre) (c .before .before .if1 .left))
 
--- src/leaves.rt:10:1
 returns-4 : tie.Need-returns-4
 returns-4 c = rw (c .if3 .left) (leaf-constant plain (c .before .before .before .before .before .args .w) (c .before .before .before .before .before .pre) (c .before .if1 .left))
 
@@ -58,6 +52,7 @@ leaf-spec =
     same-length
     same-length-2
     returns
+    element-copy-out-row
     row-requires
     same-length-3
     returns-2

@@ -4,11 +4,9 @@ use Rattle.images.proofs.memo.is_row.Reads as reads
 use Rattle.images.proofs.memo.is_row.Lts as lts
 use borrow.Author.Tests.{eq-eqb, ne-eqb}
 
--- src/memo.rt:15:9
 returns : tie.Need-returns
 returns c = rw (eq-eqb (c .before .args .w) 0 (c .if1 .taken))
 
--- src/memo.rt:11:1
 returns-2 : tie.Need-returns-2
 returns-2 c = rw (ne-eqb (c .before .args .w) 0 (c .if1 .left))
 

@@ -6,27 +6,21 @@ use Rattle.images.proofs.memo.note.Lts as lts
 use native.Mathlib.Omega.{arith}
 use borrow.Author.Tests.{eq-eqb, ne-eqb}
 
--- src/memo.rt:33:9
 returns : tie.Need-returns
 returns c = rw (eq-eqb (c .before .args .row) 65535 (c .if1 .taken))
 
--- src/memo.rt:35:18
 add-scratch : tie.Need-add-scratch
 add-scratch c = omega (arith, c .before .pre .small (ne-eqb (c .before .args .row) 65535 (c .if1 .left)))
 
--- src/memo.rt:35:5
 mul-scratch : tie.Need-mul-scratch
 mul-scratch c = search needs
 
--- src/memo.rt:35:5
 slice-write-scratch : tie.Need-slice-write-scratch
 slice-write-scratch c = search needs
 
--- src/memo.rt:28:1
 same-length : tie.Need-same-length
 same-length c = search needs
 
--- src/memo.rt:28:1
 returns-2 : tie.Need-returns-2
 returns-2 c = rw (ne-eqb (c .before .args .row) 65535 (c .if1 .left))
 

@@ -9,47 +9,37 @@ use Rattle.images.proofs.memo.word_of.Reads as word-of-reads
 use Rattle.images.proofs.spine.keeps_side.Reads as keeps-side-reads
 use mathlib.Core.Path.{_≡_, refl, sym, _∙_}
 use native.Mathlib.Omega.{arith}
-use Rattle.formula_builder.specs.Held.{side}
+use Rattle.formula_builder.specs.Held.{side, framed}
 use Rattle.images.proofs.Memos.{place-within}
 use Rattle.images.proofs.Climbing.{over-read, lower-none, lower-some}
 
--- src/spine.rt:29:9
 read-row-requires : tie.Need-read-row-requires
 read-row-requires c κs = search needs
 
--- src/spine.rt:30:8
 keeps-side-requires : tie.Need-keeps-side-requires
 keeps-side-requires c κs = search needs
 
--- src/spine.rt:31:17
 cast-a : tie.Need-cast-a
 cast-a c = search needs
 
--- src/spine.rt:32:13
 word-of-requires : tie.Need-word-of-requires
 word-of-requires c κs = (omega (arith, (over-read (side (c .before .before .before .before .before .before .args .not)) (c .before .before .before .before .before .before .pre) (c .before .before .before .read-row .ensures) (sym (c .before .before .keeps-side .ensures) ∙ c .before .if1 .taken)) .lower, c .before .before .before .before .before .before .pre .formula), c .before .before .before .before .before .before .pre .source .limit)
 
--- src/spine.rt:33:19
 mul-is-row : tie.Need-mul-is-row
-mul-is-row c = omega (arith, c .word-of .ensures, place-within (c .before .before .before .before .before .before .before .args .frame) (side (c .before .before .before .before .before .before .before .args .not)) (c .before .before .before .before .read-row .result .a) (omega (arith, (over-read (side (c .before .before .before .before .before .before .before .args .not)) (c .before .before .before .before .before .before .before .pre) (c .before .before .before .before .read-row .ensures) (sym (c .before .before .before .keeps-side .ensures) ∙ c .before .before .if1 .taken)) .lower, c .before .before .before .before .before .before .before .pre .formula)), c .before .before .before .before .before .before .before .pre .source .limit)
+mul-is-row c = omega (arith, c .word-of .ensures, place-within (framed (c .before .before .before .before .before .before .before .args .frame .now)) (side (c .before .before .before .before .before .before .before .args .not)) (c .before .before .before .before .read-row .result .a) (omega (arith, (over-read (side (c .before .before .before .before .before .before .before .args .not)) (c .before .before .before .before .before .before .before .pre) (c .before .before .before .before .read-row .ensures) (sym (c .before .before .before .keeps-side .ensures) ∙ c .before .before .if1 .taken)) .lower, c .before .before .before .before .before .before .before .pre .formula)), c .before .before .before .before .before .before .before .pre .source .limit)
 
--- src/spine.rt:33:19
 shared-slice-read-is-row : tie.Need-shared-slice-read-is-row
-shared-slice-read-is-row c = omega (arith, c .before .word-of .ensures, place-within (c .before .before .before .before .before .before .before .before .args .frame) (side (c .before .before .before .before .before .before .before .before .args .not)) (c .before .before .before .before .before .read-row .result .a) (omega (arith, (over-read (side (c .before .before .before .before .before .before .before .before .args .not)) (c .before .before .before .before .before .before .before .before .pre) (c .before .before .before .before .before .read-row .ensures) (sym (c .before .before .before .before .keeps-side .ensures) ∙ c .before .before .before .if1 .taken)) .lower, c .before .before .before .before .before .before .before .before .pre .formula)), c .before .before .before .before .before .before .before .before .pre .source .memo)
+shared-slice-read-is-row c = omega (arith, c .before .word-of .ensures, place-within (framed (c .before .before .before .before .before .before .before .before .args .frame .now)) (side (c .before .before .before .before .before .before .before .before .args .not)) (c .before .before .before .before .before .read-row .result .a) (omega (arith, (over-read (side (c .before .before .before .before .before .before .before .before .args .not)) (c .before .before .before .before .before .before .before .before .pre) (c .before .before .before .before .before .read-row .ensures) (sym (c .before .before .before .before .keeps-side .ensures) ∙ c .before .before .before .if1 .taken)) .lower, c .before .before .before .before .before .before .before .before .pre .formula)), c .before .before .before .before .before .before .before .before .pre .source .memo)
 
--- src/spine.rt:33:12
 is-row-requires : tie.Need-is-row-requires
 is-row-requires c κs = search needs
 
--- src/spine.rt:34:13
 returns : tie.Need-returns
 returns c = lower-none (c .before .before .before .before .before .before .before .before .before .before .args .formulas .now) (side (c .before .before .before .before .before .before .before .before .before .before .args .not)) (c .before .before .before .before .before .before .before .before .before .before .args .j)
 
--- src/spine.rt:36:9
 returns-2 : tie.Need-returns-2
 returns-2 c = lower-some (over-read (side (c .before .before .before .before .before .before .before .before .before .before .args .not)) (c .before .before .before .before .before .before .before .before .before .before .pre) (c .before .before .before .before .before .before .before .read-row .ensures) (sym (c .before .before .before .before .before .before .keeps-side .ensures) ∙ c .before .before .before .before .before .if1 .taken))
 
--- src/spine.rt:25:1
 returns-3 : tie.Need-returns-3
 returns-3 c = lower-none (c .before .before .before .before .before .args .formulas .now) (side (c .before .before .before .before .before .args .not)) (c .before .before .before .before .before .args .j)
 

@@ -6,15 +6,12 @@ use borrow.Author.Tests.{le-ltb}
 use Rattle.formula_builder.specs.Held.{side}
 use Rattle.images.proofs.Rows.{keeps-low}
 
--- src/spine.rt:16:9
 returns : tie.Need-returns
 returns c = keeps-low (side (c .before .args .not)) (c .before .args .kind) (c .if1 .taken)
 
--- src/spine.rt:19:9
 returns-2 : tie.Need-returns-2
 returns-2 c = rw (c .if2 .taken, le-ltb (c .before .before .args .kind) 4 (c .before .if1 .left))
 
--- src/spine.rt:12:1
 returns-3 : tie.Need-returns-3
 returns-3 c = rw (c .if2 .left, le-ltb (c .before .before .args .kind) 4 (c .before .if1 .left))
 

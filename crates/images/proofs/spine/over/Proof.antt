@@ -5,19 +5,15 @@ use Rattle.images.proofs.spine.over.Reads as reads
 use Rattle.images.proofs.spine.over.Lts as lts
 use borrow.Author.Tests.{eq-eqb, ne-eqb}
 
--- src/spine.rt:63:16
 add-result : tie.Need-add-result
 add-result c = search needs
 
--- src/spine.rt:63:9
 returns : tie.Need-returns
 returns c = rw (eq-eqb (c .before .args .j) (c .before .args .i) (c .if1 .taken))
 
--- src/spine.rt:65:5
 sub-result : tie.Need-sub-result
 sub-result c = c .before .pre .1 (c .if1 .left)
 
--- src/spine.rt:58:1
 returns-2 : tie.Need-returns-2
 returns-2 c = rw (ne-eqb (c .before .args .j) (c .before .args .i) (c .if1 .left))
 

@@ -1,3 +1,4 @@
+use borrow.Author.Needs.{needs}
 use Rattle.operators.proofs.walk.build_changes.Statement.{statement}
 use Rattle.operators.proofs.walk.build_changes.Tie as tie
 use Rattle.operators.proofs.walk.build_changes.Reads as reads
@@ -11,109 +12,89 @@ use mathlib.Core.Path.{_≡_, refl, _∙_}
 use native.Mathlib.Omega.{arith}
 use lib.ListN.{length}
 use Rattle.formula_builder.specs.Held.{store, held}
-use Rattle.operators.proofs.Walks.{looks-on, looks-at, Walking, walking-begins, walking-asks, walking-keeps, walking-stops, walking-more, walking-ends}
+use Rattle.operators.proofs.Walks.{change-asks, change-made, looks-on, looks-at, Walking, walking-begins, walking-asks, walking-keeps, walking-stops, walking-more, walking-ends}
 use Rattle.conditions.specs.Conditions.{Noted}
 use Rattle.changes.proofs.Standing.{leaves-same, leaves-full}
 
 abbrev Inv-loop : tie.InvT-loop
-Inv-loop formulas effects notes₀ e frame table₀ originals₀ scratch₀ from records₀ n rows₀ twins₀ k₀ v₀ notes table originals scratch records rows twins k v =
+Inv-loop formulas effects notes₀ e frame table₀ originals₀ scratch₀ from records₀ n words rows₀ twins₀ k₀ v₀ notes table originals scratch records rows twins k v =
     (length notes ≡ length notes₀) × (length table ≡ length table₀) × (length originals ≡ length originals₀) × (length scratch ≡ length scratch₀) × (length records ≡ length records₀) × Walking frame formulas effects e (record { rows = rows₀; twins = twins₀ }) (store table₀ originals₀) (store table originals) scratch from records₀ records (record { rows = rows; twins = twins }) k v × Noted frame formulas effects notes (held (record { rows = rows; twins = twins }) (store table originals))
 
 abbrev μ-loop : tie.MeasureT-loop
-μ-loop formulas effects notes₀ e frame table₀ originals₀ scratch₀ from records₀ n rows₀ twins₀ k₀ v₀ notes table originals scratch records rows twins k v =
+μ-loop formulas effects notes₀ e frame table₀ originals₀ scratch₀ from records₀ n words rows₀ twins₀ k₀ v₀ notes table originals scratch records rows twins k v =
     n - v
 
--- src/walk.rt:73:9
+words-of-requires : tie.Need-words-of-requires Inv-loop μ-loop
+words-of-requires c κs = search needs
+
 next-touched-requires : tie.Need-next-touched-requires Inv-loop μ-loop
-next-touched-requires c κs = looks-on (c .before .before .before .before .before .before .before .before .pre .0) (c .before .before .before .before .before .before .before .before .pre .0 .noted) (omega arith)
+next-touched-requires c κs = looks-on (c .before .before .before .before .before .before .before .before .before .pre .0) (c .before .before .before .before .before .before .before .before .before .pre .0 .noted) (omega arith)
 
--- src/walk.rt:74:5
 loop-holds : tie.Need-loop-holds Inv-loop μ-loop
-loop-holds c = (refl, refl, refl, refl, refl, walking-begins (c .before .before .before .before .before .before .before .before .before .pre .0) (c .next-touched .ensures), c .before .before .before .before .before .before .before .before .before .pre .0 .noted)
+loop-holds c = (refl, refl, refl, refl, refl, walking-begins (c .before .before .before .before .before .before .before .before .before .before .pre .0) (c .next-touched .ensures), c .before .before .before .before .before .before .before .before .before .before .pre .0 .noted)
 
--- src/walk.rt:75:24
 cast-variable : tie.Need-cast-variable Inv-loop μ-loop
-cast-variable c = omega (arith, c .loop-test .taken, c .before .before .before .before .before .before .before .before .before .before .before .pre .0 .stands .ready .variables)
+cast-variable c = omega (arith, c .loop-test .taken, c .before .before .before .before .before .before .before .before .before .before .before .before .pre .0 .stands .ready .variables)
 
--- src/walk.rt:76:21
 lacks-requires : tie.Need-lacks-requires Inv-loop μ-loop
-lacks-requires c κs = (looks-at (looks-on {from = 0} (c .before .before .before .before .before .before .before .before .before .before .before .before .pre .0) (c .before .before .loop .inv .6) (omega arith)) (c .before .loop-test .taken), c .before .before .loop .inv .6 .sets .words)
+lacks-requires c κs = (looks-at (looks-on {from = 0} (c .before .before .before .before .before .before .before .before .before .before .before .before .before .pre .0) (c .before .before .loop .inv .6) (omega arith)) (c .before .loop-test .taken), c .before .before .loop .inv .6 .sets .words)
 
--- src/walk.rt:77:23
 lacks-requires-2 : tie.Need-lacks-requires-2 Inv-loop μ-loop
-lacks-requires-2 c κs = (looks-at (looks-on {from = 0} (c .before .before .before .before .before .before .before .before .before .before .before .before .before .before .pre .0) (c .before .before .before .before .loop .inv .6) (omega arith)) (c .before .before .before .loop-test .taken), c .before .before .before .before .loop .inv .6 .sets .words)
+lacks-requires-2 c κs = (looks-at (looks-on {from = 0} (c .before .before .before .before .before .before .before .before .before .before .before .before .before .before .before .pre .0) (c .before .before .before .before .loop .inv .6) (omega arith)) (c .before .before .before .loop-test .taken), c .before .before .before .before .loop .inv .6 .sets .words)
 
--- src/walk.rt:78:13
 change-of-requires : tie.Need-change-of-requires Inv-loop μ-loop
-change-of-requires c κs = walking-asks (c .before .before .before .before .before .before .before .before .before .before .before .before .before .before .before .before .before .before .before .before .before .pre .0) (c .before .before .before .before .before .before .before .before .before .before .before .loop .inv .5) (c .before .before .before .before .before .before .before .before .before .before .before .loop .inv .6) (c .before .before .before .before .before .before .before .before .before .before .before .loop .inv .3) (c .before .before .before .before .before .before .before .before .before .before .loop-test .taken) (c .before .before .before .before .before .before .before .before .lacks .ensures) (c .before .before .before .before .before .before .lacks2 .ensures)
+change-of-requires c κs = change-asks (c .before .before .before .before .before .before .before .before .before .before .before .before .before .before .before .words-of .ensures) _ _ (walking-asks (c .before .before .before .before .before .before .before .before .before .before .before .before .before .before .before .before .before .before .before .before .before .before .before .pre .0) (c .before .before .before .before .before .before .before .before .before .before .before .before .loop .inv .5) (c .before .before .before .before .before .before .before .before .before .before .before .before .loop .inv .6) (c .before .before .before .before .before .before .before .before .before .before .before .before .loop .inv .3) (c .before .before .before .before .before .before .before .before .before .before .before .loop-test .taken) (c .before .before .before .before .before .before .before .before .before .lacks .ensures) (c .before .before .before .before .before .before .before .lacks2 .ensures))
 
--- src/walk.rt:94:13
 same-length : tie.Need-same-length Inv-loop μ-loop
-same-length c = c .before .before .before .before .before .before .before .before .before .change-of .kept .1 .1 .0 ∙ c .before .before .before .before .before .before .before .before .before .before .before .before .before .before .before .before .before .before .before .before .before .loop .inv .0
+same-length c = c .before .before .before .before .before .before .before .before .before .change-of .kept .1 .1 .0 ∙ c .before .before .before .before .before .before .before .before .before .before .before .before .before .before .before .before .before .before .before .before .before .before .loop .inv .0
 
--- src/walk.rt:94:13
 same-length-2 : tie.Need-same-length-2 Inv-loop μ-loop
-same-length-2 c = c .before .before .before .before .before .before .before .before .before .change-of .kept .1 .1 .1 .1 .1 .1 .1 .1 .1 .1 .0 ∙ c .before .before .before .before .before .before .before .before .before .before .before .before .before .before .before .before .before .before .before .before .before .loop .inv .1
+same-length-2 c = c .before .before .before .before .before .before .before .before .before .change-of .kept .1 .1 .1 .1 .1 .1 .1 .1 .1 .1 .0 ∙ c .before .before .before .before .before .before .before .before .before .before .before .before .before .before .before .before .before .before .before .before .before .before .loop .inv .1
 
--- src/walk.rt:94:13
 same-length-3 : tie.Need-same-length-3 Inv-loop μ-loop
-same-length-3 c = c .before .before .before .before .before .before .before .before .before .change-of .kept .1 .1 .1 .1 .1 .1 .1 .1 .1 .1 .1 .0 ∙ c .before .before .before .before .before .before .before .before .before .before .before .before .before .before .before .before .before .before .before .before .before .loop .inv .2
+same-length-3 c = c .before .before .before .before .before .before .before .before .before .change-of .kept .1 .1 .1 .1 .1 .1 .1 .1 .1 .1 .1 .0 ∙ c .before .before .before .before .before .before .before .before .before .before .before .before .before .before .before .before .before .before .before .before .before .before .loop .inv .2
 
--- src/walk.rt:94:13
 same-length-4 : tie.Need-same-length-4 Inv-loop μ-loop
-same-length-4 c = c .before .before .before .before .before .before .before .before .before .change-of .kept .1 .1 .1 .1 .1 .1 .1 .1 .1 .1 .1 .1 .0 ∙ c .before .before .before .before .before .before .before .before .before .before .before .before .before .before .before .before .before .before .before .before .before .loop .inv .3
+same-length-4 c = c .before .before .before .before .before .before .before .before .before .change-of .kept .1 .1 .1 .1 .1 .1 .1 .1 .1 .1 .1 .1 .0 ∙ c .before .before .before .before .before .before .before .before .before .before .before .before .before .before .before .before .before .before .before .before .before .before .loop .inv .3
 
--- src/walk.rt:94:13
 same-length-5 : tie.Need-same-length-5 Inv-loop μ-loop
-same-length-5 c = c .before .before .before .before .before .before .before .before .before .before .before .before .before .before .before .before .before .before .before .before .before .loop .inv .4
+same-length-5 c = c .before .before .before .before .before .before .before .before .before .before .before .before .before .before .before .before .before .before .before .before .before .before .loop .inv .4
 
--- src/walk.rt:94:13
 returns : tie.Need-returns Inv-loop μ-loop
-returns c = (walking-stops (c .before .before .before .before .before .before .before .before .before .before .before .before .before .before .before .before .before .before .before .before .before .before .before .before .before .before .before .before .before .before .before .pre .0) (c .before .before .before .before .before .before .before .before .before .before .before .before .before .before .before .before .before .before .before .before .before .loop .inv .5) (c .before .before .before .before .before .before .before .before .before .change-of .result) (c .before .before .before .before .before .before .before .before .before .change-of .ensures .0) (c .before .before .before .before .before .before .before .before .before .before .before .before .before .before .before .before .before .before .before .before .loop-test .taken) (c .if1 .taken) refl, leaves-full)
+returns c = (walking-stops (c .before .before .before .before .before .before .before .before .before .before .before .before .before .before .before .before .before .before .before .before .before .before .before .before .before .before .before .before .before .before .before .before .before .pre .0) (c .before .before .before .before .before .before .before .before .before .before .before .before .before .before .before .before .before .before .before .before .before .before .loop .inv .5) (c .before .before .before .before .before .before .before .before .before .change-of .result) ((change-made (c .before .before .before .before .before .before .before .before .before .before .before .before .before .before .before .before .before .before .before .before .before .before .before .before .before .words-of .ensures) _ _ (c .before .before .before .before .before .before .before .before .before .change-of .ensures)) .0) (c .before .before .before .before .before .before .before .before .before .before .before .before .before .before .before .before .before .before .before .before .before .loop-test .taken) (c .if1 .taken) refl, leaves-full)
 
--- src/walk.rt:102:9
 keep-change-requires : tie.Need-keep-change-requires Inv-loop μ-loop
-keep-change-requires c κs = walking-keeps (c .before .before .before .before .before .before .before .before .before .before .before .before .before .before .before .before .before .before .before .before .before .before .before .before .before .before .before .before .before .before .before .before .pre .0) (c .before .before .before .before .before .before .before .before .before .before .before .before .before .before .before .before .before .before .before .before .before .before .loop .inv .5) (c .before .before .before .before .before .before .before .before .before .before .before .before .before .before .before .before .before .before .before .before .before .before .before .before .before .before .before .before .before .before .before .before .pre .1) (c .before .before .before .before .before .before .before .before .before .before .before .before .before .before .before .before .before .before .before .before .before .before .loop .inv .4)
+keep-change-requires c κs = walking-keeps (c .before .before .before .before .before .before .before .before .before .before .before .before .before .before .before .before .before .before .before .before .before .before .before .before .before .before .before .before .before .before .before .before .before .before .pre .0) (c .before .before .before .before .before .before .before .before .before .before .before .before .before .before .before .before .before .before .before .before .before .before .before .loop .inv .5) (c .before .before .before .before .before .before .before .before .before .before .before .before .before .before .before .before .before .before .before .before .before .before .before .before .before .before .before .before .before .before .before .before .before .before .pre .1) (c .before .before .before .before .before .before .before .before .before .before .before .before .before .before .before .before .before .before .before .before .before .before .before .loop .inv .4)
 
--- src/walk.rt:111:43
 add-next-touched : tie.Need-add-next-touched Inv-loop μ-loop
-add-next-touched c = omega (arith, c .before .before .before .before .before .before .before .before .before .before .before .before .before .before .before .before .before .before .before .before .before .before .before .before .before .loop-test .taken, c .before .before .before .before .before .before .before .before .before .before .before .before .before .before .before .before .before .before .before .before .before .before .before .before .before .before .before .before .before .before .before .before .before .before .before .before .pre .0 .stands .ready .variables)
+add-next-touched c = omega (arith, c .before .before .before .before .before .before .before .before .before .before .before .before .before .before .before .before .before .before .before .before .before .before .before .before .before .before .loop-test .taken, c .before .before .before .before .before .before .before .before .before .before .before .before .before .before .before .before .before .before .before .before .before .before .before .before .before .before .before .before .before .before .before .before .before .before .before .before .before .before .pre .0 .stands .ready .variables)
 
--- src/walk.rt:111:9
 next-touched-requires-2 : tie.Need-next-touched-requires-2 Inv-loop μ-loop
-next-touched-requires-2 c κs = looks-on (c .before .before .before .before .before .before .before .before .before .before .before .before .before .before .before .before .before .before .before .before .before .before .before .before .before .before .before .before .before .before .before .before .before .before .before .before .pre .0) (c .before .before .before .before .before .before .before .before .before .before .before .before .before .before .change-of .ensures .1 .noted (c .before .before .before .before .before .if1 .left)) (omega (arith, c .before .before .before .before .before .before .before .before .before .before .before .before .before .before .before .before .before .before .before .before .before .before .before .before .before .loop-test .taken))
+next-touched-requires-2 c κs = looks-on (c .before .before .before .before .before .before .before .before .before .before .before .before .before .before .before .before .before .before .before .before .before .before .before .before .before .before .before .before .before .before .before .before .before .before .before .before .before .before .pre .0) ((change-made (c .before .before .before .before .before .before .before .before .before .before .before .before .before .before .before .before .before .before .before .before .before .before .before .before .before .before .before .before .before .before .words-of .ensures) _ _ (c .before .before .before .before .before .before .before .before .before .before .before .before .before .before .change-of .ensures)) .1 .noted (c .before .before .before .before .before .if1 .left)) (omega (arith, c .before .before .before .before .before .before .before .before .before .before .before .before .before .before .before .before .before .before .before .before .before .before .before .before .before .before .loop-test .taken))
 
--- src/walk.rt:74:5
 loop-less : tie.Need-loop-less Inv-loop μ-loop
-loop-less c = omega (arith, c .before .before .before .before .before .before .before .before .before .before .before .before .before .before .before .before .before .before .before .before .before .before .before .before .before .before .loop-test .taken, c .next-touched2 .ensures .above)
+loop-less c = omega (arith, c .before .before .before .before .before .before .before .before .before .before .before .before .before .before .before .before .before .before .before .before .before .before .before .before .before .before .before .loop-test .taken, c .next-touched2 .ensures .above)
 
--- src/walk.rt:74:5
 loop-again : tie.Need-loop-again Inv-loop μ-loop
-loop-again c = (c .before .before .before .before .before .before .before .before .before .before .before .before .before .before .before .change-of .kept .1 .1 .0 ∙ c .before .before .before .before .before .before .before .before .before .before .before .before .before .before .before .before .before .before .before .before .before .before .before .before .before .before .before .loop .inv .0, c .before .before .before .before .before .before .before .before .before .before .before .before .before .before .before .change-of .kept .1 .1 .1 .1 .1 .1 .1 .1 .1 .1 .0 ∙ c .before .before .before .before .before .before .before .before .before .before .before .before .before .before .before .before .before .before .before .before .before .before .before .before .before .before .before .loop .inv .1, c .before .before .before .before .before .before .before .before .before .before .before .before .before .before .before .change-of .kept .1 .1 .1 .1 .1 .1 .1 .1 .1 .1 .1 .0 ∙ c .before .before .before .before .before .before .before .before .before .before .before .before .before .before .before .before .before .before .before .before .before .before .before .before .before .before .before .loop .inv .2, c .before .before .before .before .before .before .before .before .before .before .before .before .before .before .before .change-of .kept .1 .1 .1 .1 .1 .1 .1 .1 .1 .1 .1 .1 .0 ∙ c .before .before .before .before .before .before .before .before .before .before .before .before .before .before .before .before .before .before .before .before .before .before .before .before .before .before .before .loop .inv .3, c .before .before .before .before .keep-change .kept .0 ∙ c .before .before .before .before .before .before .before .before .before .before .before .before .before .before .before .before .before .before .before .before .before .before .before .before .before .before .before .loop .inv .4, walking-more (c .before .before .before .before .before .before .before .before .before .before .before .before .before .before .before .before .before .before .before .before .before .before .before .before .before .before .before .before .before .before .before .before .before .before .before .before .before .pre .0) (c .before .before .before .before .before .before .before .before .before .before .before .before .before .before .before .before .before .before .before .before .before .before .before .before .before .before .before .loop .inv .5) (c .before .before .before .before .before .before .before .before .before .before .before .before .before .before .before .change-of .result) (c .before .before .before .before .before .before .before .before .before .before .before .before .before .before .before .change-of .ensures .0) (c .before .before .before .before .before .before .if1 .left) (c .before .before .before .before .keep-change .ensures) (c .before .before .before .before .before .before .before .before .before .before .before .before .before .before .before .change-of .ensures .1 .noted (c .before .before .before .before .before .before .if1 .left)) (c .next-touched2 .ensures), c .before .before .before .before .before .before .before .before .before .before .before .before .before .before .before .change-of .ensures .1 .noted (c .before .before .before .before .before .before .if1 .left))
+loop-again c = (c .before .before .before .before .before .before .before .before .before .before .before .before .before .before .before .change-of .kept .1 .1 .0 ∙ c .before .before .before .before .before .before .before .before .before .before .before .before .before .before .before .before .before .before .before .before .before .before .before .before .before .before .before .before .loop .inv .0, c .before .before .before .before .before .before .before .before .before .before .before .before .before .before .before .change-of .kept .1 .1 .1 .1 .1 .1 .1 .1 .1 .1 .0 ∙ c .before .before .before .before .before .before .before .before .before .before .before .before .before .before .before .before .before .before .before .before .before .before .before .before .before .before .before .before .loop .inv .1, c .before .before .before .before .before .before .before .before .before .before .before .before .before .before .before .change-of .kept .1 .1 .1 .1 .1 .1 .1 .1 .1 .1 .1 .0 ∙ c .before .before .before .before .before .before .before .before .before .before .before .before .before .before .before .before .before .before .before .before .before .before .before .before .before .before .before .before .loop .inv .2, c .before .before .before .before .before .before .before .before .before .before .before .before .before .before .before .change-of .kept .1 .1 .1 .1 .1 .1 .1 .1 .1 .1 .1 .1 .0 ∙ c .before .before .before .before .before .before .before .before .before .before .before .before .before .before .before .before .before .before .before .before .before .before .before .before .before .before .before .before .loop .inv .3, c .before .before .before .before .keep-change .kept .0 ∙ c .before .before .before .before .before .before .before .before .before .before .before .before .before .before .before .before .before .before .before .before .before .before .before .before .before .before .before .before .loop .inv .4, walking-more (c .before .before .before .before .before .before .before .before .before .before .before .before .before .before .before .before .before .before .before .before .before .before .before .before .before .before .before .before .before .before .before .before .before .before .before .before .before .before .before .pre .0) (c .before .before .before .before .before .before .before .before .before .before .before .before .before .before .before .before .before .before .before .before .before .before .before .before .before .before .before .before .loop .inv .5) (c .before .before .before .before .before .before .before .before .before .before .before .before .before .before .before .change-of .result) ((change-made (c .before .before .before .before .before .before .before .before .before .before .before .before .before .before .before .before .before .before .before .before .before .before .before .before .before .before .before .before .before .before .before .words-of .ensures) _ _ (c .before .before .before .before .before .before .before .before .before .before .before .before .before .before .before .change-of .ensures)) .0) (c .before .before .before .before .before .before .if1 .left) (c .before .before .before .before .keep-change .ensures) ((change-made (c .before .before .before .before .before .before .before .before .before .before .before .before .before .before .before .before .before .before .before .before .before .before .before .before .before .before .before .before .before .before .before .words-of .ensures) _ _ (c .before .before .before .before .before .before .before .before .before .before .before .before .before .before .before .change-of .ensures)) .1 .noted (c .before .before .before .before .before .before .if1 .left)) (c .next-touched2 .ensures), (change-made (c .before .before .before .before .before .before .before .before .before .before .before .before .before .before .before .before .before .before .before .before .before .before .before .before .before .before .before .before .before .before .before .words-of .ensures) _ _ (c .before .before .before .before .before .before .before .before .before .before .before .before .before .before .before .change-of .ensures)) .1 .noted (c .before .before .before .before .before .before .if1 .left))
 
--- src/walk.rt:53:1
 same-length-6 : tie.Need-same-length-6 Inv-loop μ-loop
 same-length-6 c = c .before .loop .inv .0
 
--- src/walk.rt:53:1
 same-length-7 : tie.Need-same-length-7 Inv-loop μ-loop
 same-length-7 c = c .before .loop .inv .1
 
--- src/walk.rt:53:1
 same-length-8 : tie.Need-same-length-8 Inv-loop μ-loop
 same-length-8 c = c .before .loop .inv .2
 
--- src/walk.rt:53:1
 same-length-9 : tie.Need-same-length-9 Inv-loop μ-loop
 same-length-9 c = c .before .loop .inv .3
 
--- src/walk.rt:53:1
 same-length-10 : tie.Need-same-length-10 Inv-loop μ-loop
 same-length-10 c = c .before .loop .inv .4
 
--- src/walk.rt:53:1
 returns-2 : tie.Need-returns-2 Inv-loop μ-loop
-returns-2 c = (walking-ends (c .before .before .before .before .before .before .before .before .before .before .before .pre .0) (c .before .loop .inv .5) (omega (arith, c .loop-test .left)) refl, leaves-same (c .before .loop .inv .6))
+returns-2 c = (walking-ends (c .before .before .before .before .before .before .before .before .before .before .before .before .pre .0) (c .before .loop .inv .5) (omega (arith, c .loop-test .left)) refl, leaves-same (c .before .loop .inv .6))
 
 pub build-changes-spec : {M : Type 1} → statement M
 build-changes-spec =
@@ -121,6 +102,7 @@ build-changes-spec =
     (tie.spec
     Inv-loop
     μ-loop
+    words-of-requires
     next-touched-requires
     loop-holds
     cast-variable

@@ -14,31 +14,24 @@ Inv-loop notes frame e from n v₀ v = Searching frame notes e from v
 abbrev μ-loop : tie.MeasureT-loop
 μ-loop notes frame e from n v₀ v = n - v
 
--- src/walk.rt:42:5
 loop-holds : tie.Need-loop-holds Inv-loop μ-loop
 loop-holds c = searching-none (c .before .args .frame) (c .before .args .notes .now) (c .before .args .e) (c .before .args .from)
 
--- src/walk.rt:43:13
 passed-at-requires : tie.Need-passed-at-requires Inv-loop μ-loop
 passed-at-requires c κs = (looks-at (c .before .before .before .pre) (c .loop-test .taken), c .before .before .before .pre .words)
 
--- src/walk.rt:45:13
 returns : tie.Need-returns Inv-loop μ-loop
 returns c = searched (c .before .before .before .loop .inv) (c .before .before .loop-test .taken) (c .before .passed-at .ensures) (c .if1 .taken)
 
--- src/walk.rt:47:9
 add-v : tie.Need-add-v Inv-loop μ-loop
 add-v c = omega (arith, c .before .before .loop-test .taken, c .before .passed-at .ensures .most, c .before .before .before .before .before .pre .variables)
 
--- src/walk.rt:42:5
 loop-less : tie.Need-loop-less Inv-loop μ-loop
 loop-less c = omega (arith, c .before .before .loop-test .taken, c .if1 .left)
 
--- src/walk.rt:42:5
 loop-again : tie.Need-loop-again Inv-loop μ-loop
 loop-again c = searching-more (c .before .before .before .loop .inv) (c .before .passed-at .ensures)
 
--- src/walk.rt:36:1
 returns-2 : tie.Need-returns-2 Inv-loop μ-loop
 returns-2 c = searched-all (c .before .before .before .pre .from-most) (c .before .loop .inv) (omega (arith, c .loop-test .left))
 

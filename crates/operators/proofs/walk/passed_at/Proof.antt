@@ -6,23 +6,18 @@ use Rattle.operators.proofs.walk.passed_at.Lts as lts
 use Rattle.atom_sets.proofs.set_from.Reads as set-from-reads
 use Rattle.operators.proofs.Passing.{passes-rest, passes-one, passes-none}
 
--- src/walk.rt:24:9
 set-from-requires : tie.Need-set-from-requires
 set-from-requires c κs = search needs
 
--- src/walk.rt:26:16
 sub-result : tie.Need-sub-result
 sub-result c = search needs
 
--- src/walk.rt:26:9
 returns : tie.Need-returns
 returns c = let a = c .before .before .before .args in passes-rest (a .frame) (a .notes .now) (a .e) (a .v) (c .before .set-from .result) (c .before .set-from .ensures) (c .if1 .taken)
 
--- src/walk.rt:29:9
 returns-2 : tie.Need-returns-2
 returns-2 c = let a = c .before .before .before .before .args in passes-one (a .frame) (a .notes .now) (a .e) (a .v) (c .before .before .set-from .result) (c .before .before .set-from .ensures) (c .if2 .taken)
 
--- src/walk.rt:20:1
 returns-3 : tie.Need-returns-3
 returns-3 c = let a = c .before .before .before .before .args in passes-none (a .frame) (a .notes .now) (a .e) (a .v) (c .before .before .set-from .result) (c .before .before .set-from .ensures) (c .if2 .left)
 
