@@ -89,17 +89,30 @@ fn rows_kept(table: Table, head: Head, words: &[u16], count: usize) -> bool
     true
 }
 
-// 0, or the first number in order: 6, 7, 5, 8, 9, 10, 11, 12. Nothing is written. Linear in the counts.
-pub fn check(
-    head: Head,
+// The check of a head's six numbers and the tables. A struct is copied from memory where it comes in: small tasks would wait for that.
+fn check_numbers(
+    v: u16,
+    w: u16,
+    f: u16,
+    e: u16,
+    o: u16,
+    goal: u16,
     initial: &[u8],
     twins: &[u16],
     formulas: &[u16],
     effects: &[u16],
     operators: &[u16],
 ) -> u16
-    ensures { λ r. ⌜ r ≡ refusal (lent head (now (initial .entry)) (now (twins .entry)) (now (formulas .entry)) (now (effects .entry)) (now (operators .entry))) ⌝ }
+    ensures { λ r. ⌜ r ≡ refusal (lent (record { variables = v; twins = w; formulas = f; effects = e; operators = o; goal = goal }) (now (initial .entry)) (now (twins .entry)) (now (formulas .entry)) (now (effects .entry)) (now (operators .entry))) ⌝ }
 {
+    let head = Head {
+        variables: v,
+        twins: w,
+        formulas: f,
+        effects: e,
+        operators: o,
+        goal,
+    };
     if !crate::counts::counts_kept(head) {
         return 6;
     }
@@ -129,4 +142,30 @@ pub fn check(
         return 12;
     }
     0
+}
+
+// 0, or the first number in order: 6, 7, 5, 8, 9, 10, 11, 12. Nothing is written. Linear in the counts.
+pub fn check(
+    head: Head,
+    initial: &[u8],
+    twins: &[u16],
+    formulas: &[u16],
+    effects: &[u16],
+    operators: &[u16],
+) -> u16
+    ensures { λ r. ⌜ r ≡ refusal (lent head (now (initial .entry)) (now (twins .entry)) (now (formulas .entry)) (now (effects .entry)) (now (operators .entry))) ⌝ }
+{
+    check_numbers(
+        head.variables,
+        head.twins,
+        head.formulas,
+        head.effects,
+        head.operators,
+        head.goal,
+        initial,
+        twins,
+        formulas,
+        effects,
+        operators,
+    )
 }

@@ -3,8 +3,8 @@ use Rattle.task.specs.Check.{initial-kept, twins-kept, formulas-kept, ef
 use Rattle.task.proofs.Passed.{counts-tested, lengths-tested}
 use Rattle.task.proofs.Order.{refused-6, refused-7, refused-5, refused-8, refused-9, refused-10, refused-11, refused-12, accepted, failed, tested}
 use borrow.Author.Needs.{needs}
-use Rattle.task.proofs.check.check.Statement.{statement}
-use Rattle.task.proofs.check.check.Tie as tie
+use Rattle.task.proofs.check.check_numbers.Statement.{statement}
+use Rattle.task.proofs.check.check_numbers.Tie as tie
 
 counts-kept-requires : tie.Need-counts-kept-requires
 counts-kept-requires c κs = search needs
@@ -96,8 +96,8 @@ unfolding initial-kept twins-kept formulas-kept effects-kept operators-kept
 returns-9 c =
     accepted _ (tested (c .before .before .before .before .before .before .before .before .before .before .before .before .before .before .before .before .before .before .before .before .before .before .counts-kept .ensures) (c .before .before .before .before .before .before .before .before .before .before .before .before .before .before .before .before .before .before .before .before .before .if1 .left)) (tested (c .before .before .before .before .before .before .before .before .before .before .before .before .before .before .before .before .before .before .before .before .goal-kept .ensures) (c .before .before .before .before .before .before .before .before .before .before .before .before .before .before .before .before .before .before .before .if2 .left)) (tested (c .before .before .before .before .before .before .before .before .before .before .before .before .before .before .before .before .before .before .long-enough .ensures) (c .before .before .before .before .before .before .before .before .before .before .before .before .before .before .before .before .before .if3 .left)) (tested (c .before .before .before .before .before .before .before .before .before .before .before .before .before .before .before .bits-kept .ensures) (c .before .before .before .before .before .before .before .before .before .before .before .before .before .before .if4 .left)) (tested (c .before .before .before .before .before .before .before .before .before .before .twins-kept .ensures) (c .before .before .before .before .before .before .before .before .before .if5 .left)) (tested (c .before .before .before .before .before .before .before .rows-kept .ensures) (c .before .before .before .before .before .before .if6 .left)) (tested (c .before .before .before .before .rows-kept2 .ensures) (c .before .before .before .if7 .left)) (tested (c .before .rows-kept3 .ensures) (c .if8 .left))
 
-pub check-spec : {M : Type 1} → statement M
-check-spec =
+pub check-numbers-spec : {M : Type 1} → statement M
+check-numbers-spec =
     tie.close
     (tie.spec
     counts-kept-requires
