@@ -1,6 +1,7 @@
 // D and N of one variable.
 use conditions::Target;
 use conditions::condition;
+use formula_builder::ROWS;
 use formula_builder::join;
 ghost use Rattle.normal_form.specs.Operators.{deletes-of};
 ghost use Rattle.formula_builder.specs.Held.{store, sized, stepped, framed};
@@ -53,5 +54,5 @@ pub fn deletes(
     if n == 65535 {
         return n;
     }
-    join(rows, table, frame[3], false, d, n)
+    join(rows, table, frame[ROWS], false, d, n)
 }

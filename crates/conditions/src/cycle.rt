@@ -6,6 +6,7 @@ use crate::kept::keep;
 use crate::kept::recall;
 use crate::path::descend;
 use crate::under::under;
+use formula_builder::EFFECTS;
 use formula_builder::read_row;
 ghost use mathlib.Core.Bool.{false};
 ghost use Rattle.formula_builder.specs.Held.{store, sized, stepped, framed};
@@ -68,7 +69,7 @@ fn below(
     ensures { λ r. ⌜ Climbs (condition-at (framed (now (frame .entry))) (now (formulas .entry)) (now (effects .entry)) t e) (framed (now (frame .entry))) (now (formulas .entry)) (now (effects .entry)) (now (notes .entry)) (now (notes .exit)) from (sized (now (rows .entry)) (now (twins .entry))) (store (now (table .entry)) (now (originals .entry))) (store (now (table .exit)) (now (originals .exit))) (now (scratch .exit)) (stepped (now (rows .exit)) (now (twins .exit)) r) ⌝ }
 {
     let bottom = descend(effects, notes, scratch, frame, t, e, from);
-    let base = notes.len() - frame[2];
+    let base = notes.len() - frame[EFFECTS];
     let mut depth = bottom.depth;
     let mut s = bottom.known - 1;
     while from < depth {

@@ -1,6 +1,8 @@
 // The last join that was made for each effect row: the notes keep it behind the columns, in three words, the left row, the right row, and the
 // row of the join plus 1, or 0. A row joins for plain targets by one kind alone, so only those are kept. Constant cost, but for a join.
 use crate::Target;
+use formula_builder::EFFECTS;
+use formula_builder::ROWS;
 use formula_builder::join;
 ghost use mathlib.Core.Path.{_≡_};
 ghost use mathlib.Core.Bool.{false};
@@ -19,7 +21,7 @@ fn last_join(notes: &[u16], frame: &[usize; 5], t: Target, e: usize, l: u16, r: 
     if t.negated {
         return 0;
     }
-    let k = frame[2] + 3 * e;
+    let k = frame[EFFECTS] + 3 * e;
     if notes[k] != l {
         return 0;
     }
@@ -40,7 +42,7 @@ fn keep_join(notes: &mut [u16], frame: &[usize; 5], t: Target, e: usize, l: u16,
     if x == 65535 {
         return;
     }
-    let k = frame[2] + 3 * e;
+    let k = frame[EFFECTS] + 3 * e;
     notes[k] = l;
     notes[k + 1] = r;
     notes[k + 2] = x + 1;
@@ -65,7 +67,7 @@ pub fn joined(
     if 0 < w {
         return w - 1;
     }
-    let x = join(rows, table, frame[3], or, l, r);
+    let x = join(rows, table, frame[ROWS], or, l, r);
     keep_join(notes, frame, t, e, l, r, x);
     x
 }

@@ -2,6 +2,9 @@
 // memo. Constant cost.
 use crate::Target;
 use atom_sets::sets_end;
+use formula_builder::EFFECTS;
+use formula_builder::FORMULAS;
+use formula_builder::VARIABLES;
 use formula_builder::frame_of;
 ghost use mathlib.Core.Path.{_≡_};
 ghost use Prim.Native.Nat.{_≤_, _<_};
@@ -31,8 +34,8 @@ fn place(notes: &[u16], frame: &[usize; 5], t: Target, e: usize) -> usize
     }
     let a = 3 * (t.variable as usize) + part;
     let whole = frame_of(frame);
-    let k = sets_end(whole) + ((c as usize) * (3 * frame[0]) + a);
-    if notes.len() - frame[2] <= k {
+    let k = sets_end(whole) + ((c as usize) * (3 * frame[VARIABLES]) + a);
+    if notes.len() - frame[EFFECTS] <= k {
         return 0;
     }
     k
@@ -55,8 +58,8 @@ pub fn recall(notes: &[u16], scratch: &[u16], frame: &[usize; 5], t: Target, e: 
     if 0 < k {
         return notes[k];
     }
-    let m = 2 * frame[1] + e;
-    if scratch[m + frame[2]] != tag_of(t) {
+    let m = 2 * frame[FORMULAS] + e;
+    if scratch[m + frame[EFFECTS]] != tag_of(t) {
         return 0;
     }
     scratch[m]
@@ -79,7 +82,7 @@ pub fn keep(
         notes[k] = row + 1;
         return;
     }
-    let m = 2 * frame[1] + e;
-    scratch[m + frame[2]] = tag_of(t);
+    let m = 2 * frame[FORMULAS] + e;
+    scratch[m + frame[EFFECTS]] = tag_of(t);
     scratch[m] = row + 1;
 }

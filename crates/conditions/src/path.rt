@@ -5,6 +5,7 @@ use crate::Turn;
 use crate::seen::constant;
 use crate::seen::seen;
 use atom_sets::lacks;
+use formula_builder::EFFECTS;
 use formula_builder::frame_of;
 use formula_builder::read_row;
 ghost use mathlib.Core.Path.{_≡_};
@@ -61,7 +62,7 @@ pub fn descend(
     requires { ⌜ AsksDescent (framed (now frame)) (now effects) (now notes) (now scratch) t e from ⌝ }
     ensures { λ b. ⌜ Descended (framed (now (frame .entry))) (now (effects .entry)) (now (notes .entry)) (now (notes .exit)) (now (scratch .entry)) t e from b ⌝ }
 {
-    let base = notes.len() - frame[2];
+    let base = notes.len() - frame[EFFECTS];
     let mut depth = from;
     let mut i = e;
     let mut known = constant(effects, t, e);

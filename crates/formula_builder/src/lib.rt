@@ -7,6 +7,11 @@ mod rows;
 mod sizes;
 mod twins;
 
+pub use frames::EFFECTS;
+pub use frames::FORMULAS;
+pub use frames::ROWS;
+pub use frames::TWINS;
+pub use frames::VARIABLES;
 pub use frames::frame_of;
 pub use frames::words_of;
 pub use joins::falsity;

@@ -1,4 +1,7 @@
 // Twins, and their rows.
+use crate::frames::ROWS;
+use crate::frames::TWINS;
+use crate::frames::VARIABLES;
 use crate::rows::variable_row;
 ghost use mathlib.Core.Path.{_≡_};
 ghost use Prim.Native.Nat.{ℕ, _≤_};
@@ -37,14 +40,14 @@ pub fn twin_row(
 {
     let w = *twins;
     let k = find_twin(originals, w, v);
-    let t = frame[0] + k;
+    let t = frame[VARIABLES] + k;
     if k < w {
-        return variable_row(rows, table, frame[3], t as u16);
+        return variable_row(rows, table, frame[ROWS], t as u16);
     }
-    if w == frame[4] {
+    if w == frame[TWINS] {
         return 65535;
     }
     originals[w] = v;
     *twins = w + 1;
-    variable_row(rows, table, frame[3], t as u16)
+    variable_row(rows, table, frame[ROWS], t as u16)
 }

@@ -6,6 +6,8 @@ use crate::memo::note;
 use crate::spine::descend;
 use crate::spine::keeps_side;
 use crate::spine::over;
+use formula_builder::FORMULAS;
+use formula_builder::ROWS;
 use formula_builder::join;
 use formula_builder::read_row;
 ghost use Prim.Native.Nat.{_+_};
@@ -164,7 +166,7 @@ fn image_up(
             scratch,
         );
     }
-    join(rows, table, frame[3], w.kind != 4, l, b)
+    join(rows, table, frame[ROWS], w.kind != 4, l, b)
 }
 
 // The negated image of formula i: constant time if the memo has it, else what building it costs.
@@ -181,7 +183,7 @@ pub fn negated_image(
     requires { ⌜ Asks (framed (now frame)) (now formulas) (sized (now rows) (now twins)) (store (now table) (now originals)) (now scratch) i ⌝ }
     ensures { λ r. ⌜ Reaches (image-at (framed (now (frame .entry))) (now (formulas .entry)) negated i) (i + 1) (framed (now (frame .entry))) (now (formulas .entry)) (sized (now (rows .entry)) (now (twins .entry))) (store (now (table .entry)) (now (originals .entry))) (store (now (table .exit)) (now (originals .exit))) (now (scratch .entry)) (now (scratch .exit)) (stepped (now (rows .exit)) (now (twins .exit)) r) ⌝ }
 {
-    let known = scratch[frame[1] + i];
+    let known = scratch[frame[FORMULAS] + i];
     if is_row(known) {
         return known - 1;
     }
@@ -205,7 +207,7 @@ pub fn negated_image_anew(
     let mut j = descend(formulas, i, true, frame, scratch);
     let mut s = negated_image_start(formulas, j, frame, rows, twins, table, originals, scratch);
     while j <= i {
-        let k = frame[1] + j;
+        let k = frame[FORMULAS] + j;
         let word = scratch[k] as usize;
         s = negated_image_up(
             formulas,
@@ -319,7 +321,7 @@ fn negated_image_up(
             scratch,
         );
     }
-    join(rows, table, frame[3], r.kind == 4, l, b)
+    join(rows, table, frame[ROWS], r.kind == 4, l, b)
 }
 
 // (a and b) or (not a and not b), with row i's operands, from the rows of a and b; crossed, (a and not b) or (not a and b).
@@ -339,7 +341,7 @@ fn equivalent(
     requires { ⌜ AsksEquivalent (framed (now frame)) (now formulas) (sized (now rows) (now twins)) (store (now table) (now originals)) (now scratch) i left right ⌝ }
     ensures { λ r. ⌜ Reaches (equivalent-at (framed (now (frame .entry))) (now (formulas .entry)) i crossed left right) i (framed (now (frame .entry))) (now (formulas .entry)) (sized (now (rows .entry)) (now (twins .entry))) (store (now (table .entry)) (now (originals .entry))) (store (now (table .exit)) (now (originals .exit))) (now (scratch .entry)) (now (scratch .exit)) (stepped (now (rows .exit)) (now (twins .exit)) r) ⌝ }
 {
-    let l = join(rows, table, frame[3], false, left, right);
+    let l = join(rows, table, frame[ROWS], false, left, right);
     if l == 65535 {
         return l;
     }
@@ -357,7 +359,7 @@ fn equivalent(
     if r == 65535 {
         return r;
     }
-    join(rows, table, frame[3], true, l, r)
+    join(rows, table, frame[ROWS], true, l, r)
 }
 
 // Not a and not b, with row i's operands; crossed, not a and b.
@@ -403,7 +405,7 @@ fn pair(
     if r == 65535 {
         return r;
     }
-    join(rows, table, frame[3], false, l, r)
+    join(rows, table, frame[ROWS], false, l, r)
 }
 
 // The image of formula i, or its negated image.

@@ -1,4 +1,5 @@
 // Rows without operands.
+use formula_builder::ROWS;
 use formula_builder::Words;
 use formula_builder::row;
 use formula_builder::twin_row;
@@ -22,7 +23,7 @@ pub fn leaf(
         if not {
             return twin_row(rows, twins, table, originals, frame, w.a);
         }
-        return row(rows, table, frame[3], w.kind, w.a, w.b);
+        return row(rows, table, frame[ROWS], w.kind, w.a, w.b);
     }
     if not {
         return 1 - w.kind;

@@ -1,4 +1,5 @@
 // The memo.
+use formula_builder::FORMULAS;
 ghost use mathlib.Core.Path.{_≡_};
 ghost use Prim.Native.Nat.{ℕ, _≤_, _<_};
 ghost use lib.ListN.{length};
@@ -20,7 +21,7 @@ pub fn word_of(frame: &[usize; 5], i: usize, not: bool) -> usize
     requires { ⌜ (i < framed (now frame) .formulas) × (framed (now frame) .formulas ≤ 4096) ⌝ }
     ensures { λ r. ⌜ r ≡ memo-place (framed (now (frame .entry))) (side not) i ⌝ }
 {
-    if not { frame[1] + i } else { i }
+    if not { frame[FORMULAS] + i } else { i }
 }
 
 // Notes the row that was built, unless there was no room.

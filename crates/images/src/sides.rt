@@ -3,6 +3,7 @@ use crate::cycle::image;
 use crate::cycle::image_anew;
 use crate::cycle::negated_image_anew;
 use crate::memo::is_row;
+use formula_builder::FORMULAS;
 use formula_builder::Frame;
 use formula_builder::Size;
 use formula_builder::Step;
@@ -30,7 +31,7 @@ pub fn sided(
     ensures { λ r. ⌜ Images (image-at (framed (now (frame .entry))) (now (formulas .entry)) (side not) i) (framed (now (frame .entry))) (now (formulas .entry)) (sized (now (rows .entry)) (now (twins .entry))) (store (now (table .entry)) (now (originals .entry))) (store (now (table .exit)) (now (originals .exit))) (now (scratch .entry)) (now (scratch .exit)) (stepped (now (rows .exit)) (now (twins .exit)) r) ⌝ }
 {
     if not {
-        let known = scratch[frame[1] + i];
+        let known = scratch[frame[FORMULAS] + i];
         if is_row(known) {
             return known - 1;
         }
