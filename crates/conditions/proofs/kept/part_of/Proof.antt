@@ -13,7 +13,7 @@ cast-result-2 : tie.Need-cast-result-2
 cast-result-2 c = search needs
 
 mul-result : tie.Need-mul-result
-mul-result c = omega (arith, byte-small (c .before .before .args .t .negated))
+mul-result c = omega (arith, byte-small (c .before .before .args .t .clear), byte-small (c .before .before .args .t .negated))
 
 add-result : tie.Need-add-result
 add-result c = omega (arith, byte-small (c .before .before .args .t .clear), byte-small (c .before .before .args .t .negated))
