@@ -2,14 +2,15 @@
 use Prim.Native.Nat.{ℕ, zero, suc, _+_, _-_, _*_, _≤_, _<_}
 use native.Mathlib.Omega.{arith}
 use native.Mathlib.Decide.{ℕ-discrete}
-use native.Mathlib.Nat.{mul-le-mul}
-use mathlib.Core.Path.{_≡_, refl, sym, ap, _∙_}
+use native.Mathlib.Nat.{mul-le-mul, mul-suc, mul-comm}
+use mathlib.Core.Path.{_≡_, refl, sym, ap, ap₂, _∙_}
 use mathlib.Core.Bool.{Bool, true, false, cond}
 use mathlib.Core.List.{List}
 use lib.ListN.{length, getD, set, length-set}
 use lib.Seq.{getD-set-same, getD-set-other}
 use lib.Dec.{eqb}
 use mir.Val.{boolByte}
+use borrow.Author.Tests.{le-leb, lt-leb}
 use Rattle.task.specs.Table.{row-at}
 use Rattle.normal_form.specs.Builder.{St, Build}
 use Rattle.normal_form.specs.Growth.{Grows, Steady}
@@ -24,7 +25,7 @@ use Rattle.images.proofs.Memos.{known-grows}
 use Rattle.atom_sets.specs.Sets.{sets-end}
 use Rattle.atom_sets.proofs.Places.{sets-behind, lacks-same}
 use Rattle.conditions.specs.declared.Target.{Target}
-use Rattle.conditions.specs.Conditions.{atom-of, effect-tree, condition-at, AtomSets, column, part, kept-place, Columns, Kept, join-place, Joins, Noted, Looks, KeptAt, Recalls, path-at, PathStays, Keeps, Asks}
+use Rattle.conditions.specs.Conditions.{atom-of, effect-tree, condition-at, AtomSets, column, part, width, kept-place, Columns, Kept, join-place, Joins, Noted, Looks, KeptAt, Recalls, path-at, PathStays, Keeps, Asks}
 
 pub steady-condition-at :
     (frame : Frame) (formulas effects : List ℕ) (t : Target) (e : ℕ) → Steady (condition-at frame formulas effects t e)
@@ -87,7 +88,7 @@ behind a b = omega arith
 
 place-behind : (frame : Frame) (c : ℕ) (t : Target) → sets-end frame ≤ kept-place frame c t
 unfolding kept-place
-place-behind frame c t = behind (sets-end frame) (c * (3 * frame .variables) + (3 * t .variable + part t))
+place-behind frame c t = behind (sets-end frame) (c * (width frame * frame .variables) + (width frame * t .variable + part t))
 
 -- the conditions that are kept stay right while their words and the columns stay
 pub kept-stay :
@@ -175,8 +176,11 @@ small-row b q =
     omega (arith, d .below, d .ready .rows .within, d .ready .rows .limit)
 
 -- a place fits a word of the machine
-pub place-small : (c n : ℕ) → c < 65536 → n ≤ 512 → c * (3 * n) ≤ 100661760
-place-small c n h g = mul-le-mul {n₂ = 65535} {m₂ = 1536} (omega arith) (omega arith)
+pub word-small : (n v : ℕ) → n ≤ 3 → v ≤ 512 → n * v ≤ 1536
+word-small n v k g = mul-le-mul {n₂ = 3} {m₂ = 512} k g
+
+pub place-small : (c n v : ℕ) → c < 65536 → n ≤ 3 → v ≤ 512 → c * (n * v) ≤ 100661760
+place-small c n v h k g = mul-le-mul {n₂ = 65535} {m₂ = 1536} (omega arith) (word-small n v k g)
 
 pub byte-small : (b : Bool) → boolByte b ≤ 1
 byte-small true = omega arith
@@ -198,16 +202,18 @@ pub place-sum :
     → whole ≡ frame
     → k ≡ sets-end whole
     → p ≡ part t
-    → k + (c * (3 * frame .variables) + (3 * t .variable + p))
-    ≡ sets-end frame + (c * (3 * frame .variables) + (3 * t .variable + part t))
-place-sum frame whole t c k p f s q = rw (s, q, f) refl
+    → {n : ℕ}
+    → n ≡ width frame
+    → k + (c * (n * frame .variables) + (n * t .variable + p))
+    ≡ sets-end frame + (c * (width frame * frame .variables) + (width frame * t .variable + part t))
+place-sum frame whole t c k p f s q w = rw (s, q, w, f) refl
 
 pub place-found :
     (frame : Frame) (notes : List ℕ) (t : Target) (e k : ℕ)
     → (getD notes e 0 ≡ 0 → ⊥)
-    → part t < 3
+    → part t < width frame
     → t .variable < frame .variables
-    → k ≡ sets-end frame + (getD notes e 0 * (3 * frame .variables) + (3 * t .variable + part t))
+    → k ≡ sets-end frame + (getD notes e 0 * (width frame * frame .variables) + (width frame * t .variable + part t))
     → k + frame .effects < length notes
     → KeptAt frame notes t e k
 unfolding column kept-place
@@ -232,16 +238,25 @@ atoms v w false false q = (omega arith, refl)
 atoms v w true false q = absurd (omega (arith, q))
 atoms v w false true q = absurd (omega (arith, q))
 
-part-within : (n v p : ℕ) → v < n → p < 3 → 3 * v + p < 3 * n
-part-within n v p h g = omega arith
+part-within : (m n v p : ℕ) → v < n → p < m → m * v + p < m * n
+part-within m n v p h g = go (m * v) (m * n) (mul-le-mul {n₂ = m} {m₂ = n} (omega arith) h)
+  where
+    go : (x y : ℕ) → m * suc v ≤ y → m * v + p < y
+    go x y k = omega (arith, k, mul-suc m v)
 
-thirds : (v w p q : ℕ) → p < 3 → q < 3 → 3 * v + p ≡ 3 * w + q → (v ≡ w) × (p ≡ q)
-thirds v w p q g h e = (omega arith, omega arith)
+-- three words, or two
+pub width-three : (frame : Frame) → frame .variables ≤ 256 → (3 ≡ width frame) × (3 ≤ 3)
+unfolding width
+width-three frame h = (rw (le-leb (frame .variables) 256 h) refl, omega arith)
 
--- a part that is below 3 tells the target's two flags
-part-flags : (t u : Target) → part t < 3 → part u < 3 → part t ≡ part u → (t .clear ≡ u .clear) × (t .negated ≡ u .negated)
+pub width-two : (frame : Frame) → 256 < frame .variables → (2 ≡ width frame) × (2 ≤ 3)
+unfolding width
+width-two frame h = (rw (lt-leb (frame .variables) 256 h) refl, omega arith)
+
+-- a part tells the target's two flags
+part-flags : (t u : Target) → part t ≡ part u → (t .clear ≡ u .clear) × (t .negated ≡ u .negated)
 unfolding part
-part-flags t u g h q =
+part-flags t u q =
     let x = atoms (cond (t .negated) 1 0) (cond (u .negated) 1 0) (t .clear) (u .clear) (omega (arith, q)) in
     (x .1, flag (t .negated) (u .negated) (x .0))
   where
@@ -259,18 +274,21 @@ places-apart :
     (frame : Frame) (c d : ℕ) (t u : Target)
     → t .variable < frame .variables
     → u .variable < frame .variables
-    → part t < 3
-    → part u < 3
+    → part t < width frame
+    → part u < width frame
     → kept-place frame c t ≡ kept-place frame d u
     → (c ≡ d) × (t .variable ≡ u .variable) × (t .clear ≡ u .clear) × (t .negated ≡ u .negated)
 unfolding kept-place
 places-apart frame c d t u g h m n q =
+    let w = width frame in
     let x =
-    quotients (3 * frame .variables) c d (3 * t .variable + part t) (3 * u .variable + part u)
-    (part-within (frame .variables) (t .variable) (part t) g m) (part-within (frame .variables) (u .variable) (part u) h n)
+    quotients (w * frame .variables) c d (w * t .variable + part t) (w * u .variable + part u)
+    (part-within w (frame .variables) (t .variable) (part t) g m) (part-within w (frame .variables) (u .variable) (part u) h n)
     (cancel (sets-end frame) _ _ q) in
-    let y = thirds (t .variable) (u .variable) (part t) (part u) m n (x .1) in
-    let z = part-flags t u m n (y .1) in
+    let y =
+    quotients w (t .variable) (u .variable) (part t) (part u) m n
+    (ap₂ _+_ (mul-comm (t .variable) w) refl ∙ x .1 ∙ ap₂ _+_ (mul-comm w (u .variable)) refl) in
+    let z = part-flags t u (y .1) in
     (x .0, y .0, z .0, z .1)
 
 pub same-condition :
@@ -323,7 +341,7 @@ module _ {frame : Frame} {notes : List ℕ} {t : Target} {e k : ℕ} (h : e < fr
         (u : Target) (d x : ℕ)
         → d < frame .effects
         → u .variable < frame .variables
-        → part u < 3
+        → part u < width frame
         → 0 < column notes d
         → kept-place frame (column notes d) u + frame .effects < length notes
         → Dec (kept-place frame (column notes d) u ≡ k)

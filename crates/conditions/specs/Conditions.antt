@@ -3,7 +3,7 @@ use Prim.Native.Nat.{ℕ, _+_, _-_, _*_, _≤_, _<_}
 use mathlib.Core.Path.{_≡_}
 use mathlib.Core.Bool.{Bool, true, false, cond}
 use mathlib.Core.List.{List}
-use lib.Dec.{eqb}
+use lib.Dec.{eqb, leb}
 use lib.ListN.{length, getD}
 use Rattle.task.specs.Bounded.{upto}
 use Rattle.task.specs.Table.{Row, row-at, EffectKind, empty-kind, set-kind, clear-kind, both-kind, under-kind, unknown-effect}
@@ -103,9 +103,13 @@ column notes e = getD notes e 0
 unfoldable pub part : Target → ℕ
 part t = cond (t .clear) 1 0 + 2 * cond (t .negated) 1 0
 
--- where the condition of target t is kept in column c: behind the sets, three words for each variable
+-- how many words a variable has in a column: none is for duals where there are many variables
+unfoldable pub width : Frame → ℕ
+width frame = cond (leb (frame .variables) 256) 3 2
+
+-- where the condition of target t is kept in column c: behind the sets, so many words for each variable
 unfoldable pub kept-place : Frame → ℕ → Target → ℕ
-kept-place frame c t = sets-end frame + (c * (3 * frame .variables) + (3 * t .variable + part t))
+kept-place frame c t = sets-end frame + (c * (width frame * frame .variables) + (width frame * t .variable + part t))
 
 -- Each row has a word for its column, and one of the last words for a path down the rows; no two rows have the same column.
 pub record Columns (frame : Frame) (notes : List ℕ) : Type 0 where
@@ -124,7 +128,7 @@ pub record Kept (frame : Frame) (formulas effects notes : List ℕ) (s : St) : T
       (t : Target) (e r : ℕ)
       → e < frame .effects
       → t .variable < frame .variables
-      → part t < 3
+      → part t < width frame
       → 0 < column notes e
       → kept-place frame (column notes e) t + frame .effects < length notes
       → getD notes (kept-place frame (column notes e) t) 0 ≡ r + 1
@@ -162,7 +166,7 @@ pub record Looks (frame : Frame) (notes : List ℕ) (e : ℕ) : Type 0 where
 
 -- The condition of target t and row e is kept in word k.
 pub record KeptAt (frame : Frame) (notes : List ℕ) (t : Target) (e k : ℕ) : Type 0 where
-  pub one : part t < 3
+  pub one : part t < width frame
   pub variable : t .variable < frame .variables
   pub has-column : 0 < column notes e
   pub place : k ≡ kept-place frame (column notes e) t

@@ -9,13 +9,20 @@ use formula_builder::frame_of;
 ghost use mathlib.Core.Path.{_≡_};
 ghost use Prim.Native.Nat.{_≤_, _<_};
 ghost use Rattle.formula_builder.specs.Held.{framed};
-ghost use Rattle.conditions.specs.Conditions.{part, tag, Looks, KeptAt, AsksKept, Recalls, Keeps};
+ghost use Rattle.conditions.specs.Conditions.{part, width, tag, Looks, KeptAt, AsksKept, Recalls, Keeps};
 
-// Which of its variable's words in a column is a target's: set, clear, or the dual of set; 3, which has none, is the dual of clear.
+// Which of its variable's words in a column is a target's: set, clear, or the dual of set; the dual of clear has none.
 fn part_of(t: Target) -> usize
     ensures { λ r. ⌜ (r ≡ part t) × (r ≤ 3) ⌝ }
 {
     t.clear as usize + 2 * (t.negated as usize)
+}
+
+// How many words a variable has in a column: where there are many variables, more columns are worth more than the duals.
+fn width_of(frame: &[usize; 5]) -> usize
+    ensures { λ r. ⌜ (r ≡ width (framed (now (frame .entry)))) × (r ≤ 3) ⌝ }
+{
+    if frame[VARIABLES] <= 256 { 3 } else { 2 }
 }
 
 // The word of the notes that keeps the condition of target t and effect e; 0, if none does. They keep as far as they reach: their last
@@ -29,12 +36,13 @@ fn place(notes: &[u16], frame: &[usize; 5], t: Target, e: usize) -> usize
         return 0;
     }
     let part = part_of(t);
-    if part == 3 {
+    let n = width_of(frame);
+    if n <= part {
         return 0;
     }
-    let a = 3 * (t.variable as usize) + part;
+    let a = n * (t.variable as usize) + part;
     let whole = frame_of(frame);
-    let k = sets_end(whole) + ((c as usize) * (3 * frame[VARIABLES]) + a);
+    let k = sets_end(whole) + ((c as usize) * (n * frame[VARIABLES]) + a);
     if notes.len() - frame[EFFECTS] <= k {
         return 0;
     }

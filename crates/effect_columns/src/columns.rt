@@ -122,16 +122,24 @@ fn number_rows(
     last
 }
 
-// How many columns there is room for, each of three words a variable; no row has column 0, so its place is lost. Nothing is promised of it.
-fn most_columns(variables: usize, room: usize) -> usize {
+// How many columns there is room for, one word a variable; no row has column 0, so its place is lost.
+fn columns_in(room: usize, variables: usize) -> usize {
     if variables == 0 {
         return 4096;
     }
-    let places = room / 3 / variables;
+    let places = room / variables;
     if places == 0 {
         return 0;
     }
     places - 1
+}
+
+// The same with three words a variable, or two where there are many. Nothing is promised of it.
+fn most_columns(variables: usize, room: usize) -> usize {
+    if variables <= 256 {
+        return columns_in(room / 3, variables);
+    }
+    columns_in(room / 2, variables)
 }
 
 // The rows that still have a column get new numbers, the others none. As many steps as there are effects.

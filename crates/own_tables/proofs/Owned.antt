@@ -57,10 +57,10 @@ module _ {l : Lent} {rows twins effects : ℕ} {x : Tables} where
 
   pub owns-few :
       BeginsFew l rows twins effects x
-      → Owns l rows twins effects x (replicate 132096 0) (replicate 36864 0) (replicate 6912 0)
-  owns-few b = owns 132096 36864 (b .begins) (go (decLt 96 (l .head .variables))) (omega (arith, b .begins .lends .rows-limit))
+      → Owns l rows twins effects x (replicate 163840 0) (replicate 36864 0) (replicate 6912 0)
+  owns-few b = owns 163840 36864 (b .begins) (go (decLt 96 (l .head .variables))) (omega (arith, b .begins .lends .rows-limit))
     where
-      go : Dec (96 < l .head .variables) → sets-end (frame-of (l .head) rows twins) + l .head .effects ≤ 132096
+      go : Dec (96 < l .head .variables) → sets-end (frame-of (l .head) rows twins) + l .head .effects ≤ 163840
       go (yes h) =
           let room = sets-room l rows twins 64 1024 (omega (arith, few-variables l (b .begins .lends .passes))) (b .few h) in
           omega (arith, room)

@@ -11,7 +11,7 @@ ghost use Rattle.own_tables.specs.Few.{Few, BeginsSmall, BeginsFew};
 
 // The first has the words of 4,096 rows, two links and four heads for each: 72 KiB, cleared. The second has three words for
 // each of 256 operators and 2,048 changes: 13.5 KiB, cleared. The third has for each of 4,096 effects four words, a set of two bits for each of
-// 512 variables and a word of the path, and for each of 213 columns, of which the first is not used, three words for each variable: 1.2 MiB, cleared; fewer
+// 512 variables and a word of the path, and for each of 320 columns, of which the first is not used, two words for each variable: 1.2 MiB, cleared; fewer
 // variables have more columns.
 fn fill_many(
     head: Head,
@@ -58,7 +58,7 @@ fn fill_many(
     )
 }
 
-// The same for at most 96 variables or at most 1,024 effects: the notes take 258 KiB, cleared.
+// The same for at most 96 variables or at most 1,024 effects: the notes take 320 KiB, cleared.
 fn fill_few(
     head: Head,
     initial: &[u8],
@@ -81,7 +81,7 @@ fn fill_few(
 {
     let mut built = [0u16; 36864];
     let mut records = [0u16; 6912];
-    let mut notes = [0u16; 132096];
+    let mut notes = [0u16; 163840];
     fill_noted(
         head,
         initial,
