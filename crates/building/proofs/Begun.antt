@@ -1,5 +1,5 @@
 -- Building in parts, from the start. Assumes nothing.
-use Prim.Native.Nat.{ℕ, _+_, _≤_, _<_}
+use Prim.Native.Nat.{ℕ, _+_, _*_, _≤_, _<_}
 use native.Mathlib.Omega.{arith}
 use native.Mathlib.Numerals.{add-one}
 use mathlib.Core.Path.{_≡_, refl, sym, ap, _∙_}
@@ -7,14 +7,14 @@ use mathlib.Core.Bool.{true, false, true≢false}
 use mathlib.Core.List.{List, []}
 use lib.ListN.{length}
 use Rattle.task.specs.Table.{Row, row-at}
-use Rattle.normal_form.specs.Builder.{St, Got, give, bind, each, start, plain}
+use Rattle.normal_form.specs.Builder.{St, Got, give, bind, each, place, start, plain}
 use Rattle.normal_form.specs.Operators.{Changes}
 use Rattle.normal_form.proofs.Padded.{three}
 use Rattle.formula_builder.specs.declared.Words.{Words}
 use Rattle.formula_builder.specs.declared.Frame.{Frame}
 use Rattle.formula_builder.specs.declared.Step.{Step}
 use Rattle.formula_builder.specs.Index.{FirstTwo}
-use Rattle.formula_builder.specs.Held.{Store, store, row-of, held, Within}
+use Rattle.formula_builder.specs.Held.{Store, store, row-of, held, twin-word, TwinsNamed, Within}
 use Rattle.formula_builder.proofs.Steps.{within-before}
 use Rattle.images.specs.Images.{image-at, memo-place, Images, Asks}
 use Rattle.images.proofs.Memos.{steady-image-at}
@@ -59,13 +59,21 @@ pub beginning :
     (frame : Frame) (table : List ℕ) {after : List ℕ}
     → Fresh frame table
     → 2 ≤ frame .rows
-    → FirstTwo (frame .rows) after
+    → FirstTwo (frame .rows) table after
     → Begun frame after begun
 beginning frame table {after} b two f =
     record { none = refl; no-records = refl; done = λ _. started; over = λ q _. true≢false (sym q) }
   where
     stand : (originals : List ℕ) → start ≡ held (size-at begun) (store after originals)
     stand originals = unfold held start in (λ i. record { rows = sym (f .rows) i; twins = [] })
+
+    named : (originals : List ℕ) → TwinsNamed frame (size-at begun) (store after originals)
+    named originals =
+        record {
+          room = omega (arith, b .room, f .long);
+          stands = λ v r h e. absurd (omega (arith, e, f .past (twin-word frame v) (omega arith)));
+          missing = λ v h e. unfold place in refl;
+        }
 
     started : Started frame after begun
     started =
@@ -76,11 +84,12 @@ beginning frame table {after} b two f =
                 within = two;
                 some = omega arith;
                 limit = b .limit;
-                room = f .room;
+                room = omega (arith, b .room, f .long);
                 index = f .index;
               };
           two = omega arith;
           twins = refl;
+          named = named;
         }
 
 -- Between the parts.
@@ -112,6 +121,7 @@ module _ (frame : Frame) (formulas effects operators : List ℕ) where
                           originals = b .twins;
                           variables = b .variables;
                           past-twins = λ j h. b .blank-originals j;
+                          named = s .named originals;
                         };
                     memo = record { known = λ p i r h e. absurd (omega (arith, e, b .blank-scratch (memo-place frame p i))) };
                     effect-memo = effect-memo-blank frame formulas effects scratch (held (size-at p) (store table originals)) (b .blank-scratch);

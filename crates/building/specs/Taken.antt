@@ -10,7 +10,7 @@ use Rattle.normal_form.specs.Operators.{Changes}
 use Rattle.formula_builder.specs.declared.Frame.{Frame}
 use Rattle.formula_builder.specs.declared.Size.{Size}
 use Rattle.formula_builder.specs.declared.Step.{Step}
-use Rattle.formula_builder.specs.Held.{Store, store, held, size-of, RowsReady, Within}
+use Rattle.formula_builder.specs.Held.{Store, store, held, size-of, RowsReady, TwinsNamed, Within}
 use Rattle.images.specs.Images.{image-at, Source}
 use Rattle.conditions.specs.Conditions.{EffectSource}
 use Rattle.changes.specs.Stands.{Stands, Leaves}
@@ -25,9 +25,9 @@ size-at p = record { rows = p .rows; twins = p .twins }
 abbrev pub Zeros : List ℕ → Type 0
 Zeros l = (j : ℕ) → getD l j 0 ≡ 0
 
--- A formula table that nothing stands in, with room for the frame's rows and their index.
+-- A formula table that nothing stands in, with room for the frame's rows and their index, and a word for each variable.
 pub record Fresh (frame : Frame) (table : List ℕ) : Type 0 where
-  pub room : 9 * frame .rows ≤ length table
+  pub room : 9 * frame .rows + frame .variables ≤ length table
   pub limit : frame .rows ≤ 4096
   pub blank : Zeros table
 
@@ -37,6 +37,7 @@ pub record Started (frame : Frame) (table : List ℕ) (p : Progress) : Type 0 wh
   pub rows : RowsReady (frame .rows) (p .rows) table
   pub two : 2 ≤ p .rows
   pub twins : p .twins ≡ 0
+  pub named : (originals : List ℕ) → TwinsNamed frame (size-at p) (store table originals)
 
 -- It stands there, or there is no room for it; no operator is taken.
 pub record Begun (frame : Frame) (table : List ℕ) (p : Progress) : Type 0 where

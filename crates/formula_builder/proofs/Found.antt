@@ -5,8 +5,7 @@ use native.Mathlib.Omega.{arith}
 use mathlib.Core.Path.{_≡_, refl, sym, ap, _∙_}
 use mathlib.Core.Bool.{Bool, true, false, cond, _&&_}
 use mathlib.Core.List.{List, [], _∷_, _++_}
-use lib.ListN.{length, getD, take}
-use lib.Seq.{length-take-le, getD-take}
+use lib.ListN.{length, getD}
 use lib.Dec.{eqb}
 use borrow.Author.Tests.{eq-eqb, ne-eqb}
 use Rattle.task.specs.Bounded.{upto}
@@ -16,15 +15,6 @@ use Rattle.normal_form.specs.Builder.{place, kept, same-row}
 use Rattle.normal_form.proofs.Place.{place-first, place-none}
 
 module _ {A : Type 0} (same : A → A → Bool) (x : A) where
-  pub place-bound : (l : List A) → place same x l ≤ length l
-  unfolding place
-  place-bound [] = omega arith
-  place-bound (y ∷ ys) = go (same y x) (place-bound ys)
-    where
-      go : (b : Bool) → place same x ys ≤ length ys → cond b 0 (suc (place same x ys)) ≤ suc (length ys)
-      go true h = omega arith
-      go false h = omega arith
-
   pub kept-found : (l : List A) → place same x l < length l → kept same x l ≡ l
   unfolding place kept
   kept-found [] h = absurd (not-suc-le-zero h)
@@ -65,7 +55,7 @@ module _ {A : Type 0} (same : A → A → Bool) (x d : A) (l : List A) (n : ℕ)
       sym
       (place-none same x d l (λ j h. ap (λ (y : A). same y x) (at j (omega arith)) ∙ none j (omega arith)) ∙ long)
 
--- of n rows, and of the first w words
+-- of n rows
 module _ (r d : Row) (n : ℕ) (g : ℕ → Row) where
   pub row-found :
       (i : ℕ)
@@ -77,18 +67,6 @@ module _ (r d : Row) (n : ℕ) (g : ℕ → Row) where
 
   pub row-none : ((j : ℕ) → j < n → same-row (g j) r ≡ false) → n ≡ place same-row r (upto n g)
   row-none = scan-none same-row r d (upto n g) n g (length-upto n g) (λ j h. getD-upto n g j d h)
-
-module _ (v w : ℕ) (o : List ℕ) (room : w ≤ length o) where
-  pub twin-found :
-      (i : ℕ) → i < w → ((j : ℕ) → j < i → getD o j 0 ≡ v → ⊥) → getD o i 0 ≡ v → i ≡ place eqb v (take w o)
-  twin-found i h before e =
-      scan-found eqb v 0 (take w o) w (λ j. getD o j 0) (length-take-le w o room) (λ j k. getD-take w o j 0 k) i h
-      (λ j k. ne-eqb (getD o j 0) v (before j k)) (eq-eqb (getD o i 0) v e)
-
-  pub twin-none : ((j : ℕ) → j < w → getD o j 0 ≡ v → ⊥) → w ≡ place eqb v (take w o)
-  twin-none none =
-      scan-none eqb v 0 (take w o) w (λ j. getD o j 0) (length-take-le w o room) (λ j k. getD-take w o j 0 k)
-      (λ j k. ne-eqb (getD o j 0) v (none j k))
 
 -- A row is compared word by word.
 module _ (t r : Row) where

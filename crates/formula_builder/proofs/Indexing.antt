@@ -6,7 +6,7 @@ use native.Mathlib.Decide.{ℕ-discrete}
 use mathlib.Core.Path.{_≡_, refl, sym, ap, _∙_}
 use mathlib.Core.Bool.{Bool, true, false, true≢false}
 use mathlib.Core.List.{List, [], _∷_, _++_}
-use lib.ListN.{length, getD, length-set}
+use lib.ListN.{length, getD, set, length-set}
 use lib.Seq.{getD-set-same, getD-set-other}
 use Rattle.task.specs.Bounded.{upto}
 use Rattle.task.specs.Table.{Row, row-at}
@@ -81,7 +81,7 @@ module _ (most n : ℕ) (t : List ℕ) (r : Row) (p : ℕ) (few : n < most) (roo
         b = getD-set-other (three t n r) p (3 * k + 2) (n + 1) 0 (omega (arith, f .low)) i;
       }
 
-  before : (k : ℕ) → k < n → row-at (appended t n r p) k ≡ row-at t k
+  pub before : (k : ℕ) → k < n → row-at (appended t n r p) k ≡ row-at t k
   before k h = row-kept k (omega arith) ∙ three-before t n r k h
 
   at-end : row-at (appended t n r p) n ≡ r
@@ -96,7 +96,7 @@ module _ (most n : ℕ) (t : List ℕ) (r : Row) (p : ℕ) (few : n < most) (roo
   own : getD (appended t n r p) p 0 ≡ n + 1
   own = getD-set-same (three t n r) p (n + 1) 0 (omega (arith, f .high, length-three t n r))
 
-  other : (w : ℕ) → 3 * most ≤ w → (w ≡ p → ⊥) → getD (appended t n r p) w 0 ≡ getD t w 0
+  pub other : (w : ℕ) → 3 * most ≤ w → (w ≡ p → ⊥) → getD (appended t n r p) w 0 ≡ getD t w 0
   other w h d =
       getD-set-other (three t n r) p w (n + 1) 0 d
       ∙ three-other t n r w (omega arith) (omega arith) (omega arith)
@@ -171,6 +171,66 @@ module _ (most n : ℕ) (t : List ℕ) (r : Row) (p : ℕ) (few : n < most) (roo
 
       pub appended-indexed : Indexed most (n + 1) (appended t n r p)
       appended-indexed = record { trees = its-trees; reached = its-reached; apart = its-apart }
+
+-- A word behind the index, set to name one of the n rows: rows and index are as they were.
+module _ {most n : ℕ} {t : List ℕ} (x : Indexed most n t) (some : 0 < most) (few : n ≤ most) (p k : ℕ) (far : 9 * most ≤ p) where
+  aside : (w : ℕ) → w < 9 * most → getD (set t p (k + 1)) w 0 ≡ getD t w 0
+  aside w h = getD-set-other t p w (k + 1) 0 (omega arith)
+
+  pub row-aside : (i : ℕ) → i < n → row-at (set t p (k + 1)) i ≡ row-at t i
+  unfolding row-at
+  row-aside i h =
+      λ j.
+      record {
+        kind = aside (3 * i) (omega arith) j;
+        a = aside (3 * i + 1) (omega arith) j;
+        b = aside (3 * i + 2) (omega arith) j;
+      }
+
+  leads-high : (q w bits : ℕ) → 3 * most ≤ w → w < 9 * most → Leads most t q w bits → q < 9 * most
+  leads-high q w bits l h (here _ _ e) = omega arith
+  leads-high q w bits l h (onward _ _ i e m) =
+      let below = x .trees .within w i l e in
+      leads-high q (link-word most i bits) (bits / 2) (omega arith) (omega arith) m
+
+  leads-aside : (q w bits : ℕ) → 3 * most ≤ w → w < 9 * most → Leads most t q w bits → Leads most (set t p (k + 1)) q w bits
+  leads-aside q w bits l h (here _ _ e) = here w bits e
+  leads-aside q w bits l h (onward _ _ i e m) =
+      let below = x .trees .within w i l e in
+      onward w bits i (aside w h ∙ e) (leads-aside q (link-word most i bits) (bits / 2) (omega arith) (omega arith) m)
+
+  module _ (room : p < length t) (stands : k < n) where
+    aside-reached : (i : ℕ) → i < n → Reached most (set t p (k + 1)) i
+    aside-reached i h =
+        let old = x .reached i h in
+        let low = head-small most (key-of (row-at t i)) some in
+        rw (row-aside i h)
+        (record {
+          word = old .word;
+          leads = leads-aside (old .word) (head-word most (row-at t i)) (key-of (row-at t i)) (omega arith) (omega arith) (old .leads);
+          names =
+              aside (old .word)
+              (leads-high (old .word) (head-word most (row-at t i)) (key-of (row-at t i)) (omega arith) (omega arith) (old .leads))
+              ∙ old .names;
+        })
+
+    pub aside-indexed : Indexed most n (set t p (k + 1))
+    aside-indexed =
+        record {
+          trees =
+              record {
+                within = λ w i h e. within w i h e (ℕ-discrete w p);
+                later = λ i b j h l e. x .trees .later i b j h l (sym (aside (3 * most + 2 * i + b) (omega arith)) ∙ e);
+              };
+          reached = aside-reached;
+          apart = λ i j h l e.
+              x .apart i j h l (sym (row-aside i (omega arith)) ∙ e ∙ row-aside j (omega arith));
+        }
+      where
+        within : (w i : ℕ) → 3 * most ≤ w → getD (set t p (k + 1)) w 0 ≡ suc i → Dec (w ≡ p) → i < n
+        within w i h e (yes q) =
+            omega (arith, sym e ∙ ap (λ (v : ℕ). getD (set t p (k + 1)) v 0) q ∙ getD-set-same t p (k + 1) 0 room)
+        within w i h e (no d) = x .trees .within w i h (sym (getD-set-other t p w (k + 1) 0 d) ∙ e)
 
 -- The walk for r is at word p, which names s, with these bits left: what it comes to from there, it comes to from the head, and a row that is r
 -- and is reached is still ahead.
@@ -264,19 +324,24 @@ module _ (most : ℕ) (t : List ℕ) (r : Row) (x : Searchable most t) where
           missing = λ q i c same. comes-split (w .names) (λ k. omega arith) (w .ahead i c same) ⊥ (λ j k _. omega arith);
         }
 
--- What is found is the place of find-or-append.
+-- A row that stands is at the place of find-or-append.
+pub stands-place :
+    {most n : ℕ} {t : List ℕ} (x : Indexed most n t) (r : Row) (i : ℕ)
+    → i < n
+    → row-at t i ≡ r
+    → i ≡ place same-row r (upto n (row-at t))
+stands-place {most} {n} {t} x r i below e =
+    row-found r no-row n (row-at t) i below (λ j h. first j h (same-row (row-at t j) r) refl)
+    (ap (λ (k : Row). same-row k r) e ∙ same-row-itself r)
+  where
+    first : (j : ℕ) → j < i → (b : Bool) → same-row (row-at t j) r ≡ b → same-row (row-at t j) r ≡ false
+    first j h false q = q
+    first j h true q = absurd (x .apart j i h below (same-row-alike (row-at t j) r q ∙ sym e))
+
+-- What is found stands; what is not found has its place behind the rows.
 module _ {most n : ℕ} {t : List ℕ} {r : Row} {p : ℕ} (x : Indexed most n t) (f : Found most t r p) where
   pub found-below : (i : ℕ) → getD t p 0 ≡ suc i → i < n
   found-below i e = x .trees .within p i (f .low) e
-
-  pub found-place : (i : ℕ) → getD t p 0 ≡ suc i → i ≡ place same-row r (upto n (row-at t))
-  found-place i e =
-      row-found r no-row n (row-at t) i (found-below i e) (λ j h. first j h (same-row (row-at t j) r) refl)
-      (ap (λ (k : Row). same-row k r) (f .stands i e) ∙ same-row-itself r)
-    where
-      first : (j : ℕ) → j < i → (b : Bool) → same-row (row-at t j) r ≡ b → same-row (row-at t j) r ≡ false
-      first j h false q = q
-      first j h true q = absurd (x .apart j i h (found-below i e) (same-row-alike (row-at t j) r q ∙ sym (f .stands i e)))
 
   pub missing-place : getD t p 0 ≡ 0 → n ≡ place same-row r (upto n (row-at t))
   missing-place e = row-none r no-row n (row-at t) (λ j h. none j h (same-row (row-at t j) r) refl)
@@ -324,12 +389,18 @@ module _ {most : ℕ} {t : List ℕ} (e : Empty most t) where
               let same : _≡_ {A = ℕ} 0 1 = ap (λ (r : Row). r .kind) both in
               absurd (omega arith)
 
-      pub first-two : FirstTwo most (appended (appended t 0 false-row p) 1 true-row q)
+      pub first-two : FirstTwo most t (appended (appended t 0 false-row p) 1 true-row q)
       first-two =
           record {
-            room = omega (arith, one-room, length-appended most 1 (appended t 0 false-row p) true-row q (e .two) one-room g);
+            long =
+                length-appended most 1 (appended t 0 false-row p) true-row q (e .two) one-room g
+                ∙ length-appended most 0 t false-row p few (e .room) f;
             rows = stand;
             index = appended-indexed most 1 (appended t 0 false-row p) true-row q (e .two) one-room g free one-indexed;
+            past = λ j h.
+                other most 1 (appended t 0 false-row p) true-row q (e .two) one-room g j (omega arith) (omega (arith, g .high))
+                ∙ other most 0 t false-row p few (e .room) f j (omega arith) (omega (arith, f .high))
+                ∙ e .blank j;
           }
         where
           none : upto 0 (row-at t) ++ (false-row ∷ []) ≡ false-row ∷ []

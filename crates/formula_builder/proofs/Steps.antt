@@ -1,27 +1,24 @@
 -- Steps of the code are steps of the definitions. Assumes nothing.
-use Prim.Native.Nat.{ℕ, suc, _+_, _≤_, _<_}
+use Prim.Native.Nat.{ℕ, _+_, _≤_, _<_}
 use native.Mathlib.Omega.{arith}
 use mathlib.Core.Path.{_≡_, refl, sym, ap, ap₂, _∙_}
 use mathlib.Core.Bool.{Bool, true, false, true≢false}
 use mathlib.Core.List.{List, [], _∷_, _++_}
-use lib.ListN.{length, getD, take, set, length-append, length-set}
-use lib.Seq.{length-take-le}
+use lib.ListN.{length, getD, take, set, length-append}
 use lib.Dec.{eqb}
 use Rattle.task.specs.Bounded.{upto}
 use Rattle.task.specs.Table.{Row, row-at}
 use Rattle.task.proofs.Bounded.{length-upto}
-use Rattle.normal_form.specs.Builder.{St, Got, Build, give, bind, place, kept, same-row, row, twin, variable-row, twin-row, Polarity, plain, negated, falsity, truth, join-kind, choice, joined, join}
+use Rattle.normal_form.specs.Builder.{St, Got, Build, give, bind, place, kept, same-row, row, Polarity, plain, negated, falsity, truth, join-kind, choice, joined, join}
 use Rattle.normal_form.specs.Growth.{Prefix, Grows, Steady}
-use Rattle.normal_form.proofs.Growth.{steady-variable-row}
 use borrow.Author.Tests.{eqb-true, eqb-false, eq-eqb, ne-eqb}
 use Rattle.formula_builder.specs.declared.Frame.{Frame}
 use Rattle.formula_builder.specs.declared.Size.{Size}
 use Rattle.formula_builder.specs.declared.Step.{Step}
 use Rattle.formula_builder.specs.Index.{Searchable, Found, appended, Put, stood, no-room, behind, rows-after}
-use Rattle.formula_builder.specs.Held.{Store, store, held, size-of, sized, stepped, done-step, RowsReady, Ready, Within, Done, Builds}
-use Rattle.formula_builder.proofs.Found.{place-bound, kept-found, kept-none}
-use Rattle.formula_builder.proofs.Stored.{one-more, one-past}
-use Rattle.formula_builder.proofs.Indexing.{searchable, length-appended, appended-rows, appended-indexed, found-below, found-place, missing-place}
+use Rattle.formula_builder.specs.Held.{Store, store, held, size-of, sized, stepped, done-step, RowsReady, twin-word, Ready, Within, Done, Builds}
+use Rattle.formula_builder.proofs.Found.{kept-found, kept-none}
+use Rattle.formula_builder.proofs.Indexing.{searchable, length-appended, before, other, appended-rows, appended-indexed, stands-place, found-below, missing-place}
 
 abbrev pub full-step : Size → Step
 full-step at = record { rows = at .rows; twins = at .twins; row = 65535; full = true }
@@ -109,25 +106,29 @@ builds-stop {m} {frame} {at} {before} f steady b e =
 pub rows-searchable : {most stand : ℕ} {table : List ℕ} → RowsReady most stand table → Searchable most table
 rows-searchable ready = searchable (ready .some) (ready .limit) (ready .room) (ready .within) (ready .index)
 
+-- A row that stands.
+pub row-stands :
+    (frame : Frame) (at : Size) (table o : List ℕ) (ready : Ready frame at (store table o)) (r : Row) (i : ℕ)
+    → i < at .rows
+    → row-at table i ≡ r
+    → Builds (row r) frame at (store table o) (store table o) (done-step at i)
+unfolding row held
+row-stands frame at table o ready r i h e =
+    let l = upto (at .rows) (row-at table) in
+    let its = stands-place (ready .rows .index) r i h e in
+    let found : kept same-row r l ≡ l =
+    kept-found same-row r l (omega (arith, length-upto (at .rows) (row-at table), h, its)) in
+    builds-done refl
+    (record {
+      value = sym its;
+      state = λ j. record { rows = found j; twins = take (at .twins) o };
+      ready = ready;
+      below = h;
+      grew = omega arith;
+    })
+
 -- A row: p is the word where the walk for it ends.
 module _ (frame : Frame) (at : Size) (table o : List ℕ) (ready : Ready frame at (store table o)) (r : Row) (p : ℕ) (f : Found (frame .rows) table r p) where
-  pub row-stands : (i : ℕ) → getD table p 0 ≡ suc i → Builds (row r) frame at (store table o) (store table o) (done-step at i)
-  unfolding row held
-  row-stands i e =
-      let l = upto (at .rows) (row-at table) in
-      let h = found-below (ready .rows .index) f i e in
-      let its = found-place (ready .rows .index) f i e in
-      let found : kept same-row r l ≡ l =
-      kept-found same-row r l (omega (arith, length-upto (at .rows) (row-at table), h, its)) in
-      builds-done refl
-      (record {
-        value = sym its;
-        state = λ j. record { rows = found j; twins = take (at .twins) o };
-        ready = ready;
-        below = h;
-        grew = omega arith;
-      })
-
   module _ (free : getD table p 0 ≡ 0) where
     its-place : at .rows ≡ place same-row r (upto (at .rows) (row-at table))
     its-place = missing-place (ready .rows .index) f free
@@ -153,6 +154,9 @@ module _ (frame : Frame) (at : Size) (table o : List ℕ) (ready : Ready frame a
         let l = upto (at .rows) (row-at table) in
         let x = ready .rows in
         let few : at .rows < frame .rows = omega arith in
+        let long = length-appended (frame .rows) (at .rows) table r p few (x .room) f in
+        let word : (v : ℕ) → getD (appended table (at .rows) r p) (twin-word frame v) 0 ≡ getD table (twin-word frame v) 0 =
+        λ v. other (frame .rows) (at .rows) table r p few (x .room) f (twin-word frame v) (omega arith) (omega (arith, f .high)) in
         let whole : kept same-row r l ≡ upto (at .rows + 1) (row-at (appended table (at .rows) r p)) =
         added ∙ sym (appended-rows (frame .rows) (at .rows) table r p few (x .room) f) in
         builds-done refl
@@ -166,7 +170,7 @@ module _ (frame : Frame) (at : Size) (table o : List ℕ) (ready : Ready frame a
                       within = omega arith;
                       some = x .some;
                       limit = x .limit;
-                      room = omega (arith, x .room, length-appended (frame .rows) (at .rows) table r p few (x .room) f);
+                      room = omega (arith, x .room, long);
                       index = appended-indexed (frame .rows) (at .rows) table r p few (x .room) f free (x .index);
                     };
                 two = omega (arith, ready .two);
@@ -174,6 +178,15 @@ module _ (frame : Frame) (at : Size) (table o : List ℕ) (ready : Ready frame a
                 originals = ready .originals;
                 variables = ready .variables;
                 past-twins = ready .past-twins;
+                named =
+                    record {
+                      room = omega (arith, ready .named .room, long);
+                      stands = λ v i h e.
+                          let named = ready .named .stands v i h (sym (word v) ∙ e) in
+                          let below = x .index .trees .within (twin-word frame v) i (omega arith) (sym (word v) ∙ e) in
+                          (named .0, before (frame .rows) (at .rows) table r p few (x .room) f i below ∙ named .1);
+                      missing = λ v h e. ready .named .missing v h (sym (word v) ∙ e);
+                    };
               };
           below = omega arith;
           grew = omega arith;
@@ -200,7 +213,7 @@ module _ (frame : Frame) (at : Size) (table o : List ℕ) (ready : Ready frame a
       (record { rows = rows-after (at .rows) k; twins = at .twins; row = k; full = false })
   put-done (stood p f e same) room =
       rw (same, ne-eqb k (at .rows) (λ h. omega (arith, found-below (ready .rows .index) f k e)))
-      (row-stands frame at table o ready r p f k e)
+      (row-stands frame at table o ready r k (found-below (ready .rows .index) f k e) (f .stands k e))
   put-done (no-room p f free all same its) room = absurd (room its)
   put-done (behind p f free some same its) room =
       rw (same, its, eq-eqb (at .rows) (at .rows) refl) (row-appended frame at table o ready r p f free some)
@@ -237,76 +250,6 @@ unfolding give
 builds-stands x ready h =
     builds-done (ne-eqb x 65535 (λ e. omega (arith, ready .rows .within, ready .rows .limit)))
     (record { value = refl; state = refl; ready = ready; below = h; grew = omega arith })
-
-abbrev pub one-twin : Size → Size
-one-twin at = record { rows = at .rows; twins = at .twins + 1 }
-
--- The row of v's twin: k is where the twin stands.
-module _ (frame : Frame) (at : Size) (table o : List ℕ) (ready : Ready frame at (store table o)) (v k : ℕ) (e : k ≡ place eqb v (take (at .twins) o)) where
-  stands-long : length (take (at .twins) o) ≡ at .twins
-  stands-long = length-take-le (at .twins) o (omega (arith, ready .twins, ready .originals))
-
-  -- the twin's variable is below 512
-  pub twin-small : at .twins ≤ frame .twins → k ≤ at .twins
-  twin-small h = omega (arith, place-bound eqb v (take (at .twins) o), stands-long)
-
-  pub twin-stands :
-      {after : Store} {s : Step}
-      → k < at .twins
-      → Builds (variable-row (frame .variables + k)) frame at (store table o) after s
-      → Builds (twin-row (frame .variables) v) frame at (store table o) after s
-  unfolding twin-row bind twin held
-  twin-stands h b =
-      let l = take (at .twins) o in
-      let found : kept eqb v l ≡ l = kept-found eqb v l (omega (arith, stands-long)) in
-      let back : place eqb v l ≡ k = sym e in
-      builds-from
-      (λ j. variable-row (frame .variables + back j) (record { rows = upto (at .rows) (row-at table); twins = found j }))
-      (omega arith) b
-
-  met : at .twins ≤ k → kept eqb v (take (at .twins) o) ≡ take (at .twins) o ++ (v ∷ [])
-  met h = kept-none eqb v (take (at .twins) o) (omega (arith, stands-long))
-
-  pub twin-full :
-      at .twins ≤ k
-      → at .twins ≡ frame .twins
-      → Builds (twin-row (frame .variables) v) frame at (store table o) (store table o) (full-step at)
-  unfolding twin-row twin held
-  twin-full h full =
-      let l = take (at .twins) o in
-      builds-over refl
-      (bind-over (twin v) (λ k. variable-row (frame .variables + k)) frame (held at (store table o))
-      (λ x. steady-variable-row (frame .variables + x))
-      (λ w. omega (arith, w .twins, ap (λ (x : List ℕ). length x) (met h), length-append l (v ∷ []), stands-long)))
-
-  pub twin-ready : (at .twins ≡ frame .twins → ⊥) → Ready frame (one-twin at) (store table (set o (at .twins) v))
-  twin-ready room =
-      let t = ready .twins in
-      record {
-        rows = ready .rows;
-        two = ready .two;
-        twins = omega arith;
-        originals = omega (arith, length-set o (at .twins) v, ready .originals);
-        variables = ready .variables;
-        past-twins = one-past o (at .twins) v (ready .past-twins);
-      }
-
-  pub twin-appended :
-      {after : Store} {s : Step}
-      → at .twins ≤ k
-      → (at .twins ≡ frame .twins → ⊥)
-      → Builds (variable-row (frame .variables + k)) frame (one-twin at) (store table (set o (at .twins) v)) after s
-      → Builds (twin-row (frame .variables) v) frame at (store table o) after s
-  unfolding twin-row bind twin held
-  twin-appended h room b =
-      let l = take (at .twins) o in
-      let t = ready .twins in
-      let whole : kept eqb v l ≡ take (at .twins + 1) (set o (at .twins) v) =
-      met h ∙ sym (one-more o (at .twins) v (omega (arith, ready .originals))) in
-      let back : place eqb v l ≡ k = sym e in
-      builds-from
-      (λ j. variable-row (frame .variables + back j) (record { rows = upto (at .rows) (row-at table); twins = whole j }))
-      (omega arith) b
 
 -- How a join comes out.
 module _ (p : Polarity) (a b : ℕ) where

@@ -1,5 +1,5 @@
 -- What lent tables hold of a builder's state, and what a step of the code answers: what the definition gives, or that it does not fit.
-use Prim.Native.Nat.{ℕ, _+_, _*_, _≤_, _<_}
+use Prim.Native.Nat.{ℕ, suc, _+_, _*_, _≤_, _<_}
 use mathlib.Core.Path.{_≡_}
 use mathlib.Core.Bool.{Bool, true, false}
 use mathlib.Core.List.{List}
@@ -7,7 +7,7 @@ use lib.ListN.{length, getD, take}
 use lib.Dec.{eqb}
 use Rattle.task.specs.Bounded.{upto}
 use Rattle.task.specs.Table.{Row, row-at}
-use Rattle.normal_form.specs.Builder.{St, Build, Polarity, plain, negated}
+use Rattle.normal_form.specs.Builder.{St, Build, place, Polarity, plain, negated}
 use Rattle.formula_builder.specs.Index.{Indexed}
 use Rattle.formula_builder.specs.declared.Words.{Words}
 use Rattle.formula_builder.specs.declared.Frame.{Frame}
@@ -68,7 +68,30 @@ pub record JoinReady (most stand : ℕ) (table : List ℕ) (a b : ℕ) : Type 0 
   pub left : a < stand
   pub right : b < stand
 
--- Both tables are ready: false and true stand, and behind the twins all words are 0.
+-- the row of a variable
+abbrev pub variable-of : ℕ → Row
+variable-of v = record { kind = 2; a = v; b = 0 }
+
+-- the word of a variable, behind the index
+abbrev pub twin-word : Frame → ℕ → ℕ
+twin-word frame v = 9 * frame .rows + v
+
+-- where the twin of a variable stands among the twins that are held; behind them, if it has none
+abbrev pub twin-place : Size → Store → ℕ → ℕ
+twin-place at s v = place eqb v (take (at .twins) (s .originals))
+
+-- The word of each variable names the row of its twin, by its number and 1; 0 says that it has no twin.
+pub record TwinsNamed (frame : Frame) (at : Size) (s : Store) : Type 0 where
+  pub room : 9 * frame .rows + frame .variables ≤ length (s .table)
+  pub stands :
+      (v r : ℕ)
+      → v < frame .variables
+      → getD (s .table) (twin-word frame v) 0 ≡ suc r
+      → (twin-place at s v < at .twins) × (row-at (s .table) r ≡ variable-of (frame .variables + twin-place at s v))
+  pub missing :
+      (v : ℕ) → v < frame .variables → getD (s .table) (twin-word frame v) 0 ≡ 0 → twin-place at s v ≡ at .twins
+
+-- Both tables are ready: false and true stand, the twins' rows are named, and behind the twins all words are 0.
 pub record Ready (frame : Frame) (at : Size) (s : Store) : Type 0 where
   pub rows : RowsReady (frame .rows) (at .rows) (s .table)
   pub two : 2 ≤ at .rows
@@ -76,6 +99,7 @@ pub record Ready (frame : Frame) (at : Size) (s : Store) : Type 0 where
   pub originals : frame .twins ≤ length (s .originals)
   pub variables : frame .variables + frame .twins ≤ 512
   pub past-twins : (j : ℕ) → at .twins ≤ j → getD (s .originals) j 0 ≡ 0
+  pub named : TwinsNamed frame at s
 
 -- A state within the frame.
 pub record Within (frame : Frame) (s : St) : Type 0 where

@@ -99,8 +99,9 @@ pub record Empty (most : ℕ) (t : List ℕ) : Type 0 where
   pub room : 9 * most ≤ length t
   pub blank : (j : ℕ) → getD t j 0 ≡ 0
 
--- False and true stand in it, and are found.
-pub record FirstTwo (most : ℕ) (t : List ℕ) : Type 0 where
-  pub room : 9 * most ≤ length t
+-- False and true stand in it, and are found; behind the index nothing stands.
+pub record FirstTwo (most : ℕ) (before t : List ℕ) : Type 0 where
+  pub long : length t ≡ length before
   pub rows : upto 2 (row-at t) ≡ start .rows
   pub index : Indexed most 2 t
+  pub past : (j : ℕ) → 9 * most ≤ j → getD t j 0 ≡ 0

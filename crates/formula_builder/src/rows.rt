@@ -86,7 +86,7 @@ fn append_row(table: &mut [u16], n: usize, r: Words, p: usize)
 // False and true, the first two rows.
 pub fn first_rows(table: &mut [u16], most: usize)
     requires { ⌜ Empty most (now table) ⌝ }
-    ensures { λ _. ⌜ FirstTwo most (now (table .exit)) ⌝ }
+    ensures { λ _. ⌜ FirstTwo most (now (table .entry)) (now (table .exit)) ⌝ }
 {
     let f = Words {
         kind: 0,

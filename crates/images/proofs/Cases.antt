@@ -16,7 +16,7 @@ use Rattle.formula_builder.specs.declared.Step.{Step}
 use Rattle.formula_builder.specs.Held.{Store, row-of, size-of, side, stepped, Ready, JoinReady, Builds}
 use Rattle.formula_builder.proofs.Steps.{builds-stands}
 use Rattle.images.specs.Images.{image-at, keeps, first-at, pair-at, memo-place, is-row, Notes, Asks, AsksPair, AsksEquivalent, AsksRow, AsksUp, LeafReady, Images, Kept, Reaches}
-use Rattle.images.proofs.Rows.{operands, negated-operand, unused-word, first-none, first-own, first-other}
+use Rattle.images.proofs.Rows.{operands, negated-operand, variable-words, first-none, first-own, first-other}
 use Rattle.images.proofs.Memos.{images-as, asks-next, images-leaf, images-known}
 
 -- what a join of two rows asks
@@ -169,7 +169,9 @@ module _ (frame : Frame) (formulas scratch : List ℕ) (j : ℕ) (a : AsksRow fr
       record {
         ready = r;
         kind = h;
-        unused = λ k. b-read ∙ unused-word frame formulas scratch (a .source) j (a .formula) (sym kind-read ∙ k);
+        unused = λ k. b-read ∙ variable-words frame formulas scratch (a .source) j (a .formula) (sym kind-read ∙ k) .1;
+        variable = λ k.
+            omega (arith, a-read, variable-words frame formulas scratch (a .source) j (a .formula) (sym kind-read ∙ k) .0);
       }
 
   pub asks-pair :

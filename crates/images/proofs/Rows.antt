@@ -205,13 +205,13 @@ module _ (frame : Frame) (formulas scratch : List ℕ) (source : Source frame fo
       rw e at rule-held in
       r .0
 
-  -- the last word of a variable's row is not used
-  pub unused-word : row-at formulas i .kind ≡ 2 → row-at formulas i .b ≡ 0
+  -- of a variable's row the first word is a variable, and the last is not used
+  pub variable-words : row-at formulas i .kind ≡ 2 → (row-at formulas i .a < frame .variables) × (row-at formulas i .b ≡ 0)
   unfolding formula-kind
-  unused-word e =
+  variable-words e =
       let r : FormulaRule (frame .variables) i (formula-kind 2) (row-at formulas i .a) (row-at formulas i .b) =
       rw e at rule-held in
-      r .1
+      (r .0, r .1)
 
   module _ (p : Polarity) where
     node : Build ℕ

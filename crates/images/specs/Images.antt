@@ -173,6 +173,7 @@ pub record LeafReady (frame : Frame) (at : Size) (s : Store) (w : Row) : Type 0 
   pub ready : Ready frame at s
   pub kind : w .kind < 3
   pub unused : w .kind ≡ 2 → w .b ≡ 0
+  pub variable : w .kind ≡ 2 → w .a < frame .variables
 
 -- for row j, of whose first operand the step is l
 pub record AsksUp (frame : Frame) (formulas : List ℕ) (before : Store) (scratch : List ℕ) (j : ℕ) (l : Step) : Type 0 where

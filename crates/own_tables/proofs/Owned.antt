@@ -31,7 +31,7 @@ module _ {l : Lent} {rows twins effects : ℕ} {x : Tables} where
       (notes built : ℕ)
       → Begins l rows twins effects x
       → sets-end (frame-of (l .head) rows twins) + l .head .effects ≤ notes
-      → 9 * rows ≤ built
+      → 9 * rows + l .head .variables ≤ built
       → Owns l rows twins effects x (replicate notes 0) (replicate built 0) (replicate 6912 0)
   owns notes built b n h =
       record {
@@ -47,18 +47,22 @@ module _ {l : Lent} {rows twins effects : ℕ} {x : Tables} where
         space = omega (arith, length-replicate {A = ℕ} 6912 0);
       }
 
+  -- the largest table does for every task
+  large : Begins l rows twins effects x → 9 * rows + l .head .variables ≤ 37376
+  large b = omega (arith, b .lends .rows-limit, few-variables l (b .lends .passes))
+
   pub owns-many :
       Begins l rows twins effects x
-      → Owns l rows twins effects x (replicate 610304 0) (replicate 36864 0) (replicate 6912 0)
+      → Owns l rows twins effects x (replicate 610304 0) (replicate 37376 0) (replicate 6912 0)
   owns-many b =
       let room =
       sets-room l rows twins 64 4096 (omega (arith, few-variables l (b .lends .passes))) (few-effects l (b .lends .passes)) in
-      owns 610304 36864 b (omega (arith, room)) (omega (arith, b .lends .rows-limit))
+      owns 610304 37376 b (omega (arith, room)) (large b)
 
   pub owns-few :
       BeginsFew l rows twins effects x
-      → Owns l rows twins effects x (replicate 163840 0) (replicate 36864 0) (replicate 6912 0)
-  owns-few b = owns 163840 36864 (b .begins) (go (decLt 96 (l .head .variables))) (omega (arith, b .begins .lends .rows-limit))
+      → Owns l rows twins effects x (replicate 163840 0) (replicate 37376 0) (replicate 6912 0)
+  owns-few b = owns 163840 37376 (b .begins) (go (decLt 96 (l .head .variables))) (large (b .begins))
     where
       go : Dec (96 < l .head .variables) → sets-end (frame-of (l .head) rows twins) + l .head .effects ≤ 163840
       go (yes h) =
@@ -70,10 +74,10 @@ module _ {l : Lent} {rows twins effects : ℕ} {x : Tables} where
 
   pub owns-small :
       BeginsSmall l rows twins effects x
-      → Owns l rows twins effects x (replicate 14336 0) (replicate 4608 0) (replicate 6912 0)
+      → Owns l rows twins effects x (replicate 14336 0) (replicate 4736 0) (replicate 6912 0)
   owns-small b =
       let room = sets-room l rows twins 16 512 (omega (arith, b .few-variables)) (b .few-effects) in
-      owns 14336 4608 (b .begins) (omega (arith, room)) (omega (arith, b .few-rows))
+      owns 14336 4736 (b .begins) (omega (arith, room)) (omega (arith, b .few-rows, b .few-variables))
 
   -- a choice that leaves few
   pub few-chosen :

@@ -9,7 +9,7 @@ ghost use Rattle.lent_tables.specs.Fills.{tables, Fills};
 ghost use Rattle.filling.specs.Begins.{Begins};
 ghost use Rattle.own_tables.specs.Few.{Few, BeginsSmall, BeginsFew};
 
-// The first has the words of 4,096 rows, two links and four heads for each: 72 KiB, cleared. The second has three words for
+// The first has the words of 4,096 rows, two links and four heads for each, and a word for each of 512 variables: 73 KiB, cleared. The second has three words for
 // each of 256 operators and 2,048 changes: 13.5 KiB, cleared. The third has for each of 4,096 effects four words, a set of two bits for each of
 // 512 variables and a word of the path, and for each of 320 columns, of which the first is not used, two words for each variable: 1.2 MiB, cleared; fewer
 // variables have more columns.
@@ -33,7 +33,7 @@ fn fill_many(
     requires { ⌜ Begins (lent head (now initial) (now twins) (now formulas) (now effects) (now operators)) rows most room (tables (now values) (now originals) (now table) (now out) (now written) (now scratch)) ⌝ }
     ensures { λ r. ⌜ Fills (lent head (now (initial .entry)) (now (twins .entry)) (now (formulas .entry)) (now (effects .entry)) (now (operators .entry))) (tables (now (values .entry)) (now (originals .entry)) (now (table .entry)) (now (out .entry)) (now (written .entry)) (now (scratch .entry))) (tables (now (values .exit)) (now (originals .exit)) (now (table .exit)) (now (out .exit)) (now (written .exit)) (now (scratch .exit))) r ⌝ }
 {
-    let mut built = [0u16; 36864];
+    let mut built = [0u16; 37376];
     let mut records = [0u16; 6912];
     let mut notes = [0u16; 610304];
     fill_noted(
@@ -79,7 +79,7 @@ fn fill_few(
     requires { ⌜ BeginsFew (lent head (now initial) (now twins) (now formulas) (now effects) (now operators)) rows most room (tables (now values) (now originals) (now table) (now out) (now written) (now scratch)) ⌝ }
     ensures { λ r. ⌜ Fills (lent head (now (initial .entry)) (now (twins .entry)) (now (formulas .entry)) (now (effects .entry)) (now (operators .entry))) (tables (now (values .entry)) (now (originals .entry)) (now (table .entry)) (now (out .entry)) (now (written .entry)) (now (scratch .entry))) (tables (now (values .exit)) (now (originals .exit)) (now (table .exit)) (now (out .exit)) (now (written .exit)) (now (scratch .exit))) r ⌝ }
 {
-    let mut built = [0u16; 36864];
+    let mut built = [0u16; 37376];
     let mut records = [0u16; 6912];
     let mut notes = [0u16; 163840];
     fill_noted(
@@ -173,7 +173,7 @@ pub fn fill(
     )
 }
 
-// The same for at most 512 rows, 512 effects and 128 variables: 9 KiB, 13.5 KiB and 28 KiB, cleared.
+// The same for at most 512 rows, 512 effects and 128 variables: 9.3 KiB, 13.5 KiB and 28 KiB, cleared.
 pub fn fill_small(
     head: Head,
     initial: &[u8],
@@ -194,7 +194,7 @@ pub fn fill_small(
     requires { ⌜ BeginsSmall (lent head (now initial) (now twins) (now formulas) (now effects) (now operators)) rows most room (tables (now values) (now originals) (now table) (now out) (now written) (now scratch)) ⌝ }
     ensures { λ r. ⌜ Fills (lent head (now (initial .entry)) (now (twins .entry)) (now (formulas .entry)) (now (effects .entry)) (now (operators .entry))) (tables (now (values .entry)) (now (originals .entry)) (now (table .entry)) (now (out .entry)) (now (written .entry)) (now (scratch .entry))) (tables (now (values .exit)) (now (originals .exit)) (now (table .exit)) (now (out .exit)) (now (written .exit)) (now (scratch .exit))) r ⌝ }
 {
-    let mut built = [0u16; 4608];
+    let mut built = [0u16; 4736];
     let mut records = [0u16; 6912];
     let mut notes = [0u16; 14336];
     fill_noted(

@@ -12,7 +12,7 @@ use Rattle.images.proofs.Rising.{leaf-twin, leaf-copied, leaf-constant}
 use Rattle.formula_builder.specs.Held.{framed}
 
 twin-row-requires : tie.Need-twin-row-requires
-twin-row-requires c κs = search needs
+twin-row-requires c κs = (c .before .before .before .before .before .before .before .before .before .pre .ready, c .before .before .before .before .before .before .before .before .before .pre .variable (c .before .before .before .before .before .if1 .taken))
 
 same-length : tie.Need-same-length
 same-length c = search needs
