@@ -88,7 +88,7 @@ behind a b = omega arith
 
 place-behind : (frame : Frame) (c : ℕ) (t : Target) → sets-end frame ≤ kept-place frame c t
 unfolding kept-place
-place-behind frame c t = behind (sets-end frame) (c * (width frame * frame .variables) + (width frame * t .variable + part t))
+place-behind frame c t = behind (sets-end frame) (c * (width (frame .variables) * frame .variables) + (width (frame .variables) * t .variable + part t))
 
 -- the conditions that are kept stay right while their words and the columns stay
 pub kept-stay :
@@ -203,17 +203,17 @@ pub place-sum :
     → k ≡ sets-end whole
     → p ≡ part t
     → {n : ℕ}
-    → n ≡ width frame
+    → n ≡ width (frame .variables)
     → k + (c * (n * frame .variables) + (n * t .variable + p))
-    ≡ sets-end frame + (c * (width frame * frame .variables) + (width frame * t .variable + part t))
+    ≡ sets-end frame + (c * (width (frame .variables) * frame .variables) + (width (frame .variables) * t .variable + part t))
 place-sum frame whole t c k p f s q w = rw (s, q, w, f) refl
 
 pub place-found :
     (frame : Frame) (notes : List ℕ) (t : Target) (e k : ℕ)
     → (getD notes e 0 ≡ 0 → ⊥)
-    → part t < width frame
+    → part t < width (frame .variables)
     → t .variable < frame .variables
-    → k ≡ sets-end frame + (getD notes e 0 * (width frame * frame .variables) + (width frame * t .variable + part t))
+    → k ≡ sets-end frame + (getD notes e 0 * (width (frame .variables) * frame .variables) + (width (frame .variables) * t .variable + part t))
     → k + frame .effects < length notes
     → KeptAt frame notes t e k
 unfolding column kept-place
@@ -245,13 +245,13 @@ part-within m n v p h g = go (m * v) (m * n) (mul-le-mul {n₂ = m} {m₂ = n} (
     go x y k = omega (arith, k, mul-suc m v)
 
 -- three words, or two
-pub width-three : (frame : Frame) → frame .variables ≤ 256 → (3 ≡ width frame) × (3 ≤ 3)
+pub width-three : (v : ℕ) → v ≤ 256 → (3 ≡ width v) × (3 ≤ 3) × (2 ≤ 3)
 unfolding width
-width-three frame h = (rw (le-leb (frame .variables) 256 h) refl, omega arith)
+width-three v h = (rw (le-leb v 256 h) refl, omega arith, omega arith)
 
-pub width-two : (frame : Frame) → 256 < frame .variables → (2 ≡ width frame) × (2 ≤ 3)
+pub width-two : (v : ℕ) → 256 < v → (2 ≡ width v) × (2 ≤ 3) × (2 ≤ 2)
 unfolding width
-width-two frame h = (rw (lt-leb (frame .variables) 256 h) refl, omega arith)
+width-two v h = (rw (lt-leb v 256 h) refl, omega arith, omega arith)
 
 -- a part tells the target's two flags
 part-flags : (t u : Target) → part t ≡ part u → (t .clear ≡ u .clear) × (t .negated ≡ u .negated)
@@ -274,13 +274,13 @@ places-apart :
     (frame : Frame) (c d : ℕ) (t u : Target)
     → t .variable < frame .variables
     → u .variable < frame .variables
-    → part t < width frame
-    → part u < width frame
+    → part t < width (frame .variables)
+    → part u < width (frame .variables)
     → kept-place frame c t ≡ kept-place frame d u
     → (c ≡ d) × (t .variable ≡ u .variable) × (t .clear ≡ u .clear) × (t .negated ≡ u .negated)
 unfolding kept-place
 places-apart frame c d t u g h m n q =
-    let w = width frame in
+    let w = width (frame .variables) in
     let x =
     quotients (w * frame .variables) c d (w * t .variable + part t) (w * u .variable + part u)
     (part-within w (frame .variables) (t .variable) (part t) g m) (part-within w (frame .variables) (u .variable) (part u) h n)
@@ -341,7 +341,7 @@ module _ {frame : Frame} {notes : List ℕ} {t : Target} {e k : ℕ} (h : e < fr
         (u : Target) (d x : ℕ)
         → d < frame .effects
         → u .variable < frame .variables
-        → part u < width frame
+        → part u < width (frame .variables)
         → 0 < column notes d
         → kept-place frame (column notes d) u + frame .effects < length notes
         → Dec (kept-place frame (column notes d) u ≡ k)

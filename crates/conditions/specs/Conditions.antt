@@ -103,13 +103,13 @@ column notes e = getD notes e 0
 unfoldable pub part : Target → ℕ
 part t = cond (t .clear) 1 0 + 2 * cond (t .negated) 1 0
 
--- how many words a variable has in a column: none is for duals where there are many variables
-unfoldable pub width : Frame → ℕ
-width frame = cond (leb (frame .variables) 256) 3 2
+-- how many words each of so many variables has in a column: none is for duals where there are many
+unfoldable pub width : ℕ → ℕ
+width variables = cond (leb variables 256) 3 2
 
 -- where the condition of target t is kept in column c: behind the sets, so many words for each variable
 unfoldable pub kept-place : Frame → ℕ → Target → ℕ
-kept-place frame c t = sets-end frame + (c * (width frame * frame .variables) + (width frame * t .variable + part t))
+kept-place frame c t = sets-end frame + (c * (width (frame .variables) * frame .variables) + (width (frame .variables) * t .variable + part t))
 
 -- Each row has a word for its column, and one of the last words for a path down the rows; no two rows have the same column.
 pub record Columns (frame : Frame) (notes : List ℕ) : Type 0 where
@@ -128,7 +128,7 @@ pub record Kept (frame : Frame) (formulas effects notes : List ℕ) (s : St) : T
       (t : Target) (e r : ℕ)
       → e < frame .effects
       → t .variable < frame .variables
-      → part t < width frame
+      → part t < width (frame .variables)
       → 0 < column notes e
       → kept-place frame (column notes e) t + frame .effects < length notes
       → getD notes (kept-place frame (column notes e) t) 0 ≡ r + 1
@@ -166,7 +166,7 @@ pub record Looks (frame : Frame) (notes : List ℕ) (e : ℕ) : Type 0 where
 
 -- The condition of target t and row e is kept in word k.
 pub record KeptAt (frame : Frame) (notes : List ℕ) (t : Target) (e k : ℕ) : Type 0 where
-  pub one : part t < width frame
+  pub one : part t < width (frame .variables)
   pub variable : t .variable < frame .variables
   pub has-column : 0 < column notes e
   pub place : k ≡ kept-place frame (column notes e) t

@@ -18,11 +18,11 @@ fn part_of(t: Target) -> usize
     t.clear as usize + 2 * (t.negated as usize)
 }
 
-// How many words a variable has in a column: where there are many variables, more columns are worth more than the duals.
-fn width_of(frame: &[usize; 5]) -> usize
-    ensures { λ r. ⌜ (r ≡ width (framed (now (frame .entry)))) × (r ≤ 3) ⌝ }
+// How many words each of so many variables has in a column: where there are many, more columns are worth more than the duals.
+pub fn width_of(variables: usize) -> usize
+    ensures { λ r. ⌜ (r ≡ width variables) × (r ≤ 3) × (2 ≤ r) ⌝ }
 {
-    if frame[VARIABLES] <= 256 { 3 } else { 2 }
+    if variables <= 256 { 3 } else { 2 }
 }
 
 // The word of the notes that keeps the condition of target t and effect e; 0, if none does. They keep as far as they reach: their last
@@ -36,7 +36,7 @@ fn place(notes: &[u16], frame: &[usize; 5], t: Target, e: usize) -> usize
         return 0;
     }
     let part = part_of(t);
-    let n = width_of(frame);
+    let n = width_of(frame[VARIABLES]);
     if n <= part {
         return 0;
     }

@@ -13,6 +13,7 @@ mod touch;
 mod under;
 
 pub use cycle::condition;
+pub use kept::width_of;
 pub use touch::touches;
 
 // The atom whose condition is built, "set" or "clear" of a variable; negated, the condition's dual.

@@ -5,6 +5,7 @@
 use crate::thin::is_column;
 use crate::thin::thin_to;
 use atom_sets::sets_end;
+use conditions::width_of;
 use formula_builder::Frame;
 use formula_builder::Words;
 use formula_builder::read_row;
@@ -134,12 +135,9 @@ fn columns_in(room: usize, variables: usize) -> usize {
     places - 1
 }
 
-// The same with three words a variable, or two where there are many. Nothing is promised of it.
+// The same with as many words a variable as conditions are kept in. Nothing is promised of it.
 fn most_columns(variables: usize, room: usize) -> usize {
-    if variables <= 256 {
-        return columns_in(room / 3, variables);
-    }
-    columns_in(room / 2, variables)
+    columns_in(room / width_of(variables), variables)
 }
 
 // The rows that still have a column get new numbers, the others none. As many steps as there are effects.
