@@ -3,18 +3,30 @@
 // for the first operator o that does, and 1024 more if referrers of different operators name it. Where there is no room for all columns,
 // the passes of thin.rt choose, and the rows that are left are numbered anew.
 use crate::thin::is_column;
-use crate::thin::thin_to;
+use crate::thin::rank;
+use crate::thin::thin_between;
 use atom_sets::sets_end;
 use conditions::width_of;
 use formula_builder::Frame;
 use formula_builder::Words;
 use formula_builder::read_row;
 ghost use Prim.Native.Nat.{_+_, _≤_};
-ghost use Rattle.effect_columns.specs.Columns.{Elsewhere, Meets, HandsOn, Settles, Settled, Renumbers, FindsRoots, FindsColumns, FoundColumns};
+ghost use Rattle.effect_columns.specs.Columns.{Elsewhere, Meets, HandsOn, Settles, Settled, Renumbers, Thins, FindsRoots, FindsColumns, FoundColumns};
 
-// The word of a row, which was old, once a referrer with the word w names it. That word carries no promise: it only tells which rows are
-// worth a column.
+// The word of a row, which was old, in the passes of thin.rt, once a row names it that is worth a column or below one that is.
+fn shared(old: u16) -> u16 {
+    if rank(old) == 8192 {
+        return 16384;
+    }
+    old
+}
+
+// The word of a row, which was old, once a referrer with the word w names it; 16384 is a rank of thin.rt. That word carries no promise: it only
+// tells which rows are worth a column.
 fn met(old: u16, w: u16) -> u16 {
+    if w == 16384 {
+        return shared(old);
+    }
     let o = old % 1024;
     let n = w % 1024;
     if n == 0 {
@@ -140,6 +152,52 @@ fn most_columns(variables: usize, room: usize) -> usize {
     columns_in(room / width_of(variables), variables)
 }
 
+// What row i, with the word w, hands on while ranks are spread.
+fn rank_below(w: u16) -> u16 {
+    if rank(w) == 8192 {
+        return 0;
+    }
+    16384
+}
+
+// The rows that row i names get their rank.
+fn spread_row(effects: &[u16], i: usize, frame: Frame, notes: &mut [u16])
+    requires { ⌜ Settles frame (now effects) (now notes) i ⌝ }
+    ensures { λ _. ⌜ Elsewhere i (now (notes .entry)) (now (notes .exit)) ⌝ }
+{
+    let r = read_row(effects, i);
+    hand_on(r, rank_below(notes[i]), i, frame, notes);
+}
+
+// All rows below those that are worth a column get their rank: one pass over the effects, downwards.
+fn spread(effects: &[u16], frame: Frame, notes: &mut [u16])
+    requires { ⌜ Thins frame (now effects) (now notes) ⌝ }
+    ensures { λ _. ⌜ Elsewhere (frame .effects) (now (notes .entry)) (now (notes .exit)) ⌝ }
+{
+    let mut i = frame.effects;
+    while 0 < i {
+        i -= 1;
+        spread_row(effects, i, frame, notes);
+    }
+}
+
+// As few of the rows that are worth a column keep one as there is room for: those from which a walk would visit most rows, counted as a
+// tree. Where that leaves few rows between long walks, in nets, cuts are laid across: any row below one that is worth a column may have one. If
+// those would be far apart, the count by trees goes on. At most 28 passes over the effects.
+fn choose(most: usize, effects: &[u16], frame: Frame, notes: &mut [u16])
+    requires { ⌜ Thins frame (now effects) (now notes) ⌝ }
+    ensures { λ _. ⌜ Elsewhere (frame .effects) (now (notes .entry)) (now (notes .exit)) ⌝ }
+{
+    if thin_between(most, 4, 256, 32768, effects, frame, notes) {
+        return;
+    }
+    spread(effects, frame, notes);
+    if thin_between(most, 4, 128, 16384, effects, frame, notes) {
+        return;
+    }
+    thin_between(most, 316, 4096, 32768, effects, frame, notes);
+}
+
 // The rows that still have a column get new numbers, the others none. As many steps as there are effects.
 fn renumber(frame: Frame, notes: &mut [u16])
     requires { ⌜ Renumbers frame (now notes) ⌝ }
@@ -155,7 +213,7 @@ fn renumber(frame: Frame, notes: &mut [u16])
 }
 
 // The columns of the rows, as many as there is room for. As many steps as there are operators and effects; where there is no room for all
-// columns, at most thirteen times as there are effects.
+// columns, at most thirty times as there are effects.
 pub fn find_columns(
     effects: &[u16],
     operators: &[u16],
@@ -172,6 +230,6 @@ pub fn find_columns(
     if columns as usize <= most {
         return;
     }
-    thin_to(most, effects, frame, notes);
+    choose(most, effects, frame, notes);
     renumber(frame, notes);
 }

@@ -104,12 +104,16 @@ fn fill_few(
     )
 }
 
-// Whether the smaller notes do: with few variables sets and columns are narrow, for few effects there are few.
+// Whether the smaller notes do: with few variables sets and columns are narrow, for few effects there are few. They would have room for at most 96
+// variables whatever the effects, but then for too few columns: nets of 4,096 effects took 40 times as long.
 fn few_do(head: Head) -> bool
     ensures { λ r. ⌜ Few head r ⌝ }
 {
-    if head.variables <= 96 {
+    if head.variables <= 32 {
         return true;
+    }
+    if head.variables <= 96 {
+        return head.effects <= 2048;
     }
     head.effects <= 1024
 }

@@ -4,55 +4,44 @@ use Rattle.effect_columns.proofs.thin.cost.Tie as tie
 use Rattle.effect_columns.proofs.thin.cost.Reads as reads
 use Rattle.effect_columns.proofs.thin.cost.Lts as lts
 use Rattle.effect_columns.proofs.thin.one_more.Reads as one-more-reads
+use Rattle.effect_columns.proofs.thin.together.Reads as together-reads
 use Rattle.effect_columns.proofs.thin.weight.Reads as weight-reads
 use mathlib.Core.Path.{refl}
 use Rattle.effect_columns.proofs.Settling.{meets-lower}
 
--- src/thin.rt:54:24
 cast-weight : tie.Need-cast-weight
 cast-weight c = search needs
 
--- src/thin.rt:54:13
 weight-requires : tie.Need-weight-requires
 weight-requires c κs = meets-lower (c .before .before .before .before .pre .meets) refl (c .before .before .before .before .pre .both (c .before .if1 .taken) .0)
 
--- src/thin.rt:55:24
 cast-weight-2 : tie.Need-cast-weight-2
 cast-weight-2 c = search needs
 
--- src/thin.rt:55:13
 weight-requires-2 : tie.Need-weight-requires-2
 weight-requires-2 c κs = meets-lower (c .before .before .before .before .before .before .pre .meets) refl (c .before .before .before .before .before .before .pre .both (c .before .before .before .if1 .taken) .1)
 
--- src/thin.rt:56:25
-add-one-more : tie.Need-add-one-more
-add-one-more c = search needs
+together-requires : tie.Need-together-requires
+together-requires c κs = search needs
 
--- src/thin.rt:56:9
 one-more-requires : tie.Need-one-more-requires
 one-more-requires c κs = search needs
 
--- src/thin.rt:56:9
 returns : tie.Need-returns
 returns c = search needs
 
--- src/thin.rt:59:9
 returns-2 : tie.Need-returns-2
 returns-2 c = search needs
 
--- src/thin.rt:61:21
 cast-weight-3 : tie.Need-cast-weight-3
 cast-weight-3 c = search needs
 
--- src/thin.rt:61:14
 weight-requires-3 : tie.Need-weight-requires-3
 weight-requires-3 c κs = meets-lower (c .before .before .before .before .before .before .pre .meets) refl (c .before .before .before .before .before .before .pre .under (c .before .if2 .left))
 
--- src/thin.rt:61:5
 one-more-requires-2 : tie.Need-one-more-requires-2
 one-more-requires-2 c κs = search needs
 
--- src/thin.rt:49:1
 returns-3 : tie.Need-returns-3
 returns-3 c = search needs
 
@@ -64,7 +53,7 @@ cost-spec =
     weight-requires
     cast-weight-2
     weight-requires-2
-    add-one-more
+    together-requires
     one-more-requires
     returns
     returns-2

@@ -11,40 +11,32 @@ use Rattle.effect_columns.specs.Columns.{Elsewhere}
 use Rattle.effect_columns.proofs.Settling.{elsewhere-none, elsewhere-then, thins-then}
 
 abbrev Inv-loop : tie.InvT-loop
-Inv-loop effects limit frame notes₀ i₀ columns₀ notes i columns = (length notes ≡ length notes₀) × Elsewhere (frame .effects) notes₀ notes × (columns ≤ i)
+Inv-loop effects limit least frame notes₀ i₀ columns₀ notes i columns = (length notes ≡ length notes₀) × Elsewhere (frame .effects) notes₀ notes × (columns ≤ i)
 
 abbrev μ-loop : tie.MeasureT-loop
-μ-loop effects limit frame notes₀ i₀ columns₀ notes i columns = frame .effects - i
+μ-loop effects limit least frame notes₀ i₀ columns₀ notes i columns = frame .effects - i
 
--- src/thin.rt:101:5
 loop-holds : tie.Need-loop-holds Inv-loop μ-loop
 loop-holds c = (refl, elsewhere-none (c .before .before .args .frame .effects) (c .before .before .args .notes .now), omega arith)
 
--- src/thin.rt:102:20
 thin-row-requires : tie.Need-thin-row-requires Inv-loop μ-loop
 thin-row-requires c κs = record { thins = thins-then (c .before .before .before .loop .inv .0) (c .before .before .before .before .before .before .pre); effect = omega arith }
 
--- src/thin.rt:102:9
 add-columns : tie.Need-add-columns Inv-loop μ-loop
 add-columns c = omega (arith, c .before .before .before .before .before .before .before .before .before .pre .rows .limit, c .before .before .before .before .before .before .loop .inv .2, c .before .before .thin-row .ensures .1)
 
--- src/thin.rt:103:9
 add-i : tie.Need-add-i Inv-loop μ-loop
 add-i c = omega (arith, c .before .before .before .before .before .before .before .before .before .pre .rows .limit)
 
--- src/thin.rt:101:5
 loop-less : tie.Need-loop-less Inv-loop μ-loop
 loop-less c = omega arith
 
--- src/thin.rt:101:5
 loop-again : tie.Need-loop-again Inv-loop μ-loop
-loop-again c = (c .before .before .thin-row .kept .1 .1 .1 .1 .0 ∙ c .before .before .before .before .before .before .loop .inv .0, elsewhere-then {e = c .before .before .before .before .before .before .loop .i + 1} (omega arith) (omega arith) (c .before .before .before .before .before .before .loop .inv .1) (c .before .before .thin-row .ensures .0), omega (arith, c .before .before .before .before .before .before .loop .inv .2, c .before .before .thin-row .ensures .1))
+loop-again c = (c .before .before .thin-row .kept .1 .1 .1 .1 .1 .0 ∙ c .before .before .before .before .before .before .loop .inv .0, elsewhere-then {e = c .before .before .before .before .before .before .loop .i + 1} (omega arith) (omega arith) (c .before .before .before .before .before .before .loop .inv .1) (c .before .before .thin-row .ensures .0), omega (arith, c .before .before .before .before .before .before .loop .inv .2, c .before .before .thin-row .ensures .1))
 
--- src/thin.rt:95:1
 same-length : tie.Need-same-length Inv-loop μ-loop
 same-length c = c .before .before .loop .inv .0
 
--- src/thin.rt:95:1
 returns : tie.Need-returns Inv-loop μ-loop
 returns c = c .before .before .loop .inv .1
 
