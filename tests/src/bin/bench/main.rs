@@ -1,8 +1,9 @@
 //! Compares the library's times with those of the other implementation in
 //! its quickest form: one table, ratios of medians. The first argument picks
 //! one group: files, runs, compiling or program. Beside the table:
-//! `worst [FAMILY]` has the files made to be slow, `search [SEED [SECONDS]]`
-//! looks for more, `counts` makes each call of the table once, for callgrind.
+//! `worst [FAMILY]` has the files made to be slow, `nets` nets and chains of
+//! effect rows at many counts, `search [SEED [SECONDS]]` looks for more,
+//! `counts` makes each call of the table once, for callgrind.
 //!
 //! Both sides work on the same buffers and clear them; the calls of both are
 //! taken in turns, so that the machine's changes meet both.
@@ -32,6 +33,8 @@ fn main() -> std::io::Result<()> {
     match word(0) {
         #[cfg(feature = "compiling")]
         Some("worst") => worst::print_families(word(1)),
+        #[cfg(feature = "compiling")]
+        Some("nets") => worst::nets::print(),
         #[cfg(feature = "compiling")]
         Some("search") => worst::search::print(word(1), word(2)),
         Some("counts") => table(Report::Counts, word(1))?,

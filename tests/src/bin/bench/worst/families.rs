@@ -3,7 +3,7 @@
 use saqwillo_tests::draft::Draft;
 use saqwillo_tests::task::*;
 
-use super::alike;
+use super::{alike, nets};
 
 /// The counts that a family may use up.
 #[derive(Clone, Copy, Debug)]
@@ -200,42 +200,12 @@ fn own_whens(size: &Size) -> Task {
     draft.finish(yes)
 }
 
-/// How many rows of the net an operator names.
-const ENTERED: usize = 7;
-
 fn net(size: &Size) -> Task {
-    net_of(8, size)
+    nets::net(8, 7, size)
 }
 
 fn narrow_net(size: &Size) -> Task {
-    net_of(2, size)
-}
-
-/// Above all atoms a net of rows, so many abreast, each "both" of two of the
-/// line below it; the operators enter it at rows far apart, each under a false
-/// top.
-fn net_of(abreast: usize, size: &Size) -> Task {
-    let mut draft = draft(size);
-    let yes = draft.yes();
-    let no = draft.formula(formula::FALSE, 0, 0);
-    let all = atoms(&mut draft, size, size.effects / 8);
-    let bottom = draft.all(&all);
-    let mut rows = vec![bottom; abreast];
-    let spare = (ENTERED + 1) * size.operators;
-    while usize::from(*rows.last().expect("a row")) + 1 + spare < size.effects {
-        let line = &rows[rows.len() - abreast..];
-        let (left, right) = (line[0], line[1]);
-        let row = draft.effect(effect::BOTH, left, right);
-        rows.push(row);
-    }
-    for i in 0..size.operators {
-        let place = |k: usize| rows[rows.len() - 1 - (i * ENTERED + k) * 37 % rows.len()];
-        let entered: Vec<u16> = (0..ENTERED).map(place).collect();
-        let inner = draft.all(&entered);
-        let root = draft.under(no, inner);
-        draft.operator(yes, root, i as u16);
-    }
-    draft.finish(yes)
+    nets::net(2, 7, size)
 }
 
 /// Each is equivalent to a variable, in turn: image and negated image, three

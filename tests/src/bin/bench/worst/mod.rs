@@ -3,6 +3,7 @@
 
 mod alike;
 pub mod families;
+pub mod nets;
 pub mod search;
 
 use saqwillo_tests::best::compile::Form;
