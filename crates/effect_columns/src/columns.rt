@@ -181,9 +181,9 @@ fn spread(effects: &[u16], frame: Frame, notes: &mut [u16])
     }
 }
 
-// As few of the rows that are worth a column keep one as there is room for: those from which a walk would visit most rows, counted as a
-// tree. Where that leaves few rows between long walks, in nets, cuts are laid across: any row below one that is worth a column may have one. If
-// those would be far apart, the count by trees goes on. At most 28 passes over the effects.
+// No more rows have a column than there is room for: of those that are worth one, the rows from which a walk would visit the most, counted as a
+// tree. In nets that leaves too many, and cuts are laid across: any row below one that is worth a column may have one. If the cuts
+// would be far apart, the count by trees goes on. At most 28 passes over the effects.
 fn choose(most: usize, effects: &[u16], frame: Frame, notes: &mut [u16])
     requires { ⌜ Thins frame (now effects) (now notes) ⌝ }
     ensures { λ _. ⌜ Elsewhere (frame .effects) (now (notes .entry)) (now (notes .exit)) ⌝ }

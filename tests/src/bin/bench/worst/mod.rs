@@ -95,6 +95,7 @@ fn print_family(family: &Family) {
     let (library, measured) = at_the_limits(family);
     let task = (family.make)(&LIMITS);
     let mut pair = Pair::new(&task);
+    pair.check();
     let other = pair.seconds(Form::Kept);
     let answer = pair.other(Form::Kept).err().unwrap_or(0);
     let foretold = if measured < LIMITS.operators {

@@ -91,7 +91,7 @@ pub fn print() {
 }
 
 /// The slowest of these counts and width, over how many rows an operator
-/// enters.
+/// enters. Both sides must compile each to the same tables.
 fn print_slowest(make: Make, variables: usize, effects: usize, abreast: usize) -> f64 {
     let mut slowest = (0.0, 0, LIMITS);
     for entered in ENTERED {
@@ -103,7 +103,9 @@ fn print_slowest(make: Make, variables: usize, effects: usize, abreast: usize) -
             operators,
             ..LIMITS
         };
-        let spent = seconds(&make(abreast, entered, &size));
+        let task = make(abreast, entered, &size);
+        Pair::new(&task).check();
+        let spent = seconds(&task);
         if spent > slowest.0 {
             slowest = (spent, entered, size);
         }
