@@ -12,7 +12,7 @@ use Rattle.task.specs.Table.{Row, Operator, row-at}
 use Rattle.task.specs.Words.{joined, words-of, operator-words}
 use Rattle.normal_form.specs.Operators.{Changes, Built}
 use Rattle.normal_form.specs.Assembly.{Rule, rules-of, rules, write-rules, Assembled, assemble-operator, assemble, unassembled}
-use Rattle.normal_form.specs.Compiled.{padded}
+use Rattle.task.specs.Words.{padded}
 use Rattle.normal_form.proofs.Growth.{longer}
 use Rattle.normal_form.proofs.Padded.{padded-none, padded-empty}
 use Rattle.normal_form.proofs.ShapeAssembled.{unwritten}

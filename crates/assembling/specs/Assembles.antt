@@ -9,7 +9,7 @@ use Rattle.task.specs.Table.{Row, row-at}
 use Rattle.task.specs.Words.{words-of, operator-words}
 use Rattle.normal_form.specs.Operators.{Changes, Built}
 use Rattle.normal_form.specs.Assembly.{Assembled, assemble-operator, assemble, unassembled}
-use Rattle.normal_form.specs.Compiled.{padded}
+use Rattle.task.specs.Words.{padded}
 use Rattle.rule_writer.specs.declared.Chain.{Chain}
 use Rattle.rule_writer.specs.declared.Frame.{Frame}
 use Rattle.rule_writer.specs.Writes.{FrameReady}

@@ -4,14 +4,21 @@ use mathlib.Core.Logic.{_↔_}
 use Rattle.task.specs.Table.{Lent, Task, task-of}
 use Rattle.task.specs.Check.{refusal}
 use Rattle.task.specs.Words.{lent-of}
-use Rattle.task.specs.Rules.{LongEnough, Rules}
+use Rattle.task.specs.Rules.{LentWords, LongEnough, Rules}
 use Rattle.task.proofs.Kept.{kept-rules, rules-kept}
 use Rattle.task.proofs.Words.{lent-kept, task-of-lent}
+use Rattle.task.proofs.Sixteen.{lent-rules, words-lent}
 
--- The check's number is 0 exactly if every lent table is long enough for its count and the task that the tables hold keeps the rules.
-pub accepted-exactly-if : (l : Lent) → refusal l ≡ 0 ↔ LongEnough l × Rules (task-of l)
-accepted-exactly-if l = (kept-rules l, λ p. rules-kept l (p .0) (p .1))
+-- Of lent words, which are unsigned 16-bit: the check's number is 0 exactly if every lent table is long enough for its count and the task that the
+-- tables hold keeps the rules.
+pub accepted-exactly-if : (l : Lent) → LentWords l → refusal l ≡ 0 ↔ LongEnough l × Rules (task-of l)
+accepted-exactly-if l words = (
+  λ e.
+      let k = kept-rules l e in
+      (k .0, lent-rules l words (k .0) (k .1)),
+  λ p. rules-kept l (p .0) (p .1 .checked),
+)
 
--- Every task that keeps the rules is accepted: its tables, written out word by word, get 0 and hold that task.
-pub every-task-accepted : (t : Task) → Rules t → refusal (lent-of t) ≡ 0 × task-of (lent-of t) ≡ t
-every-task-accepted t rules = (lent-kept t rules, task-of-lent t)
+-- Every task that keeps the rules is accepted: its tables, written out word by word, have words that can be lent, get 0 and hold that task.
+pub every-task-accepted : (t : Task) → Rules t → LentWords (lent-of t) × (refusal (lent-of t) ≡ 0) × (task-of (lent-of t) ≡ t)
+every-task-accepted t rules = (words-lent t rules, lent-kept t (rules .checked), task-of-lent t)

@@ -7,7 +7,11 @@ use Rattle.task.specs.Table.{Lent, Task, task-of}
 use Rattle.task.specs.Check.{refusal}
 use Rattle.task.specs.Words.{head-of, lent-of}
 use Rattle.task.specs.Semantics.{Formula, Atom, Effect}
+use Rattle.task.specs.Rules.{LentWords}
+use Rattle.task.proofs.Kept.{kept-rules}
+use Rattle.task.proofs.Sixteen.{lent-rules}
 use Rattle.task.proofs.Words.{task-of-lent}
+use Rattle.normal_form.proofs.Demand.{finished-keeps}
 use Rattle.normal_form.specs.Builder.{Polarity}
 use Rattle.normal_form.specs.Growth.{Steady}
 use Rattle.normal_form.specs.Image.{image}
@@ -25,9 +29,10 @@ use Rattle.claims.specs.Statements.{Compiles, NormalForm}
 pub compiled-is-normal : (t : Task) → Compiles t → NormalForm (lent-of (finished t))
 compiled-is-normal t c =
     record {
-      passes = finished-passes t (c .rules) (c .room);
-      positive-rows = rw (task-of-lent (finished t)) (positive t (c .rules));
-      positive = rw (task-of-lent (finished t)) (finished-positive t (c .rules));
+      passes = finished-passes t (c .rules .checked) (c .room);
+      keeps = rw (task-of-lent (finished t)) (finished-keeps t (c .rules) (c .room));
+      positive-rows = rw (task-of-lent (finished t)) (positive t (c .rules .checked));
+      positive = rw (task-of-lent (finished t)) (finished-positive t (c .rules .checked));
       flat = λ o. rw (task-of-lent (finished t)) (flat t o);
     }
 
@@ -69,10 +74,14 @@ module _ (l : Lent) (room : Room) (h : Head) (success : compiling l room .answer
   gives-compiled-task = (given-head l room h success, given-task l room h success)
 
   -- What it gave passes the check, has no negation symbol anywhere in its formula table, and flat effects.
-  pub gives-normal-form : NormalForm (given h (compiling l room))
-  gives-normal-form =
+  pub gives-normal-form : LentWords l → NormalForm (given h (compiling l room))
+  gives-normal-form words =
+      let c = given-compiles l room h success in
       record {
         passes = given-passes l room h success;
+        keeps =
+            rw (given-task l room h success)
+            (finished-keeps (task-of l) (lent-rules l words (kept-rules l (c .passes) .0) (source-rules l room h success)) (c .fits .limits));
         positive-rows = given-positive l room h success;
         positive =
             rw (given-task l room h success) (finished-positive (task-of l) (source-rules l room h success));

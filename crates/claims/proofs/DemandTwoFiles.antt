@@ -8,36 +8,44 @@ use mathlib.Core.List.{List, [], _∷_, _++_}
 use lib.ListN.{length, getD, take}
 use Rattle.task.specs.Table.{Lent, Task, lent, task-of}
 use Rattle.task.specs.Check.{refusal}
-use Rattle.task.specs.Rules.{Rules}
+use Rattle.task.specs.Rules.{Rules, HasRoom}
+use Rattle.task.proofs.Sixteen.{rules-with-costs}
 use Rattle.task.specs.Words.{head-of}
 use Rattle.file_format.specs.Bytes.{file-of}
-use Rattle.file_format.specs.Reading.{Lengths, Room, accepted, rejected, reading}
+use Rattle.file_format.specs.Reading.{Lengths, accepted, rejected, reading}
 use Rattle.task_file.specs.Outcome.{outcome-of, read-outcome}
 use Rattle.task_writer.specs.Writing.{file-outcome, write-outcome}
 use Rattle.file_format.proofs.Parse.{Bytes}
 use Rattle.file_format.proofs.RoundTrip.{read-written, written-read, cut-short, bytes-follow, apart}
+use Rattle.file_format.proofs.OfBytes.{bytes-each, each-byte, file-is-bytes, costs-of-bytes}
 use Rattle.task_writer.proofs.Calls.{read-after-write, write-after-read}
 use Rattle.claims.specs.Statements.{OfBytes}
 
-of-bytes : (file : List ℕ) → ((i : ℕ) → i < length file → getD file i 0 < 256) → Bytes file
-of-bytes [] h = tt
-of-bytes (x ∷ rest) h = (h 0 (omega arith), of-bytes rest (λ i b. h (suc i) (omega arith)))
+-- what was read of bytes keeps the rules
+read-rules : (l : Lengths) (file : List ℕ) (t : Task) → Bytes file → reading l file ≡ accepted t → Rules t
+read-rules l file t b e =
+    let a = written-read l file t b e in
+    rules-with-costs t (a .rules) (costs-of-bytes t (rw (a .same) at b))
 
 -- A file is accepted exactly if it is the file of a task that keeps the rules and for which the lent tables are long enough.
 pub file-accepted-exactly-if :
     (l : Lengths) (file : List ℕ) (t : Task)
     → OfBytes file
-    → reading l file ≡ accepted t ↔ (file ≡ file-of t) × Rules t × Room l t
+    → reading l file ≡ accepted t ↔ (file ≡ file-of t) × Rules t × HasRoom l t
 file-accepted-exactly-if l file t bytes = (
   λ e.
-      let a = written-read l file t (of-bytes file (bytes .byte)) e in
-      (a .same, a .rules, a .roomy),
-  λ p. rw (p .0) (read-written l t (p .1) (p .2)),
+      let a = written-read l file t (bytes-each file (bytes .byte)) e in
+      (a .same, read-rules l file t (bytes-each file (bytes .byte)) e, a .roomy),
+  λ p. rw (p .0) (read-written l t (p .1 .checked) (p .2)),
 )
 
+-- Every task that keeps the rules has a file: its bytes are bytes.
+pub file-of-a-task : (t : Task) → Rules t → OfBytes (file-of t)
+file-of-a-task t rules = record { byte = each-byte (file-of t) (file-is-bytes t rules) }
+
 -- Reading the file that writing gives yields the same task ..
-pub reading-what-was-written : (l : Lengths) (t : Task) → Rules t → Room l t → reading l (file-of t) ≡ accepted t
-reading-what-was-written l t rules room = read-written l t rules room
+pub reading-what-was-written : (l : Lengths) (t : Task) → Rules t → HasRoom l t → reading l (file-of t) ≡ accepted t
+reading-what-was-written l t rules room = read-written l t (rules .checked) room
 
 -- .. and of the two calls: tables that pass the check, written into an output that is long enough and read again into tables that are, give the same
 -- head and the same words, and 0 behind them.
@@ -45,7 +53,7 @@ pub read-gives-what-was-written :
     (l : Lent) (n : ℕ) (lengths : Lengths)
     → refusal l ≡ 0
     → length (file-of (task-of l)) ≤ n
-    → Room lengths (task-of l)
+    → HasRoom lengths (task-of l)
     → read-outcome lengths (take (length (file-of (task-of l))) (write-outcome l n .out)) ≡ outcome-of lengths (accepted (task-of l))
 read-gives-what-was-written l n lengths passed fits room = read-after-write l n lengths passed fits room
 
@@ -55,7 +63,7 @@ pub writing-what-was-read :
     → OfBytes file
     → reading l file ≡ accepted t
     → file-of t ≡ file
-writing-what-was-read l file t bytes e = sym (written-read l file t (of-bytes file (bytes .byte)) e .same)
+writing-what-was-read l file t bytes e = sym (written-read l file t (bytes-each file (bytes .byte)) e .same)
 
 -- .. and of the two calls: an accepted file, read and written again, gives the same bytes, or 20 if the output is shorter.
 pub write-gives-what-was-read :
@@ -65,7 +73,7 @@ pub write-gives-what-was-read :
     → let o = read-outcome lengths file in
     write-outcome (lent (head-of t) (o .initial) (o .twins) (o .formulas) (o .effects) (o .operators)) n ≡ file-outcome file n
 write-gives-what-was-read lengths file t n bytes e =
-    write-after-read lengths file t n (of-bytes file (bytes .byte)) e
+    write-after-read lengths file t n (bytes-each file (bytes .byte)) e
 
 -- A strict prefix of an accepted file gives 1.
 pub prefix-gives-one :
@@ -80,7 +88,7 @@ pub bytes-behind-give-four :
     → OfBytes file
     → reading l file ≡ accepted t
     → reading l (file ++ (x ∷ more)) ≡ rejected 4
-bytes-behind-give-four l file x more t bytes e = bytes-follow l file x more t (of-bytes file (bytes .byte)) e
+bytes-behind-give-four l file x more t bytes e = bytes-follow l file x more t (bytes-each file (bytes .byte)) e
 
 -- No task's file is the beginning of another's: where it is, the tasks are one and nothing is left.
 pub no-file-begins-another :
@@ -89,4 +97,4 @@ pub no-file-begins-another :
     → Rules u
     → file-of t ++ rest ≡ file-of u
     → (t ≡ u) × (rest ≡ [])
-no-file-begins-another t u rest rules others e = apart t u rest rules others e
+no-file-begins-another t u rest rules others e = apart t u rest (rules .checked) (others .checked) e

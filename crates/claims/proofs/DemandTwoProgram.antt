@@ -8,11 +8,11 @@ use lib.ListN.{length, take}
 use borrow.Author.Tests.{eq-eqb, ne-eqb}
 use Rattle.task.specs.Table.{Task}
 use Rattle.task.specs.Check.{counts-kept}
-use Rattle.task.specs.Rules.{Limits, Rules}
+use Rattle.task.specs.Rules.{Limits, Rules, HasRoom}
 use Rattle.task.specs.Words.{head-of}
 use Rattle.task.proofs.Passed.{counts-tested}
 use Rattle.file_format.specs.Bytes.{file-of}
-use Rattle.file_format.specs.Reading.{Room, accepted, rejected, reading}
+use Rattle.file_format.specs.Reading.{accepted, rejected, reading}
 use Rattle.file_format.proofs.RoundTrip.{read-written}
 use Rattle.normal_form.specs.Finished.{finished}
 use Rattle.printing.specs.Lines.{lines, refusal-line}
@@ -21,10 +21,10 @@ use Rattle.compile_text.specs.Text.{compiled-by, compiled-text, text-by, text-o
 use Rattle.compile_text.proofs.TextWays.{cut-text}
 use Rattle.claims.specs.Statements.{Compiles}
 
-own-fits : (t : Task) → Rules t → Room own t
+own-fits : (t : Task) → Rules t → HasRoom own t
 unfolding own
 own-fits t r =
-    let l = r .limits in
+    let l = r .checked .limits in
     record {
       initial = l .variables;
       twins = omega (arith, l .variables, l .twins);
@@ -35,36 +35,18 @@ own-fits t r =
 
 limits-tested : (t : Task) → Limits t → counts-kept (head-of t) ≡ true
 unfolding head-of
-limits-tested t l =
-    counts-tested (head-of t) .1
-    (record {
-      variables = l .variables;
-      twins = l .twins;
-      one-formula = l .one-formula;
-      formulas = l .formulas;
-      effects = l .effects;
-      operators = l .operators;
-    })
+limits-tested t l = counts-tested (head-of t) .1 l
 
 limits-told : (t : Task) → counts-kept (head-of t) ≡ true → Limits t
 unfolding head-of
-limits-told t e =
-    let c = counts-tested (head-of t) .0 e in
-    record {
-      variables = c .variables;
-      twins = c .twins;
-      one-formula = c .one-formula;
-      formulas = c .formulas;
-      effects = c .effects;
-      operators = c .operators;
-    }
+limits-told t e = counts-tested (head-of t) .0 e
 
 -- Given the file of a task that compiles, the program prints the compiled task's lines.
 pub prints-compiled-task : (t : Task) → Compiles t → text-of (file-of t) ≡ lines (finished t)
 unfolding text-of text-by compiled-text compiled-by compile-number
 prints-compiled-task t c =
     rw (
-      read-written own t (c .rules) (own-fits t (c .rules)),
+      read-written own t (c .rules .checked) (own-fits t (c .rules)),
       eq-eqb (length (t .originals)) 0 (c .untwinned),
       limits-tested (finished t) (c .room),
     )
@@ -77,7 +59,7 @@ prints-number file n e = ap text-by e
 -- So it does with 13 for a task with twins, and with 15 for one whose compiled task passes a limit, and for no other.
 pub prints-thirteen : (t : Task) → Rules t → (length (t .originals) ≡ 0 → ⊥) → text-of (file-of t) ≡ refusal-line 13
 unfolding text-of text-by compiled-text compiled-by compile-number
-prints-thirteen t r n = rw (read-written own t r (own-fits t r), ne-eqb (length (t .originals)) 0 n)
+prints-thirteen t r n = rw (read-written own t (r .checked) (own-fits t r), ne-eqb (length (t .originals)) 0 n)
 
 pub prints-fifteen :
     (t : Task)
@@ -90,7 +72,7 @@ prints-fifteen t r w n = go (counts-kept (head-of (finished t))) refl
   where
     go : (b : Bool) → counts-kept (head-of (finished t)) ≡ b → text-of (file-of t) ≡ refusal-line 15
     go true e = absurd (n (limits-told (finished t) e))
-    go false e = rw (read-written own t r (own-fits t r), eq-eqb (length (t .originals)) 0 w, e)
+    go false e = rw (read-written own t (r .checked) (own-fits t r), eq-eqb (length (t .originals)) 0 w, e)
 
 -- What stands behind the first 43,342 bytes of an input changes nothing.
 pub long-input : (input : List ℕ) (n : ℕ) → 43342 ≤ n → text-of (take n input) ≡ text-of input

@@ -7,7 +7,7 @@ use lib.ListN.{replicate}
 use Rattle.task.specs.Table.{Row, Operator, Lent, Task, task-of}
 use Rattle.task.specs.Check.{refusal}
 use Rattle.task.specs.Words.{lent-of}
-use Rattle.printing.proofs.Examples.{bytes}
+use Rattle.printing.specs.Lines.{bytes}
 use Rattle.plan.specs.declared.outcome.RunOutcome.{RunOutcome}
 use Rattle.plan.specs.declared.outcome.End.the-variants.{Ended}
 use Rattle.plan.specs.Outcome.{ran}

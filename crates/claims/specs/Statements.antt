@@ -12,7 +12,7 @@ use Rattle.task.specs.Corresponding.{Corresponding}
 use Rattle.normal_form.specs.Finished.{finished}
 use Rattle.normal_form.specs.Positive.{Positive, PositiveTask}
 use Rattle.normal_form.specs.Flat.{Flat}
-use Rattle.normal_form.specs.Alike.{Alike, StopsAt, together}
+use Rattle.normal_form.specs.Alike.{Alike, Outside, together}
 
 -- A list of bytes.
 pub record OfBytes (file : List ℕ) : Type 0 where
@@ -24,10 +24,11 @@ pub record Compiles (t : Task) : Type 0 where
   pub untwinned : length (t .originals) ≡ 0
   pub room : Limits (finished t)
 
--- Demand 2, of a compiled task's tables: they pass the check; no row of the formula table has a negation symbol, so none is in the goal, the
+-- Demand 2, of a compiled task's tables: they pass the check and hold a task that keeps the rules; no row of the formula table has a negation symbol, so none is in the goal, the
 -- preconditions and the effect conditions; every operator's effect is flat.
 pub record NormalForm (l : Lent) : Type 0 where
   pub passes : refusal l ≡ 0
+  pub keeps : Rules (task-of l)
   pub positive-rows : Positive (task-of l)
   pub positive : PositiveTask (task-of l)
   pub flat : (o : ℕ) → Flat (effect-of-operator (task-of l) o)
@@ -50,5 +51,5 @@ pub record RunsAlike (source compiled : Task) : Type 0 where
       → Corresponding (compiled .originals) s s′
       → (o x : ℕ)
       → together compiled s′ o x ≡ false
-  -- A number outside the task is applicable in neither: both runs stop at it with 17.
-  pub outside : (o : ℕ) → length (source .operators) ≤ o → StopsAt source o × StopsAt compiled o
+  -- A number outside the task is applicable in neither, whatever the states, and both runs stop at it with 17.
+  pub outside : (o : ℕ) → length (source .operators) ≤ o → Outside source o × Outside compiled o

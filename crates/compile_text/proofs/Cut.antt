@@ -14,7 +14,8 @@ use Rattle.task.specs.declared.Head.{Head}
 use Rattle.task.specs.Bounded.{upto}
 use Rattle.task.specs.Table.{Row, Operator}
 use Rattle.task.specs.Check.{counts-kept, goal-kept, twin-kept, formula-kept, effect-kept, operator-kept}
-use Rattle.task.proofs.Passed.{Counts, counts-tested}
+use Rattle.task.specs.Rules.{Counts}
+use Rattle.task.proofs.Passed.{counts-tested}
 use Rattle.file_format.specs.Bytes.{bytes-for}
 use Rattle.file_format.specs.Parse.{Parsed, next, kept, byte-read, word-read, mapped-read, table-read}
 use Rattle.file_format.specs.Reading.{Lengths, room, head-from, head-clear, head-read, head-kept, bit-of, spare-clear, initial-read, twin-read, row-clear, row-from, row-read, formula-read, effect-read, operator-clear, operator-from, operator-fields-read, operator-read, tables-read, task-read, at-end, reading}

@@ -7,7 +7,7 @@ use mathlib.Core.List.{List, _++_}
 use lib.ListN.{length, getD, replicate, length-append, length-take}
 use Rattle.task.specs.Table.{Lent, task-of}
 use Rattle.task.specs.Check.{refusal}
-use Rattle.normal_form.specs.Compiled.{padded}
+use Rattle.task.specs.Words.{padded}
 use Rattle.printing.specs.declared.PrintAnswer.{PrintAnswer}
 use Rattle.printing.specs.declared.PrintAnswer.the-variants.{Printed}
 use Rattle.printing.specs.Lines.{lines, refusal-line}
@@ -19,7 +19,7 @@ use Rattle.compile_text.specs.Giving.{most, Gives, printed-length}
 -- a text that was printed whole into the program's buffer
 printed-whole :
     (text : List ℕ) {o : Outcome} {a : PrintAnswer} {r : ℕ} {out : List ℕ}
-    → o ≡ record { answer = Printed (length text); out = text ++ replicate (most - length text) 0 }
+    → o ≡ record { answer = Printed (length text); out = padded most text }
     → Prints o a out
     → r ≡ printed-length a
     → length out ≡ most

@@ -10,12 +10,11 @@ use borrow.Author.Tests.{le-leb, lt-leb}
 use Rattle.task.specs.Table.{Lent, task-of}
 use Rattle.task.specs.Check.{refusal}
 use Rattle.file_format.specs.Bytes.{file-of}
-use Rattle.task_file.specs.Outcome as task-file-outcome
 use Rattle.task_writer.specs.declared.WriteAnswer.{WriteAnswer}
 use Rattle.task_writer.specs.declared.WriteAnswer.the-variants.{Written, NotWritten}
 use Rattle.task_writer.specs.Putting.{Put}
 use Rattle.task_writer.specs.Writing.{WriteOutcome, wrote, file-outcome, write-outcome}
-use Rattle.normal_form.specs.Compiled.{padded}
+use Rattle.task.specs.Words.{padded}
 use Rattle.layouts.specs.Layout.{low-bytes}
 use Rattle.layouts.proofs.LayWays.{put-padded, size}
 use Rattle.layouts.proofs.RunWays.{low-next}
@@ -25,10 +24,6 @@ use Rattle.compiled_file.specs.Giving.{CompileGives}
 and-false : (a : Bool) → a && false ≡ false
 and-false true = refl
 and-false false = refl
-
-same-padding : (n : ℕ) (words : List ℕ) → task-file-outcome.padded n words ≡ padded n words
-unfolding padded task-file-outcome.padded
-same-padding n words = refl
 
 module _ (l : Lent) (out result : List ℕ) where
   abbrev file : List ℕ
@@ -61,7 +56,7 @@ module _ (l : Lent) (out result : List ℕ) where
       where
         go : (x : Bool) → leb (length file) (length out) ≡ x → CompileGives (filed (file-of (task-of l)) (length out) (length result)) 20 out′ result′
         go true e =
-            let s : wrote r out′ ≡ wrote (Written (length file)) (task-file-outcome.padded (length out) file) = rw e at by-file in
+            let s : wrote r out′ ≡ wrote (Written (length file)) (padded (length out) file) = rw e at by-file in
             let w : NotWritten n ≡ Written (length file) = sym q ∙ ap (λ (y : WriteOutcome). y .answer) s in
             absurd (let z : _≡_ {A = ℕ} 0 1 = cc in omega arith)
         go false e =
@@ -80,7 +75,7 @@ module _ (l : Lent) (out result : List ℕ) where
       where
         go : (x : Bool) → leb (length file) (length out) ≡ x → CompileGives (filed (file-of (task-of l)) (length out) (length result)) 0 out′ result′
         go true e =
-            let s : wrote r out′ ≡ wrote (Written (length file)) (task-file-outcome.padded (length out) file) = rw e at by-file in
+            let s : wrote r out′ ≡ wrote (Written (length file)) (padded (length out) file) = rw e at by-file in
             let w : Written n ≡ Written (length file) = sym q ∙ ap (λ (y : WriteOutcome). y .answer) s in
             let same : n ≡ length file = cc in
             let here : result′ ≡ padded (length result) (low-bytes 4 n) =
@@ -89,7 +84,7 @@ module _ (l : Lent) (out result : List ℕ) where
             rw (e, le-leb 4 (length result) h)
             (record {
               told = refl;
-              written = ap (λ (y : WriteOutcome). y .out) s ∙ same-padding (length out) file;
+              written = ap (λ (y : WriteOutcome). y .out) s;
               held = here ∙ ap (λ (k : ℕ). padded (length result) (low-bytes 4 k)) same;
             })
         go false e =

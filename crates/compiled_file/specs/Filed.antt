@@ -8,7 +8,7 @@ use Rattle.task.specs.Table.{Task}
 use Rattle.task.specs.Check.{unless}
 use Rattle.file_format.specs.Bytes.{file-of}
 use Rattle.normal_form.specs.Finished.{finished}
-use Rattle.normal_form.specs.Compiled.{padded}
+use Rattle.task.specs.Words.{padded}
 use Rattle.entry_tables.specs.Own.{compile-number}
 use Rattle.layouts.specs.Layout.{low-bytes, zeros}
 

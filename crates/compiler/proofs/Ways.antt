@@ -73,11 +73,11 @@ module _ {l : Lent} {x : Tables} (p : Passed l x) where
 
   pub short-initial : length (x .initial) < l .head .variables → left (Refused 15) x ≡ compiling l (room-of x)
   short-initial h =
-      refuses-room (λ fit. omega (arith, fit .initial, finished-variables t, its-variables l (p .passes))) (p .blank)
+      refuses-room (λ fit. omega (arith, fit .tables .initial, finished-variables t, its-variables l (p .passes))) (p .blank)
 
   pub short-operators : length (x .operators) < 3 * l .head .operators → left (Refused 15) x ≡ compiling l (room-of x)
   short-operators h =
-      refuses-room (λ fit. omega (arith, fit .operators, finished-operators t, length-operators l)) (p .blank)
+      refuses-room (λ fit. omega (arith, fit .tables .operators, finished-operators t, length-operators l)) (p .blank)
 
   one-effect : 1 ≤ length (finished (task-of l) .effects)
   unfolding finished assembled unassembled
@@ -86,7 +86,7 @@ module _ {l : Lent} {x : Tables} (p : Passed l x) where
       (assemble-effects (length (t .initial)) (built t .st .twins) unassembled (built t .value .operators))
 
   pub short-effects : length (x .effects) < 3 → left (Refused 15) x ≡ compiling l (room-of x)
-  short-effects h = refuses-room (λ fit. omega (arith, fit .effects, one-effect)) (p .blank)
+  short-effects h = refuses-room (λ fit. omega (arith, fit .tables .effects, one-effect)) (p .blank)
 
   module _ {y : Tables} {r : Passes} (f : Fills l x y r) where
     pub filled-over : {z : Tables} → r .full ≡ true → Blanked x z → left (Refused 15) z ≡ compiling l (room-of x)

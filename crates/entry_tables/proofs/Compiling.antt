@@ -12,16 +12,16 @@ use Rattle.task.proofs.Bounded.{and-left}
 use Rattle.task.proofs.Held.{length-originals}
 use Rattle.task.proofs.Kept.{kept-rules}
 use Rattle.task.proofs.Passed.{passed, counts-tested}
-use Rattle.file_format.specs.Reading.{room}
+use Rattle.task.specs.Check.{room as has-room}
 use Rattle.normal_form.specs.Finished.{finished}
-use Rattle.normal_form.specs.Compiled.{Room, scratch-kept, has-room, fits, compile-refusal, compiled-head, refused, nothing-given, task-given, outcome-by, compiling}
+use Rattle.normal_form.specs.Compiled.{Room, scratch-kept, output-lengths, fits, compile-refusal, compiled-head, refused, nothing-given, task-given, outcome-by, compiling}
 use Rattle.entry_tables.specs.Own.{own, own-room, compile-number}
 use Rattle.entry_tables.specs.Answers.{refused-compile}
 use Rattle.entry_tables.proofs.Reading.{limits-room}
 
 -- a task fits one's own room if it keeps the limits
 limits-alone : (t : Task) → fits t own-room ≡ counts-kept (head-of t)
-unfolding fits has-room own-room room own
+unfolding fits own-room has-room own
 limits-alone t = go (counts-kept (head-of t)) refl
   where
     go : (b : Bool) → counts-kept (head-of t) ≡ b → fits t own-room ≡ counts-kept (head-of t)
@@ -54,7 +54,7 @@ module _ (l : Lent) (kept : refusal l ≡ 0) where
       go true false x y = absurd (d (rw (kept, x, enough, y)))
       go true true x y =
           let limits : counts-kept (head-of source) ≡ true =
-          unfold fits in and-left (counts-kept (head-of source)) (has-room (head-of source) room) y
+          unfold fits in and-left (counts-kept (head-of source)) (has-room (output-lengths room) (head-of source)) y
           in
           rw (kept, x, enough, y, own-scratch, limits-alone source, limits)
 

@@ -17,7 +17,8 @@ use Rattle.task_file.specs.declared.ReadAnswer.{ReadAnswer}
 use Rattle.task_file.specs.declared.ReadAnswer.the-variants.{Read, Refused}
 use Rattle.file_format.specs.Parse.{Parsed, parsed, refused, next, kept}
 use Rattle.file_format.specs.Reading.{Lengths, room, head-read, head-kept, Outcome, accepted, rejected, at-end, task-read, reading}
-use Rattle.task_file.specs.Outcome.{ReadOutcome, padded, outcome-of, left, read-outcome}
+use Rattle.task_file.specs.Outcome.{ReadOutcome, outcome-of, left, read-outcome}
+use Rattle.task.specs.Words.{padded}
 use Rattle.file_format.proofs.Parse.{Bytes}
 use Rattle.file_format.proofs.RoundTrip.{Accepted, written-read}
 use Rattle.entry_tables.specs.Own.{own}

@@ -122,6 +122,15 @@ packed-bit state b v h =
     ∙ getD-upto 8 (λ k. getD state (8 * (v / 8) + k) 0) (v % 8) 0 (omega arith)
     ∙ ap (λ (x : ℕ). getD state x 0) e
 
+-- a packed state has bytes
+pub packed-byte : (state : List ℕ) → Bits state → (j : ℕ) → j < length (packed state) → getD (packed state) j 0 < 256
+unfolding byte-number
+packed-byte state b j h =
+    let f : ℕ → ℕ = λ k. getD state (8 * j + k) 0 in
+    let past : (k : ℕ) → 8 ≤ k → getD (upto 8 f) k 0 ≡ 0 = λ k m. List·getD-eq-default (upto 8 f) 0 (omega (arith, length-upto 8 f)) in
+    rw (packed-at state j (rw (packed-length state) at h))
+    (number-lt 8 (upto 8 f) (bits-upto 8 f (λ k. b (8 * j + k))) past)
+
 -- unpacking undoes packing
 pub unpacked-packed : (state : List ℕ) → Bits state → upto (length state) (bit-of (packed state)) ≡ state
 unpacked-packed state b =

@@ -7,3 +7,5 @@ pub mod Tables
 pub mod Whole
 pub mod RoundTrip
 pub mod Smallest
+pub mod OfBytes
+pub mod Numbers

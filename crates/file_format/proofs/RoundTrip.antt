@@ -7,15 +7,15 @@ use mathlib.Core.List.{List, [], _∷_, _++_, append-nil}
 use native.Mathlib.Omega.{arith}
 use lib.ListN.{length}
 use Rattle.task.specs.Table.{Task}
-use Rattle.task.specs.Rules.{Rules}
+use Rattle.task.specs.Rules.{Checked, HasRoom}
 use Rattle.file_format.specs.Bytes.{file-of}
 use Rattle.file_format.specs.Parse.{Parsed, parsed, refused}
-use Rattle.file_format.specs.Reading.{Lengths, Room, task-read, Outcome, accepted, rejected, at-end, reading}
+use Rattle.file_format.specs.Reading.{Lengths, task-read, Outcome, accepted, rejected, at-end, reading}
 use Rattle.file_format.proofs.Parse.{Bytes, parsed-value, parsed-rest, Cut, short, whole}
 use Rattle.file_format.proofs.Whole.{task-reads, Task-read, task-parsed, task-stable}
 
 -- reading what writing gives yields the task
-pub read-written : (l : Lengths) (t : Task) → Rules t → Room l t → reading l (file-of t) ≡ accepted t
+pub read-written : (l : Lengths) (t : Task) → Checked t → HasRoom l t → reading l (file-of t) ≡ accepted t
 unfolding reading at-end
 read-written l t r h = rw (ap (task-read l) (sym (append-nil (file-of t))) ∙ task-reads l t [] r h)
 
@@ -28,8 +28,8 @@ accepted-read (refused n) e = absurd (let z : _≡_ {A = ℕ} 0 1 = cc in omega 
 -- what an accepted file is
 pub record Accepted (l : Lengths) (file : List ℕ) (t : Task) : Type 0 where
   pub same : file ≡ file-of t
-  pub rules : Rules t
-  pub roomy : Room l t
+  pub rules : Checked t
+  pub roomy : HasRoom l t
 
 -- writing what reading gave yields the same bytes: one task has one file
 pub written-read : (l : Lengths) (file : List ℕ) (t : Task) → Bytes file → reading l file ≡ accepted t → Accepted l file t
@@ -74,7 +74,7 @@ both-fit t u =
     }
 
 -- no task's file is the beginning of another's, and two tasks have two files
-pub apart : (t u : Task) (rest : List ℕ) → Rules t → Rules u → file-of t ++ rest ≡ file-of u → (t ≡ u) × (rest ≡ [])
+pub apart : (t u : Task) (rest : List ℕ) → Checked t → Checked u → file-of t ++ rest ≡ file-of u → (t ≡ u) × (rest ≡ [])
 unfolding both-fit
 apart t u rest r s e =
     let l = both-fit t u in

@@ -11,10 +11,10 @@ use Rattle.task.specs.Bounded.{upto}
 use Rattle.task.proofs.Bounded.{length-upto, getD-upto}
 use Rattle.task.specs.Table.{Row, Operator, Task, formula-kind, effect-kind}
 use Rattle.task.specs.Check.{twin-kept, formula-kept, effect-kept, operator-kept}
-use Rattle.task.specs.Rules.{no-row, no-operator, FormulaRule, EffectRule, OperatorRule}
+use Rattle.task.specs.Rules.{no-row, no-operator, FormulaRule, EffectRule, OperatorRule, TwinRule}
 use Rattle.task.specs.Words.{joined}
 use Rattle.task.proofs.RowRules.{formula-told, formula-passes, effect-told, effect-passes, operator-told, operator-passes}
-use Rattle.task.proofs.Passed.{TwinRule, twin-tested}
+use Rattle.task.proofs.Passed.{twin-tested}
 use Rattle.file_format.specs.Bytes.{word-bytes, row-bytes, operator-bytes, bytes-for, packed}
 use Rattle.file_format.specs.Parse.{Parsed, parsed, refused, next, kept, byte-read, word-read, table-read}
 use Rattle.file_format.specs.Reading.{initial-read, bit-of, spare-clear, twin-read, row-read, row-clear, row-from, formula-read, effect-read, operator-fields-read, operator-clear, operator-from, operator-read}

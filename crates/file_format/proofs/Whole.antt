@@ -6,19 +6,16 @@ use mathlib.Core.Logic.{_↔_}
 use mathlib.Core.Bool.{Bool, true, false}
 use mathlib.Core.List.{List, [], _∷_, _++_, append-assoc, append-nil}
 use lib.ListN.{length, getD, take}
-use lib.Dec.{leb}
-use borrow.Author.Tests.{leb-true, le-leb}
 use Rattle.task.specs.declared.Head.{Head}
 use Rattle.task.specs.Table.{Row, Operator, Task, formula-kind, effect-kind}
 use Rattle.task.specs.Check.{counts-kept, goal-kept, twin-kept, formula-kept, effect-kept, operator-kept}
-use Rattle.task.specs.Rules.{no-row, no-operator, FormulaRule, EffectRule, OperatorRule, Limits, Rules}
+use Rattle.task.specs.Rules.{no-row, no-operator, FormulaRule, EffectRule, OperatorRule, Limits, Checked, HasRoom, TwinRule, Counts}
 use Rattle.task.specs.Words.{joined, head-of}
-use Rattle.task.proofs.Bounded.{and-left, and-right, and-both}
 use Rattle.task.proofs.RowRules.{formula-told, formula-passes, effect-told, effect-passes, operator-told, operator-passes}
-use Rattle.task.proofs.Passed.{TwinRule, twin-tested, Counts, counts-tested, goal-tested}
+use Rattle.task.proofs.Passed.{twin-tested, counts-tested, goal-tested, room-tested}
 use Rattle.file_format.specs.Bytes.{word-bytes, head-bytes, row-bytes, operator-bytes, packed, file-of}
 use Rattle.file_format.specs.Parse.{Parsed, parsed, refused, next, kept, table-read}
-use Rattle.file_format.specs.Reading.{Lengths, room, Room, head-read, head-clear, head-from, head-kept, initial-read, twin-read, formula-read, effect-read, operator-read, tables-read, task-read}
+use Rattle.file_format.specs.Reading.{Lengths, room, head-read, head-clear, head-from, head-kept, initial-read, twin-read, formula-read, effect-read, operator-read, tables-read, task-read}
 use Rattle.file_format.proofs.Parse.{Bytes, bytes-behind, parsed-value, parsed-rest, Kept, kept-parsed, kept-true, Steps, next-parsed, next-to, Stable, pure-stable, kept-stable, next-stable}
 use Rattle.file_format.proofs.Table.{Table}
 use Rattle.file_format.proofs.Rows.{head-reads, head-parsed, mapped-stable}
@@ -36,10 +33,7 @@ file-parts : (t : Task) (rest : List ℕ) → file-of t ++ rest ≡ head-bytes (
 unfolding file-of tables-bytes
 file-parts t rest = simp append-assoc
 
-module _ (t : Task) (r : Rules t) where
-  twin-rule : (k : ℕ) → k < length (t .originals) → TwinRule (length (t .initial) - length (t .originals)) (t .originals) k
-  twin-rule k h = record { below = r .twin-of-source k h; once = λ j l. r .twin-once j k l h }
-
+module _ (t : Task) (r : Checked t) where
   formula-test : (i : ℕ) → i < length (t .formulas) → formula-kept (length (t .initial)) i (getD (t .formulas) i no-row) ≡ true
   unfolding formula-kept
   formula-test i h =
@@ -64,7 +58,7 @@ module _ (t : Task) (r : Rules t) where
       let w = joined word-bytes (t .originals) ++ f in
       rw (
         initial-reads (t .initial) w (bits-of-state (t .initial) (r .initial-bits)),
-        twins-reads (length (t .initial) - length (t .originals)) (t .originals) f twin-rule,
+        twins-reads (length (t .initial) - length (t .originals)) (t .originals) f (r .twin),
         formulas-reads (length (t .initial)) (t .formulas) e formula-test,
         effects-reads (length (t .initial)) (length (t .formulas)) (t .effects) o effect-test,
         operators-reads (length (t .formulas)) (length (t .effects)) (t .operators) rest operator-test,
@@ -87,30 +81,12 @@ module _ (t : Task) (r : Rules t) where
   unfolding head-of
   goal-test = goal-tested (head-of t) .1 (r .goal-is-formula)
 
-room-tested : (l : Lengths) (t : Task) → room l (head-of t) ≡ true ↔ Room l t
-unfolding room head-of
-room-tested l t = (told, tested)
-  where
-    told : room l (head-of t) ≡ true → Room l t
-    told e =
-        record {
-          initial = leb-true (length (t .initial)) (l .initial) (search and-left);
-          twins = leb-true (length (t .originals)) (l .twins) (search (and-left, and-right));
-          formulas = leb-true (3 * length (t .formulas)) (l .formulas) (search (and-left, and-right));
-          effects = leb-true (3 * length (t .effects)) (l .effects) (search (and-left, and-right));
-          operators = leb-true (3 * length (t .operators)) (l .operators) (search (and-left, and-right));
-        }
-
-    tested : Room l t → room l (head-of t) ≡ true
-    tested r =
-        and-both (le-leb (length (t .initial)) (l .initial) (r .initial))
-        (and-both (le-leb (length (t .originals)) (l .twins) (r .twins))
-        (and-both (le-leb (3 * length (t .formulas)) (l .formulas) (r .formulas))
-        (and-both (le-leb (3 * length (t .effects)) (l .effects) (r .effects))
-        (le-leb (3 * length (t .operators)) (l .operators) (r .operators)))))
+roomy-tested : (l : Lengths) (t : Task) → room l (head-of t) ≡ true ↔ HasRoom l t
+unfolding head-of
+roomy-tested l t = room-tested l (head-of t)
 
 -- the file of a task that keeps the rules is read as the task, and what follows is left
-pub task-reads : (l : Lengths) (t : Task) (rest : List ℕ) → Rules t → Room l t → task-read l (file-of t ++ rest) ≡ parsed t rest
+pub task-reads : (l : Lengths) (t : Task) (rest : List ℕ) → Checked t → HasRoom l t → task-read l (file-of t ++ rest) ≡ parsed t rest
 unfolding task-read head-kept next
 task-reads l t rest r h =
     rw (
@@ -118,7 +94,7 @@ task-reads l t rest r h =
       head-reads (head-of t) (tables-bytes t rest),
       kept-true (counts-kept (head-of t)) 6 (head-of t) (tables-bytes t rest) (counts-test t r),
       kept-true (goal-kept (head-of t)) 7 (head-of t) (tables-bytes t rest) (goal-test t r),
-      kept-true (room l (head-of t)) 5 (head-of t) (tables-bytes t rest) (room-tested l t .1 h),
+      kept-true (room l (head-of t)) 5 (head-of t) (tables-bytes t rest) (roomy-tested l t .1 h),
     ) (tables-reads t r rest)
 
 -- tables that were read behind a head
@@ -176,7 +152,7 @@ tables-parsed h bytes {t} {rest} b q =
     (joined-parts h bytes (s1 .value) (s1 .mid) (s2 .value) (s2 .mid) (s3 .value) (s3 .mid) (s4 .value) (s4 .mid) (s5 .value) (s5 .mid) i w f e o)
 
 -- the rules, from the tests that a read task passed
-rules-told : (h : Head) (bytes : List ℕ) (t : Task) (rest : List ℕ) → Behind h bytes t rest → Counts h → h .goal < h .formulas → Rules t
+rules-told : (h : Head) (bytes : List ℕ) (t : Task) (rest : List ℕ) → Behind h bytes t rest → Counts h → h .goal < h .formulas → Checked t
 unfolding formula-kept effect-kept head-of
 rules-told h bytes t rest b c g =
     let v : length (t .initial) ≡ h .variables = ap (λ (k : Head). k .variables) (b .head) in
@@ -197,8 +173,7 @@ rules-told h bytes t rest b c g =
           };
       goal-is-formula = rw (goal, f) g;
       initial-bits = b .bits;
-      twin-of-source = λ k l. rw (v, w) (b .twins k l .below);
-      twin-once = λ j k l m. b .twins k m .once j l;
+      twin = λ k l. rw (v, w) (b .twins k l);
       formula =
           λ i l.
           let x = getD (t .formulas) i no-row in
@@ -214,8 +189,8 @@ rules-told h bytes t rest b c g =
 -- a task that was read: its file stood there, it keeps the rules, and the lent tables are long enough
 pub record Task-read (l : Lengths) (bytes : List ℕ) (t : Task) (rest : List ℕ) : Type 0 where
   pub same : bytes ≡ file-of t ++ rest
-  pub rules : Rules t
-  pub roomy : Room l t
+  pub rules : Checked t
+  pub roomy : HasRoom l t
 
 pub task-parsed : (l : Lengths) (bytes : List ℕ) {t : Task} {rest : List ℕ} → Bytes bytes → task-read l bytes ≡ parsed t rest → Task-read l bytes t rest
 unfolding task-read head-kept
@@ -238,7 +213,7 @@ task-parsed l bytes {t} {rest} b q =
     record {
       same = cc (front, h, m, d .same, d .head, file-parts t rest);
       rules = rules-told (s2 .value) (s2 .mid) t rest d (counts-tested (s2 .value) .0 counts) (goal-tested (s2 .value) .0 goal);
-      roomy = room-tested l t .0 roomy;
+      roomy = roomy-tested l t .0 roomy;
     }
 
 tables-stable : (h : Head) → Stable (tables-read h)

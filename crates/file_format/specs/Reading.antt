@@ -8,25 +8,11 @@ use lib.Dec.{leb, ltb, eqb}
 use Rattle.task.specs.declared.Head.{Head}
 use Rattle.task.specs.Bounded.{upto}
 use Rattle.task.specs.Table.{Row, Operator, Task}
+pub use Rattle.task.specs.Check.{Lengths}
+unfoldable pub use Rattle.task.specs.Check.{room}
 use Rattle.task.specs.Check.{counts-kept, goal-kept, twin-kept, formula-kept, effect-kept, operator-kept}
 use Rattle.file_format.specs.Bytes.{bytes-for}
 use Rattle.file_format.specs.Parse.{Parsed, parsed, refused, next, kept, byte-read, word-read, mapped-read, table-read}
-
--- how long each lent table is
-pub record Lengths : Type 0 where
-  pub initial : ℕ
-  pub twins : ℕ
-  pub formulas : ℕ
-  pub effects : ℕ
-  pub operators : ℕ
-
--- 5: as many words as the counts ask (of the initial state: bytes)
-unfoldable pub room : Lengths → Head → Bool
-room l h =
-    leb (h .variables) (l .initial)
-    && (leb (h .twins) (l .twins)
-    && (leb (3 * h .formulas) (l .formulas)
-    && (leb (3 * h .effects) (l .effects) && leb (3 * h .operators) (l .operators))))
 
 abbrev pub head-from : ℕ → List ℕ → Head
 head-from m ws =
@@ -137,11 +123,3 @@ at-end (refused n) = rejected n
 
 unfoldable pub reading : Lengths → List ℕ → Outcome
 reading l file = at-end (task-read l file)
-
--- each lent table is as long as the task needs
-pub record Room (l : Lengths) (t : Task) : Type 0 where
-  pub initial : length (t .initial) ≤ l .initial
-  pub twins : length (t .originals) ≤ l .twins
-  pub formulas : 3 * length (t .formulas) ≤ l .formulas
-  pub effects : 3 * length (t .effects) ≤ l .effects
-  pub operators : 3 * length (t .operators) ≤ l .operators

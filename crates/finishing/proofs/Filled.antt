@@ -13,7 +13,8 @@ use Rattle.task.proofs.Bounded.{length-upto}
 use Rattle.task.proofs.Held.{length-operators, initial-held}
 use Rattle.normal_form.specs.Builder.{St, start, plain}
 use Rattle.normal_form.specs.Finished.{built, assembled, twin-values, finished}
-use Rattle.normal_form.specs.Compiled.{Fits, padded}
+use Rattle.normal_form.specs.Compiled.{Fits}
+use Rattle.task.specs.Words.{padded}
 use Rattle.normal_form.proofs.Growth.{grows-refl}
 use Rattle.normal_form.proofs.Over.{Allows, building-within}
 use Rattle.normal_form.proofs.Compiled.{fits-if}
@@ -130,7 +131,7 @@ module _ {l : Lent} {rows twins effects : ℕ} {x : Tables} (b : Lends l rows tw
           few : Fits (finished (task-of l)) (room-of x) → length (assembled (task-of l) .effects) ≤ effects
           few fit =
               unfold finished in
-              b .allows .effects-allowed (length (assembled (task-of l) .effects)) (fit .limits .effects) (fit .effects)
+              b .allows .effects-allowed (length (assembled (task-of l) .effects)) (fit .limits .effects) (fit .tables .effects)
 
       module _ (full : c .full ≡ false) where
         h : Holding (assembled (task-of l)) (c .rows) (l .head .operators) out outs

@@ -18,7 +18,7 @@ use Rattle.file_format.specs.Bytes.{word-bytes, head-fields}
 use Rattle.task_writer.specs.Putting.{Put}
 use Rattle.task_writer.proofs.Puts.{put-none, put-then, put-same, put-size}
 use Rattle.task_file.proofs.ReadWays.{zeros-of, drop-zeros}
-use Rattle.normal_form.specs.Compiled.{padded}
+use Rattle.task.specs.Words.{padded}
 use Rattle.layouts.specs.Layout.{tables-bytes, laid-by, laid}
 use Rattle.layouts.specs.Giving.{Lays, flat-bytes}
 

@@ -10,13 +10,13 @@ use lib.Seq.{take-suc-set}
 use lib.Dec.{leb, eqb}
 use borrow.Author.Tests.{le-leb, lt-leb, eq-eqb, ne-eqb, leb-true}
 use Rattle.task.specs.Bounded.{every, upto}
-use Rattle.task.specs.Check.{unless}
+use Rattle.task.specs.Check.{state-kept, sequence-kept, unless}
 use Rattle.task.proofs.Bounded.{length-upto}
 use Rattle.task_writer.specs.Putting.{Put}
 use Rattle.task_writer.proofs.Puts.{put-none, put-then, put-same}
 use Rattle.plan.specs.declared.outcome.RunOutcome.{RunOutcome}
-use Rattle.layouts.specs.Layout.{low-bytes, numbers-of, flag}
-use Rattle.layouts.specs.Giving.{numbered, stop-of, plan-of, outcome-bytes, ResultGives}
+use Rattle.layouts.specs.Layout.{low-bytes, numbers-of, run-number, flag}
+use Rattle.layouts.specs.Giving.{stop-of, plan-of, outcome-bytes, ResultGives}
 use Rattle.layouts.proofs.LayWays.{put-padded, size}
 
 -- the numbers of a sequence
@@ -66,38 +66,38 @@ module _ (bytes before : List ℕ) where
 
 -- the refusals, in order
 module _ (v : ℕ) (s q : List ℕ) (r : ℕ) where
-  pub wrong-length : (length s ≡ v → ⊥) → 16 ≡ numbered v s q r
-  unfolding numbered
+  pub wrong-length : (length s ≡ v → ⊥) → 16 ≡ run-number v s q r
+  unfolding run-number state-kept sequence-kept
   wrong-length h = rw (ne-eqb (length s) v h)
 
   module _ (same : length s ≡ v) where
-    pub wrong-bits : {b : Bool} → b ≡ every (length s) (λ v. leb (getD s v 0) 1) → b ≡ false → 16 ≡ numbered v s q r
-    unfolding numbered
+    pub wrong-bits : {b : Bool} → b ≡ every (length s) (λ v. leb (getD s v 0) 1) → b ≡ false → 16 ≡ run-number v s q r
+    unfolding run-number state-kept sequence-kept
     wrong-bits e f = rw (eq-eqb (length s) v same, sym e ∙ f)
 
     module _ {b : Bool} (tested : b ≡ every (length s) (λ v. leb (getD s v 0) 1)) (fine : b ≡ true) where
       state-fine : eqb (length s) v && every (length s) (λ v. leb (getD s v 0) 1) ≡ true
       state-fine = rw (eq-eqb (length s) v same) (sym tested ∙ fine)
 
-      pub half-number : (length q % 2 ≡ 0 → ⊥) → 19 ≡ numbered v s q r
-      unfolding numbered
+      pub half-number : (length q % 2 ≡ 0 → ⊥) → 19 ≡ run-number v s q r
+      unfolding run-number state-kept sequence-kept
       half-number h = rw (state-fine, ne-eqb (length q % 2) 0 h)
 
       module _ (even : length q % 2 ≡ 0) where
-        pub too-many : 65535 < length q / 2 → 19 ≡ numbered v s q r
-        unfolding numbered
+        pub too-many : 65535 < length q / 2 → 19 ≡ run-number v s q r
+        unfolding run-number state-kept sequence-kept
         too-many h = rw (state-fine, eq-eqb (length q % 2) 0 even, lt-leb (length (numbers-of q)) 65535 (omega (arith, numbers-length q)))
 
         module _ (few : length q / 2 ≤ 65535) where
           few-numbers : leb (length (numbers-of q)) 65535 ≡ true
           few-numbers = le-leb (length (numbers-of q)) 65535 (omega (arith, numbers-length q))
 
-          pub no-room : r < 16 → 20 ≡ numbered v s q r
-          unfolding numbered
+          pub no-room : r < 16 → 20 ≡ run-number v s q r
+          unfolding run-number state-kept sequence-kept
           no-room h = rw (state-fine, eq-eqb (length q % 2) 0 even, few-numbers, lt-leb 16 r h)
 
-          pub none-refused : 16 ≤ r → 0 ≡ numbered v s q r
-          unfolding numbered
+          pub none-refused : 16 ≤ r → 0 ≡ run-number v s q r
+          unfolding run-number state-kept sequence-kept
           none-refused h = rw (state-fine, eq-eqb (length q % 2) 0 even, few-numbers, le-leb 16 r h)
 
 -- what no refusal says
@@ -110,8 +110,8 @@ both-true : (a b : Bool) → a && b ≡ true → b ≡ true
 both-true true b e = e
 both-true false b e = absurd (false≢true e)
 
-pub free-of : (v : ℕ) (s q : List ℕ) (r : ℕ) → numbered v s q r ≡ 0 → Free v s q r
-unfolding numbered
+pub free-of : (v : ℕ) (s q : List ℕ) (r : ℕ) → run-number v s q r ≡ 0 → Free v s q r
+unfolding run-number state-kept sequence-kept
 free-of v s q r e = go (eqb (length s) v && every (length s) (λ v. leb (getD s v 0) 1)) (eqb (length q % 2) 0 && leb (length (numbers-of q)) 65535) (leb 16 r) refl refl refl e
   where
     go :

@@ -5,17 +5,15 @@ use mathlib.Core.Bool.{Bool, true, false, _&&_}
 use mathlib.Core.List.{List, [], _∷_, _++_}
 use lib.ListN.{length, getD, take}
 use lib.Dec.{leb, eqb}
-use Rattle.task.specs.Bounded.{every}
 use Rattle.task.specs.Table.{Lent}
-use Rattle.task.specs.Check.{unless}
 use Rattle.task.specs.Rules.{LongEnough}
 use Rattle.task.specs.Words.{joined}
 use Rattle.file_format.specs.Bytes.{word-bytes, head-fields}
 use Rattle.plan.specs.declared.outcome.RunOutcome.{RunOutcome}
 use Rattle.plan.specs.declared.outcome.End.{End}
 use Rattle.plan.specs.declared.outcome.End.the-variants.{Ended, Stopped, Refused}
-use Rattle.normal_form.specs.Compiled.{padded}
-use Rattle.layouts.specs.Layout.{low-bytes, numbers-of, flag, Laid}
+use Rattle.task.specs.Words.{padded}
+use Rattle.layouts.specs.Layout.{low-bytes, flag, Laid}
 
 pub record Lays (w : Laid) (r : ℕ) (after : List ℕ) : Type 0 where
   pub told : r ≡ w .number
@@ -39,12 +37,6 @@ pub record LayIn (l : Lent) : Type 0 where
   pub formulas : l .head .formulas ≤ 4096
   pub effects : l .head .effects ≤ 4096
   pub operators : l .head .operators ≤ 256
-
--- the number of a run's refusal, over v variables: 16, 19, 20
-unfoldable pub numbered : (v : ℕ) → (state sequence : List ℕ) → ℕ → ℕ
-numbered v state sequence r =
-    unless (eqb (length state) v && every (length state) (λ v. leb (getD state v 0) 1)) 16
-    (unless (eqb (length sequence % 2) 0 && leb (length (numbers-of sequence)) 65535) 19 (unless (leb 16 r) 20 0))
 
 -- how a run ended: its stop's number, 0 without one, and whether it is a plan
 abbrev pub stop-of : End → ℕ

@@ -1,16 +1,16 @@
 -- The layouts that cross to C: all integers little-endian, a task as its file, operator numbers as 16 bits.
 use Prim.Native.Nat.{ℕ, zero, suc, _+_, _-_, _*_, _/_, _%_}
-use mathlib.Core.Bool.{Bool, true, false}
+use mathlib.Core.Bool.{Bool, true, false, _&&_}
 use mathlib.Core.List.{List, [], _∷_, _++_}
 use lib.ListN.{length, getD, replicate}
-use lib.Dec.{leb}
+use lib.Dec.{leb, eqb}
 use Rattle.task.specs.Bounded.{upto}
 use Rattle.task.specs.Table.{Task}
-use Rattle.task.specs.Check.{unless}
+use Rattle.task.specs.Check.{state-kept, sequence-kept, unless}
 use Rattle.task.specs.Words.{joined, words-of, operator-words, head-of}
 use Rattle.task.specs.Run.{Run, Stop, ended, stopped, is-plan}
 use Rattle.file_format.specs.Bytes.{word-bytes, head-fields}
-use Rattle.normal_form.specs.Compiled.{padded}
+use Rattle.task.specs.Words.{padded}
 
 -- the n low bytes of a number, the lowest first
 unfoldable pub low-bytes : ℕ → ℕ → List ℕ
@@ -29,6 +29,12 @@ tables-bytes t =
 -- the operator numbers of a sequence of bytes: two bytes each
 unfoldable pub numbers-of : List ℕ → List ℕ
 numbers-of bytes = upto (length bytes / 2) (λ i. getD bytes (2 * i) 0 + 256 * getD bytes (2 * i + 1) 0)
+
+-- what refuses a run for C, over v variables, with r bytes for its result: 16, then 19 (also for half a number), then 20, all before the run
+unfoldable pub run-number : (v : ℕ) → (state sequence : List ℕ) → (r : ℕ) → ℕ
+run-number v state sequence r =
+    unless (state-kept v state) 16
+    (unless (eqb (length sequence % 2) 0 && sequence-kept (numbers-of sequence)) 19 (unless (leb 16 r) 20 0))
 
 unfoldable pub flag : Bool → ℕ
 flag false = 0

@@ -4,11 +4,11 @@ ghost use mathlib.Core.Path.{_≡_};
 ghost use Prim.Native.Nat.{_/_, _≤_};
 ghost use lib.ListN.{length, take};
 ghost use Rattle.layouts.specs.Layout.{numbers-of};
-ghost use Rattle.layouts.specs.Giving.{numbered};
+ghost use Rattle.layouts.specs.Layout.{run-number};
 
 // 0, or the first in order: 16, 19, 20. Linear in the state.
 pub fn refused_run(variables: usize, state: &[u8], sequence: &[u8], room: usize) -> u32
-    ensures { λ r. ⌜ r ≡ numbered variables (now (state .entry)) (now (sequence .entry)) room ⌝ }
+    ensures { λ r. ⌜ r ≡ run-number variables (now (state .entry)) (now (sequence .entry)) room ⌝ }
 {
     if state.len() != variables {
         return 16;

@@ -5,7 +5,8 @@ use lib.ListN.{length, replicate, length-replicate}
 use Rattle.task.specs.Table.{Lent, task-of}
 use Rattle.task.specs.Words.{words-of, operator-words}
 use Rattle.normal_form.specs.Finished.{finished}
-use Rattle.normal_form.specs.Compiled.{Room, padded}
+use Rattle.normal_form.specs.Compiled.{Room}
+use Rattle.task.specs.Words.{padded}
 use Rattle.lent_tables.specs.declared.Passes.{Passes}
 use Rattle.lent_tables.specs.Fills.{Tables, room-of, Blanked, Fills}
 

@@ -5,7 +5,7 @@ use mathlib.Core.Path.{_≡_}
 use lib.ListN.{length}
 use Rattle.task.specs.Table.{Lent, task-of}
 use Rattle.task.specs.Check.{refusal}
-use Rattle.task.specs.Rules.{LongEnough, Rules}
+use Rattle.task.specs.Rules.{LongEnough, Checked}
 use Rattle.task.proofs.Held.{length-initial, length-effects}
 use Rattle.task.proofs.Kept.{kept-rules}
 
@@ -13,7 +13,7 @@ module _ (l : Lent) (passes : refusal l ≡ 0) where
   pub long : LongEnough l
   long = kept-rules l passes .0
 
-  pub source : Rules (task-of l)
+  pub source : Checked (task-of l)
   source = kept-rules l passes .1
 
   pub its-variables : length (task-of l .initial) ≡ l .head .variables

@@ -8,7 +8,8 @@ use Rattle.task.specs.declared.Head.{Head}
 use Rattle.task.specs.Table.{Lent, task-of}
 use Rattle.task.specs.Words.{words-of, operator-words, head-of}
 use Rattle.normal_form.specs.Finished.{finished}
-use Rattle.normal_form.specs.Compiled.{Room, Fits, padded}
+use Rattle.normal_form.specs.Compiled.{Room, Fits}
+use Rattle.task.specs.Words.{padded}
 use Rattle.lent_tables.specs.declared.Passes.{Passes}
 
 -- the six lent tables

@@ -11,21 +11,22 @@ use lib.Dec.{leb, eqb, eqb·suc-zero}
 use borrow.Author.Tests.{leb-true, leb-false, le-leb, lt-leb, eqb-true, eqb-false, eq-eqb, ne-eqb}
 use Rattle.task.specs.declared.Head.{Head}
 use Rattle.task.specs.Table.{Lent, Task, task-of}
-use Rattle.task.specs.Check.{counts-kept, goal-kept, long-enough, initial-kept, twins-kept, formulas-kept, effects-kept, operators-kept, unless, refusal}
-use Rattle.task.specs.Rules.{Rules}
+use Rattle.task.specs.Check.{counts-kept, goal-kept, room as has-room, long-enough, initial-kept, twins-kept, formulas-kept, effects-kept, operators-kept, unless, refusal}
+use Rattle.task.specs.Rules.{Checked}
 use Rattle.task.specs.Run.{plain-run, effect-of-operator}
 use Rattle.task.specs.Corresponding.{Corresponding}
 use Rattle.task.specs.Words.{words-of, operator-words, head-of}
 use Rattle.task.proofs.Bounded.{and-left, and-right, and-both}
 use Rattle.task.proofs.Held.{length-initial}
 use Rattle.task.proofs.Kept.{kept-rules}
-use Rattle.task.proofs.Passed.{counts-tested}
+use Rattle.task.proofs.Passed.{room-tested, counts-tested}
 use Rattle.task.proofs.Words.{lent-in, task-in, kept-in}
 use Rattle.normal_form.specs.Finished.{finished}
 use Rattle.normal_form.specs.Flat.{Flat}
 use Rattle.normal_form.specs.Positive.{Positive}
 use Rattle.normal_form.specs.Alike.{Alike}
-use Rattle.normal_form.specs.Compiled.{Room, scratch-kept, has-room, fits, Fits, compile-refusal, compiled-head, refused, Outcome, padded, nothing-given, task-given, outcome-by, compiling, given}
+use Rattle.normal_form.specs.Compiled.{Room, scratch-kept, output-lengths, fits, Fits, compile-refusal, compiled-head, refused, Outcome, nothing-given, task-given, outcome-by, compiling, given}
+use Rattle.task.specs.Words.{padded}
 use Rattle.normal_form.proofs.ShapePassed.{finished-variables, finished-rules, positive}
 use Rattle.normal_form.proofs.ShapeFinished.{finished-operators, flat}
 use Rattle.normal_form.proofs.ShapeLimits.{finished-limits}
@@ -34,47 +35,24 @@ use Rattle.normal_form.proofs.Demand.{alike-from, initial-correspond}
 -- The test of limits and room.
 module _ (t : Task) (room : Room) where
   pub fits-tested : fits t room ≡ true ↔ Fits t room
-  unfolding fits has-room head-of
+  unfolding fits head-of
   fits-tested = (told, tested)
     where
       told : fits t room ≡ true → Fits t room
       told e =
-          let r = and-right (counts-kept (head-of t)) (has-room (head-of t) room) e in
-          let c = counts-tested (head-of t) .0 (and-left (counts-kept (head-of t)) (has-room (head-of t) room) e) in
+          let fit = has-room (output-lengths room) (head-of t) in
+          let r = and-right (counts-kept (head-of t)) fit e in
+          let c = counts-tested (head-of t) .0 (and-left (counts-kept (head-of t)) fit e) in
           record {
-            limits =
-                record {
-                  variables = c .variables;
-                  twins = c .twins;
-                  one-formula = c .one-formula;
-                  formulas = c .formulas;
-                  effects = c .effects;
-                  operators = c .operators;
-                };
-            initial = leb-true (length (t .initial)) (room .initial) (search (and-left, r));
-            twins = leb-true (length (t .originals)) (room .twins) (search (and-left, and-right, r));
-            formulas = leb-true (3 * length (t .formulas)) (room .formulas) (search (and-left, and-right, r));
-            effects = leb-true (3 * length (t .effects)) (room .effects) (search (and-left, and-right, r));
-            operators = leb-true (3 * length (t .operators)) (room .operators) (search (and-left, and-right, r));
+            limits = c;
+            tables = room-tested (output-lengths room) (head-of t) .0 r;
           }
 
       tested : Fits t room → fits t room ≡ true
       tested f =
           and-both
-          (counts-tested (head-of t) .1
-          (record {
-            variables = f .limits .variables;
-            twins = f .limits .twins;
-            one-formula = f .limits .one-formula;
-            formulas = f .limits .formulas;
-            effects = f .limits .effects;
-            operators = f .limits .operators;
-          }))
-          (and-both (le-leb (length (t .initial)) (room .initial) (f .initial))
-          (and-both (le-leb (length (t .originals)) (room .twins) (f .twins))
-          (and-both (le-leb (3 * length (t .formulas)) (room .formulas) (f .formulas))
-          (and-both (le-leb (3 * length (t .effects)) (room .effects) (f .effects))
-          (le-leb (3 * length (t .operators)) (room .operators) (f .operators))))))
+          (counts-tested (head-of t) .1 (f .limits))
+          (room-tested (output-lengths room) (head-of t) .1 (f .tables))
 
   pub fits-not : (Fits t room → ⊥) → fits t room ≡ false
   fits-not n = go (fits t room) refl
@@ -86,7 +64,7 @@ module _ (t : Task) (room : Room) where
 -- What compiling has to see of the finished task of a source that passes: its numbers of variables, formulas and effects. Operators are as many.
 pub fits-if :
     (t : Task) (room : Room)
-    → Rules t
+    → Checked t
     → length (t .initial) + length (finished t .originals) ≤ 512
     → length (t .initial) + length (finished t .originals) ≤ room .initial
     → length (finished t .originals) ≤ room .twins
@@ -99,11 +77,14 @@ pub fits-if :
 fits-if t room source v i w f rows e effects o =
     record {
       limits = finished-limits t source v f e;
-      initial = omega (arith, finished-variables t);
-      twins = w;
-      formulas = rows;
-      effects = effects;
-      operators = omega (arith, finished-operators t);
+      tables =
+          record {
+            initial = omega (arith, finished-variables t);
+            twins = w;
+            formulas = rows;
+            effects = effects;
+            operators = omega (arith, finished-operators t);
+          };
     }
 
 -- No number of the tables' own is above 12.
@@ -288,7 +269,7 @@ module _ (l : Lent) (room : Room) where
 
 -- Where compiling succeeds.
 module _ (l : Lent) (room : Room) (h : Head) (success : compiling l room .answer ≡ compiled-head h) where
-  pub source-rules : Rules (task-of l)
+  pub source-rules : Checked (task-of l)
   source-rules = kept-rules l (given-compiles l room h success .passes) .1
 
   -- the answer and the outputs are those of the finished task

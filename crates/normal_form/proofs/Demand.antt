@@ -10,12 +10,14 @@ use lib.Seq.{getD-append-add}
 use lib.Dec.{ltb}
 use borrow.Author.Tests.{ltb-true, le-ltb}
 use Rattle.task.specs.Table.{Task}
-use Rattle.task.specs.Rules.{Rules}
-use Rattle.task.specs.Run.{effect-of-operator, applicable, charge, Progress, after-step, Stop, ended, stopped, Run, answer, run-on, plain-run, unstopped, is-plan}
+use Rattle.task.specs.Rules.{no-operator, Limits, Checked, Rules}
+use Rattle.task.proofs.Sixteen.{rules-with-costs}
+use Rattle.task.specs.Run.{operator-of, effect-of-operator, applicable, charge, Progress, after-step, Stop, ended, stopped, Run, answer, run-on, plain-run, unstopped, is-plan}
 use Rattle.task.specs.Corresponding.{Corresponding}
 use Rattle.normal_form.specs.Finished.{built, twin-values, finished}
-use Rattle.normal_form.specs.Alike.{Alike, StopsAt}
+use Rattle.normal_form.specs.Alike.{Alike, Outside}
 use Rattle.normal_form.proofs.ShapeFinished.{finished-operators}
+use Rattle.normal_form.proofs.ShapePassed.{finished-rules}
 use Rattle.normal_form.proofs.MeaningFinished.{same-goal, same-applicable, same-cost}
 use Rattle.normal_form.proofs.MeaningStep.{length-apply, correspond-after}
 
@@ -25,7 +27,7 @@ map-at f [] k h = absurd (not-suc-le-zero h)
 map-at f (x ∷ l) zero h = refl
 map-at f (x ∷ l) (suc k) h = map-at f l k (omega arith)
 
-pub initial-correspond : (t : Task) → Rules t → Corresponding (finished t .originals) (t .initial) (finished t .initial)
+pub initial-correspond : (t : Task) → Checked t → Corresponding (finished t .originals) (t .initial) (finished t .initial)
 unfolding finished twin-values
 initial-correspond t rules =
     let twins = built t .st .twins in
@@ -68,7 +70,7 @@ record Abreast (t : Task) (p p′ : Progress) : Type 0 where
   steps : p .steps ≡ p′ .steps
   cost : p .cost ≡ p′ .cost
 
-module _ (t : Task) (rules : Rules t) where
+module _ (t : Task) (rules : Checked t) where
   alike-answer :
       (p p′ : Progress) (reason : Stop)
       → Abreast t p p′
@@ -145,7 +147,7 @@ module _ (t : Task) (rules : Rules t) where
 -- W 0 nor the limits of the finished task are needed.
 pub alike-from :
     (t : Task)
-    → Rules t
+    → Checked t
     → (s s′ : List ℕ)
     → length s ≡ length (t .initial)
     → Corresponding (finished t .originals) s s′
@@ -156,16 +158,34 @@ alike-from t rules s s′ width states numbers =
     run-alike t rules numbers (record { state = s; steps = 0; cost = 0 }) (record { state = s′; steps = 0; cost = 0 })
     (record { wide = width; states = states; steps = refl; cost = refl })
 
--- A number not below O stops a run with 17 where it is met.
-stops-at : (t : Task) (o : ℕ) → length (t .operators) ≤ o → StopsAt t o
-unfolding plain-run answer
-stops-at t o h =
+-- The finished task keeps the rules that the source keeps, the range of costs among them, where it keeps the limits.
+pub finished-keeps : (t : Task) → Rules t → Limits (finished t) → Rules (finished t)
+unfolding operator-of
+finished-keeps t r limits =
+    rules-with-costs (finished t) (finished-rules t c limits) (λ o h.
+    let b : o < length (t .operators) = rw (finished-operators t) at h in
+    rw (cost-kept o b) (r .cost o b))
+  where
+    c : Checked t
+    c = r .checked
+
+    cost-kept :
+        (o : ℕ)
+        → o < length (t .operators)
+        → getD (finished t .operators) o no-operator .cost ≡ getD (t .operators) o no-operator .cost
+    cost-kept o b = same-cost t c (t .initial) (finished t .initial) refl (initial-correspond t c) o b
+
+-- A number not below O is applicable nowhere, and stops a run with 17 where it is met.
+not-inside : (t : Task) (o : ℕ) → length (t .operators) ≤ o → Outside t o
+unfolding plain-run answer applicable
+not-inside t o h =
     let e = le-ltb o (length (t .operators)) h in
     record {
+      nowhere = λ s. rw e;
       met = λ p rest. run-outside t p o rest e;
       first = λ s rest. ap (λ (r : Run). r .stop) (run-outside t (record { state = s; steps = 0; cost = 0 }) o rest e);
     }
 
--- It is applicable in neither task.
-pub outside : (t : Task) → Rules t → (o : ℕ) → length (t .operators) ≤ o → StopsAt t o × StopsAt (finished t) o
-outside t rules o h = (stops-at t o h, stops-at (finished t) o (omega (arith, finished-operators t)))
+-- Outside the source is outside the finished task.
+pub outside : (t : Task) → (o : ℕ) → length (t .operators) ≤ o → Outside t o × Outside (finished t) o
+outside t o h = (not-inside t o h, not-inside (finished t) o (omega (arith, finished-operators t)))

@@ -6,10 +6,10 @@ use mathlib.Core.Path.{_≡_, refl, sym, ap, ap₂, _∙_}
 use mathlib.Core.Bool.{Bool, true, false, _&&_, _||_}
 use mathlib.Core.List.{List}
 use lib.ListN.{length, getD}
-use lib.Dec.{eqb}
+use lib.Dec.{eqb, ltb}
 use borrow.Author.Tests.{eq-eqb, ne-eqb}
 use Rattle.task.specs.Table.{Row, Task}
-use Rattle.task.specs.Rules.{Rules}
+use Rattle.task.specs.Rules.{Checked}
 use Rattle.task.specs.Semantics.{holds, Atom, sets, clears, effcond}
 use Rattle.task.specs.Tree.{formula-of}
 use Rattle.task.specs.Run.{operator-of, effect-of-operator, goal-holds, applicable}
@@ -24,7 +24,7 @@ use Rattle.normal_form.proofs.MeaningCondition.{freed, ChangesMean}
 use Rattle.normal_form.proofs.MeaningParts.{good-parts}
 use Rattle.normal_form.proofs.MeaningActs.{acts, acts-chain}
 use Rattle.normal_form.proofs.MeaningRules.{twinned, acts-sets, acts-clears, acts-none, acts-one, twinned-not, twinned-itself}
-use Rattle.normal_form.proofs.ShapeFinished.{no-changes, no-built, finished-operator, operator-chain}
+use Rattle.normal_form.proofs.ShapeFinished.{no-changes, no-built, finished-operators, finished-operator, operator-chain}
 
 -- the changes of operator o
 abbrev changes : Task → ℕ → List Changes
@@ -68,7 +68,7 @@ only-second true false p q e f = rw e
 only-second false true p q e f = f
 only-second false false p q e f = refl
 
-module _ (t : Task) (rules : Rules t) (source compiled : List ℕ) (width : length source ≡ vars t) (states : Corresponding (finished t .originals) source compiled) where
+module _ (t : Task) (rules : Checked t) (source compiled : List ℕ) (width : length source ≡ vars t) (states : Corresponding (finished t .originals) source compiled) where
   seen : Seen (vars t) (built t .st)
   unfolding finished
   seen =
@@ -89,9 +89,9 @@ module _ (t : Task) (rules : Rules t) (source compiled : List ℕ) (width : leng
     pub same-applicable : applicable (finished t) compiled o ≡ applicable t source o
     unfolding applicable operator-of finished seen
     same-applicable =
-        ap (λ (a : ℕ). holds compiled (formula-of (rows t) a))
-        (finished-operator t o h .precondition)
-        ∙ good-parts t rules .value .operators .at no-built o h .precondition .value seen
+        ap₂ _&&_ (ap (ltb o) (finished-operators t))
+        (ap (λ (a : ℕ). holds compiled (formula-of (rows t) a)) (finished-operator t o h .precondition)
+        ∙ good-parts t rules .value .operators .at no-built o h .precondition .value seen)
 
     pub same-cost : operator-of (finished t) o .cost ≡ operator-of t o .cost
     unfolding operator-of finished

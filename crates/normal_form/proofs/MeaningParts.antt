@@ -7,7 +7,7 @@ use mathlib.Core.Path.{_≡_, refl, _∙_}
 use mathlib.Core.List.{List, [], _∷_, _++_}
 use lib.ListN.{length, getD, length-append}
 use Rattle.task.specs.Table.{Row, Task, FormulaKind, false-kind, true-kind, variable-kind, not-kind, and-kind, or-kind, implies-kind, equivalent-kind, unknown-formula, formula-kind, EffectKind, empty-kind, set-kind, clear-kind, both-kind, under-kind, unknown-effect, effect-kind}
-use Rattle.task.specs.Rules.{no-row, FormulaRule, EffectRule, Rules}
+use Rattle.task.specs.Rules.{no-row, FormulaRule, EffectRule, Checked}
 use Rattle.task.specs.Semantics.{Formula, holds, Effect}
 use Rattle.task.specs.Tree.{formula-node, formula-within, formula-of, effect-node, effect-within, effect-of}
 use Rattle.task.specs.Run.{operator-of, effect-of-operator}
@@ -172,7 +172,7 @@ pub record PartsMean (t : Task) (s : St) (p : Parts) : Type 0 where
   pub operators : Each (λ o. BuiltMeans t o s) (length (t .operators)) (p .operators)
   pub goal : Means (length (t .initial)) (λ source. holds source (formula-of (t .formulas) (t .goal))) s (p .goal)
 
-module _ (t : Task) (rules : Rules t) where
+module _ (t : Task) (rules : Checked t) where
   good-operator :
       (o : ℕ) (s : St)
       → o < length (t .operators)

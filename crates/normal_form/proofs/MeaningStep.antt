@@ -7,7 +7,7 @@ use mathlib.Core.Bool.{Bool, true, false, cond, not, _&&_}
 use mathlib.Core.List.{List}
 use lib.ListN.{length, getD}
 use Rattle.task.specs.Table.{Task}
-use Rattle.task.specs.Rules.{Rules}
+use Rattle.task.specs.Rules.{Checked}
 use Rattle.task.specs.Semantics.{Effect, empty, sets, clears, effcond, value-after, apply}
 use Rattle.task.specs.Run.{effect-of-operator}
 use Rattle.task.specs.Corresponding.{Corresponding}
@@ -66,7 +66,7 @@ place-of P n w x below twin beyond = go (decLt x n) (decLt x (n + w))
     go (no h) (yes g) = let e : n + (x - n) ≡ x = omega arith in rw e at (twin (x - n) (omega arith))
     go (no h) (no g) = beyond (omega arith)
 
-module _ (t : Task) (rules : Rules t) (s s′ : List ℕ) (width : length s ≡ length (t .initial)) (states : Corresponding (finished t .originals) s s′) where
+module _ (t : Task) (rules : Checked t) (s s′ : List ℕ) (width : length s ≡ length (t .initial)) (states : Corresponding (finished t .originals) s s′) where
   module _ (o : ℕ) (h : o < length (t .operators)) where
     original-value :
         (v : ℕ)

@@ -33,11 +33,11 @@ module _ (t : Task) (room : Room) (rows twins effects : ℕ) (allows : Allows (l
       let f = grows-fewer g in
       let width = finished-variables t in
       let all : length (built t .st .rows) ≤ rows =
-      allows .rows-allowed (length (built t .st .rows)) (fit .limits .formulas) (fit .formulas)
+      allows .rows-allowed (length (built t .st .rows)) (fit .limits .formulas) (fit .tables .formulas)
       in
       let each : length (built t .st .twins) ≤ twins =
       allows .twins-allowed (length (built t .st .twins)) (omega (arith, fit .limits .variables))
-      (omega (arith, fit .initial)) (fit .twins)
+      (omega (arith, fit .tables .initial)) (fit .tables .twins)
       in
       record { rows-within = omega (arith, f .rows); twins-within = omega (arith, f .twins) }
 
@@ -52,6 +52,6 @@ module _ (t : Task) (room : Room) (rows twins effects : ℕ) (allows : Allows (l
       ≤ effects
   writing-within o v h =
       let all : length (finished t .effects) ≤ effects =
-      allows .effects-allowed (length (finished t .effects)) (fit .limits .effects) (fit .effects)
+      allows .effects-allowed (length (finished t .effects)) (fit .limits .effects) (fit .tables .effects)
       in
       omega (arith, moment-effects t o v h)

@@ -11,7 +11,7 @@ use Rattle.task.specs.Table.{Row, Operator, row-at}
 use Rattle.task.specs.Words.{joined, row-words, operator-row-words, words-of, operator-words}
 use Rattle.task.proofs.Words.{length-words, length-operator-words, words-append, operator-words-append}
 use Rattle.normal_form.specs.Assembly.{unassembled}
-use Rattle.normal_form.specs.Compiled.{padded}
+use Rattle.task.specs.Words.{padded}
 
 -- nothing held
 pub padded-none : (n : ℕ) → padded n [] ≡ replicate n 0

@@ -10,7 +10,7 @@ use lib.ListN.{length, getD}
 use lib.Dec.{eqb}
 use borrow.Author.Tests.{eqb-true, eq-eqb, ne-eqb}
 use Rattle.task.specs.Table.{Task}
-use Rattle.task.specs.Rules.{Limits, Rules}
+use Rattle.task.specs.Rules.{Limits, Checked}
 use Rattle.normal_form.specs.Finished.{built, finished}
 use Rattle.normal_form.proofs.ShapeFinished.{finished-operators}
 use Rattle.normal_form.proofs.ShapePassed.{finished-variables, finished-fine}
@@ -101,7 +101,7 @@ pub once-few : (n : ℕ) (l : List ℕ) → ((k : ℕ) → k < length l → getD
 once-few n l below once =
     rw (sum-counts n l below) at (sum-few n (λ v. count v l) (λ v. count-once v l once))
 
-pub twins-few : (t : Task) → Rules t → length (finished t .originals) ≤ length (t .initial)
+pub twins-few : (t : Task) → Checked t → length (finished t .originals) ≤ length (t .initial)
 unfolding finished
 twins-few t source =
     let f = finished-fine t source in
@@ -109,7 +109,7 @@ twins-few t source =
 
 pub finished-limits :
     (t : Task)
-    → Rules t
+    → Checked t
     → length (t .initial) + length (finished t .originals) ≤ 512
     → length (finished t .formulas) ≤ 4096
     → length (finished t .effects) ≤ 4096

@@ -8,7 +8,7 @@ use lib.ListN.{length, getD, length-append, List·getD-append}
 use lib.Seq.{getD-append-add}
 use Rattle.task.specs.Table.{Task, effect-kind}
 use Rattle.task.specs.Check.{refusal}
-use Rattle.task.specs.Rules.{no-operator, OperatorRule, Limits, Rules}
+use Rattle.task.specs.Rules.{no-operator, OperatorRule, Limits, Checked}
 use Rattle.task.specs.Words.{lent-of}
 use Rattle.task.proofs.Down.{effects-none, effects-more}
 use Rattle.task.proofs.Trees.{EffectsDown}
@@ -58,7 +58,7 @@ module _ (t : Task) where
       length-append (t .initial) (twin-values (t .initial) (built t .st .twins))
       ∙ ap (λ (k : ℕ). length (t .initial) + k) (twins-length (t .initial) (built t .st .twins))
 
-module _ (t : Task) (source : Rules t) where
+module _ (t : Task) (source : Checked t) where
   abbrev n : ℕ
   n = length (t .initial)
 
@@ -119,7 +119,7 @@ module _ (t : Task) (source : Rules t) where
         changes = w .there;
       }
 
-  pub finished-rules : Limits (finished t) → Rules (finished t)
+  pub finished-rules : Limits (finished t) → Checked (finished t)
   unfolding finished
   finished-rules limits =
       let fine = finished-fine in
@@ -129,8 +129,8 @@ module _ (t : Task) (source : Rules t) where
         limits = limits;
         goal-is-formula = parts .goal .below;
         initial-bits = λ v h. bits (t .initial) (built t .st .twins) (source .initial-bits) v;
-        twin-of-source = λ k h. omega (arith, fine .twin-below k h);
-        twin-once = fine .twin-once;
+        twin =
+            λ k h. record { below = omega (arith, fine .twin-below k h); once = λ j lower. fine .twin-once j k lower h };
         formula = λ i h. rw width (fine .down .row i h);
         effect = λ i h. rw width (finished-effects .row i h);
         operator = finished-operator-rule;

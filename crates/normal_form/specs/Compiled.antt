@@ -6,9 +6,9 @@ use lib.ListN.{length, replicate}
 use lib.Dec.{leb, eqb}
 use Rattle.task.specs.declared.Head.{Head}
 use Rattle.task.specs.Table.{Lent, Task, task-of}
-use Rattle.task.specs.Check.{counts-kept, unless, refusal}
-use Rattle.task.specs.Rules.{Limits}
-use Rattle.task.specs.Words.{words-of, operator-words, head-of}
+use Rattle.task.specs.Check.{Lengths, counts-kept, room as has-room, unless, refusal}
+use Rattle.task.specs.Rules.{Limits, HasRoom}
+use Rattle.task.specs.Words.{padded, words-of, operator-words, head-of}
 use Rattle.normal_form.specs.Finished.{finished}
 
 -- How many bytes or words are lent for each output table, and for scratch. What stands in them plays no part: they may come in dirty.
@@ -24,27 +24,26 @@ pub record Room : Type 0 where
 unfoldable pub scratch-kept : Head → Room → Bool
 scratch-kept h room = leb (2 * h .formulas + 2 * h .effects) (room .scratch)
 
--- The output tables are as long as a task needs.
-unfoldable pub has-room : Head → Room → Bool
-has-room h room =
-    leb (h .variables) (room .initial)
-    && (leb (h .twins) (room .twins)
-    && (leb (3 * h .formulas) (room .formulas)
-    && (leb (3 * h .effects) (room .effects) && leb (3 * h .operators) (room .operators))))
+-- the output tables
+abbrev pub output-lengths : Room → Lengths
+output-lengths room =
+    record {
+      initial = room .initial;
+      twins = room .twins;
+      formulas = room .formulas;
+      effects = room .effects;
+      operators = room .operators;
+    }
 
--- 15: the finished task keeps the limits, and each table that is lent has room for it. It is about the finished task alone: a task of 512
--- variables whose formulas negate none still compiles, and one whose last twin is number 513 does not.
+-- 15: the finished task keeps the limits, and each table that is lent has room for it. It is about the finished task alone: of 512 variables,
+-- "set v1 under v0" compiles, and "set v1 under v0, and clear v1" does not, since N brings v0's twin, variable number 513.
 unfoldable pub fits : Task → Room → Bool
-fits t room = counts-kept (head-of t) && has-room (head-of t) room
+fits t room = counts-kept (head-of t) && has-room (output-lengths room) (head-of t)
 
 -- the same, in numbers
 pub record Fits (t : Task) (room : Room) : Type 0 where
   pub limits : Limits t
-  pub initial : length (t .initial) ≤ room .initial
-  pub twins : length (t .originals) ≤ room .twins
-  pub formulas : 3 * length (t .formulas) ≤ room .formulas
-  pub effects : 3 * length (t .effects) ≤ room .effects
-  pub operators : 3 * length (t .operators) ≤ room .operators
+  pub tables : HasRoom (output-lengths room) t
 
 -- The first in order: the tables' own number, 13, 14, 15; 0 if there is none.
 unfoldable pub compile-refusal : Lent → Room → ℕ
@@ -66,10 +65,6 @@ pub record Outcome : Type 0 where
   pub effects : List ℕ
   pub operators : List ℕ
   pub scratch : List ℕ
-
--- words at the front of n, and 0 in all past them
-unfoldable pub padded : ℕ → List ℕ → List ℕ
-padded n words = words ++ replicate (n - length words) 0
 
 -- after a refusal every output is all 0
 unfoldable pub nothing-given : ℕ → Room → Outcome

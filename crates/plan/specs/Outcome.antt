@@ -4,9 +4,8 @@ use Prim.Native.Nat.{ℕ, zero, suc}
 use mathlib.Core.Path.{_≡_}
 use mathlib.Core.Bool.{Bool, false}
 use mathlib.Core.List.{List}
-use lib.ListN.{length}
-use lib.Dec.{leb}
 use Rattle.task.specs.Table.{Lent, Task, task-of}
+unfoldable pub use Rattle.task.specs.Check.{sequence-kept}
 use Rattle.task.specs.Check.{unless}
 use Rattle.task.specs.Run.{Run, Stop, ended, stopped, plain-run}
 use Rattle.stepper.specs.Stepped.{first-of}
@@ -15,10 +14,6 @@ pub use Rattle.stepper.specs.Stepped.{Stepped, cleared, StepGives}
 use Rattle.plan.specs.declared.outcome.RunOutcome.{RunOutcome}
 use Rattle.plan.specs.declared.outcome.End.{End}
 use Rattle.plan.specs.declared.outcome.End.the-variants.{Ended, Stopped, Refused}
-
--- 19: 65,536 numbers are too many, even if the first would stop.
-unfoldable pub sequence-kept : List ℕ → Bool
-sequence-kept numbers = leb (length numbers) 65535
 
 -- what refuses a run: what refuses a step, then 19
 unfoldable pub run-refusal : Lent → (state numbers scratch : List ℕ) → ℕ

@@ -1,17 +1,10 @@
 -- 01's lines, computed: the whole example, and the edges of a line.
 use Prim.Native.Nat.{ℕ}
-use Prim.Native.Char.{code}
-use Prim.Native.String.{String, [] as end, _∷_ as _followed_}
 use mathlib.Core.Path.{_≡_, refl}
 use mathlib.Core.List.{List, [], _∷_}
 use Rattle.task.specs.Table.{Row, Operator, Task}
 use Rattle.task.specs.Words.{joined, row-words, operator-row-words}
-use Rattle.printing.specs.Lines.{digits-within, decimal, word, line, numbered, values, initial-line, head-line, twin-lines, lines, refusal-line}
-
--- a text of ASCII as bytes
-unfoldable pub bytes : String → List ℕ
-bytes end = []
-bytes (_followed_ c rest) = code c ∷ bytes rest
+use Rattle.printing.specs.Lines.{bytes, digits-within, decimal, word, line, numbered, values, initial-line, head-line, twin-lines, lines, refusal-line}
 
 abbrev words : ℕ → ℕ → ℕ → Row
 words k a b = record { kind = k; a = a; b = b }

@@ -12,6 +12,7 @@ use borrow.Author.Fill.{fill-more}
 use borrow.Author.Tests.{le-leb, lt-leb, eq-eqb, ne-eqb}
 use Rattle.task.specs.Table.{Lent, task-of}
 use Rattle.task.specs.Check.{refusal}
+use Rattle.task.specs.Words.{padded}
 use Rattle.printing.specs.declared.PrintAnswer.{PrintAnswer}
 use Rattle.printing.specs.declared.PrintAnswer.the-variants.{Printed, Refused}
 use Rattle.printing.specs.Lines.{lines}
@@ -59,13 +60,13 @@ drop-zeros (suc k) (suc n) =
 module _ (text : List ℕ) (n : ℕ) where
   pub placed-whole :
       length text ≤ n
-      → placed text n ≡ record { answer = Printed (length text); out = text ++ replicate (n - length text) 0 }
+      → placed text n ≡ record { answer = Printed (length text); out = padded n text }
   unfolding placed
   placed-whole h =
       ap
       (λ (b : Bool).
       cond b
-      (record { answer = Printed (length text); out = text ++ replicate (n - length text) 0 })
+      (record { answer = Printed (length text); out = padded n text })
       (refused 20 n))
       (le-leb (length text) n h)
 
@@ -75,7 +76,7 @@ module _ (text : List ℕ) (n : ℕ) where
       ap
       (λ (b : Bool).
       cond b
-      (record { answer = Printed (length text); out = text ++ replicate (n - length text) 0 })
+      (record { answer = Printed (length text); out = padded n text })
       (refused 20 n))
       (lt-leb (length text) n h)
 
@@ -87,6 +88,7 @@ module _ (text : List ℕ) (n : ℕ) where
     whole = p .counted ∙ zero-add (length text)
 
     pub settled-whole : last ≤ length out → Gives (placed text n) (Printed last) out
+    unfolding padded
     settled-whole h =
         let fits : length text ≤ n = omega (arith, same-length, whole) in
         let zeros : length (replicate {A = ℕ} n 0) ≡ n = length-replicate n 0 in

@@ -6,7 +6,7 @@ use mathlib.Core.Path.{_≡_, refl, sym, ap, _∙_}
 use mathlib.Core.List.{List, [], _∷_, _++_, map}
 use lib.ListN.{length, getD, length-append, length-map, List·getD-map}
 use Rattle.task.specs.Table.{Row, Operator, Lent, Task, FormulaKind, false-kind, true-kind, variable-kind, not-kind, and-kind, or-kind, implies-kind, equivalent-kind, unknown-formula, formula-kind, EffectKind, empty-kind, set-kind, clear-kind, both-kind, under-kind, unknown-effect, effect-kind, task-of}
-use Rattle.task.specs.Rules.{no-row, no-operator, FormulaRule, EffectRule, Rules}
+use Rattle.task.specs.Rules.{no-row, no-operator, FormulaRule, EffectRule, Checked}
 use Rattle.task.specs.Words.{joined, row-words, operator-row-words}
 use Rattle.task.proofs.KindNumbers.{HasFormulaNumber, HasEffectNumber, formula-number, effect-number}
 use Rattle.printing.specs.Lines.{newline, blank, digit, decimal, word, line, numbered, values, initial-line, head-line, twin-lines, lines, refusal-line}
@@ -172,7 +172,7 @@ table-short letter first words rows d k each =
     in
     rw (length-map rows words) at short
 
-module _ (t : Task) (r : Rules t) where
+module _ (t : Task) (r : Checked t) where
   head-short : length (head-line t) ≤ 29
   unfolding head-line
   head-short =
@@ -209,7 +209,7 @@ module _ (t : Task) (r : Rules t) where
       table-short 119 (length (t .initial) - length (t .originals)) (λ o. o ∷ []) (t .originals) 0 10 (λ k h.
       twin-line-short 119 (length (t .initial) - length (t .originals) + k) (getD (t .originals) k 0)
       (omega (arith, r .limits .variables, r .limits .twins))
-      (omega (arith, r .twin-of-source k h, r .limits .variables)))
+      (omega (arith, r .twin k h .below, r .limits .variables)))
 
   formulas-short : length (numbered 102 0 (map row-words (t .formulas))) ≤ length (t .formulas) * 19
   unfolding row-words

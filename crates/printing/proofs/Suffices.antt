@@ -6,6 +6,7 @@ use mathlib.Core.List.{[], _∷_, _++_}
 use lib.ListN.{length, getD, replicate}
 use Rattle.task.specs.Table.{Lent, operator-at, task-of}
 use Rattle.task.specs.Check.{refusal}
+use Rattle.task.specs.Words.{padded}
 use Rattle.task.specs.Rules.{no-operator}
 use Rattle.task.proofs.Held.{length-operators, operator-held}
 use Rattle.task.proofs.Kept.{kept-rules}
@@ -33,7 +34,7 @@ pub task-printed :
     → ((i : ℕ) → i < l .head .operators → getD (l .operators) (3 * i + 2) 0 < 65536)
     → 164384 ≤ n
     → let text = lines (task-of l) in
-    printing l n ≡ record { answer = Printed (length text); out = text ++ replicate (n - length text) 0 }
+    printing l n ≡ record { answer = Printed (length text); out = padded n text }
 task-printed l n e costs h =
     let short : length (lines (task-of l)) ≤ 164384 = lines-short (task-of l) (kept-rules l e .1) (costs-held l costs) in
     passes l n e ∙ placed-whole (lines (task-of l)) n (omega arith)
@@ -43,7 +44,7 @@ pub refusal-printed :
     → number < 65536
     → 8 ≤ n
     → let text = refusal-line number in
-    printing-refusal number n ≡ record { answer = Printed (length text); out = text ++ replicate (n - length text) 0 }
+    printing-refusal number n ≡ record { answer = Printed (length text); out = padded n text }
 unfolding printing-refusal
 refusal-printed number n b h =
     let short : length (refusal-line number) ≤ 8 = refusal-line-short number b in

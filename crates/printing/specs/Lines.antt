@@ -1,11 +1,18 @@
 -- The lines of a task, and of a refusal (01, end of "Sheets to try"), as bytes of ASCII.
 use Prim.Native.Nat.{ℕ, zero, suc, _+_, _-_, _/_, _%_}
+use Prim.Native.Char.{code}
+use Prim.Native.String.{String, [] as end, _∷_ as _followed_}
 use mathlib.Core.Bool.{cond}
 use mathlib.Core.List.{List, [], _∷_, _++_, map}
 use lib.ListN.{length}
 use lib.Dec.{ltb}
 use Rattle.task.specs.Table.{Task}
 use Rattle.task.specs.Words.{joined, row-words, operator-row-words}
+
+-- a text of ASCII as bytes
+unfoldable pub bytes : String → List ℕ
+bytes end = []
+bytes (_followed_ c rest) = code c ∷ bytes rest
 
 abbrev pub newline : ℕ
 newline = 10

@@ -1,12 +1,13 @@
 -- The whole outcome of printing, from the inputs alone: the answer, and the buffer at exit.
-use Prim.Native.Nat.{ℕ, _-_}
+use Prim.Native.Nat.{ℕ}
 use mathlib.Core.Path.{_≡_}
 use mathlib.Core.Bool.{cond}
-use mathlib.Core.List.{List, _++_}
+use mathlib.Core.List.{List}
 use lib.ListN.{length, replicate}
 use lib.Dec.{leb, eqb}
 use Rattle.task.specs.Table.{Lent, task-of}
 use Rattle.task.specs.Check.{refusal}
+use Rattle.task.specs.Words.{padded}
 use Rattle.printing.specs.declared.PrintAnswer.{PrintAnswer}
 use Rattle.printing.specs.declared.PrintAnswer.the-variants.{Printed, Refused}
 use Rattle.printing.specs.Lines.{lines, refusal-line}
@@ -28,7 +29,7 @@ refused number n = record { answer = Refused number; out = replicate n 0 }
 unfoldable pub placed : (text : List ℕ) (n : ℕ) → Outcome
 placed text n =
     cond (leb (length text) n)
-    (record { answer = Printed (length text); out = text ++ replicate (n - length text) 0 })
+    (record { answer = Printed (length text); out = padded n text })
     (refused 20 n)
 
 -- a task's lines: the tables' own number comes first

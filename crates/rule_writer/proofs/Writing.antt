@@ -14,7 +14,7 @@ use Rattle.task.specs.Words.{words-of}
 use Rattle.normal_form.specs.Builder.{place}
 use Rattle.normal_form.specs.Operators.{Changes}
 use Rattle.normal_form.specs.Assembly.{Rule, rule, with-twin, rules-of, rules, Written, atom-row, rule-rows, write-rule, write-rules, unassembled}
-use Rattle.normal_form.specs.Compiled.{padded}
+use Rattle.task.specs.Words.{padded}
 use Rattle.normal_form.proofs.Assembling.{rules-none}
 use Rattle.normal_form.proofs.Growth.{longer}
 use Rattle.normal_form.proofs.Padded.{padded-empty, three, padded-row, padded-operator}

@@ -10,7 +10,7 @@ use Rattle.task.specs.Semantics.{Atom, sets, clears}
 use Rattle.task.specs.Words.{words-of, operator-words}
 use Rattle.normal_form.specs.Operators.{Changes}
 use Rattle.normal_form.specs.Assembly.{Rule, rule, Written, write-rules}
-use Rattle.normal_form.specs.Compiled.{padded}
+use Rattle.task.specs.Words.{padded}
 use Rattle.normal_form.proofs.Padded.{three}
 use Rattle.rule_writer.specs.declared.Frame.{Frame}
 use Rattle.rule_writer.specs.declared.Chain.{Chain}

@@ -17,12 +17,12 @@ use Rattle.task.proofs.Passed.{passed, counts-tested}
 use Rattle.file_format.specs.Reading.{Lengths, Outcome, accepted, rejected, reading}
 use Rattle.plan.specs.declared.outcome.RunOutcome.{RunOutcome}
 use Rattle.plan.specs.Outcome.{state-kept, scratch-kept, sequence-kept, early-refusal, run-refusal, end-of, run-answer, run-told, run-by, ran, RunGives}
-use Rattle.normal_form.specs.Compiled.{padded}
-use Rattle.layouts.specs.Layout.{low-bytes, numbers-of, flag, stop-number, run-bytes}
-use Rattle.layouts.specs.Giving.{numbered, stop-of, plan-of, outcome-bytes, ResultGives}
+use Rattle.task.specs.Words.{padded}
+use Rattle.layouts.specs.Layout.{low-bytes, numbers-of, run-number, flag, stop-number, run-bytes}
+use Rattle.layouts.specs.Giving.{stop-of, plan-of, outcome-bytes, ResultGives}
 use Rattle.layouts.proofs.RunWays.{numbers-length, free-of}
 use Rattle.entry_tables.proofs.Reading.{ReadAs, same-reading}
-use Rattle.run_entry.specs.Entry.{run-number, run-given, run-entry, run-entry-by}
+use Rattle.run_entry.specs.Entry.{run-given, run-entry, run-entry-by}
 use Rattle.run_entry.specs.Giving.{RunEntryGives, FreeRun, RunIn, small-run, SmallRun}
 
 -- room for a run that nothing refuses: by its limits, or by its few numbers and rows
@@ -110,26 +110,25 @@ run-free l s q numbers scratch n decoded {s′} {rest} {result} {o} {r} i front 
     }
 
 -- the number of a task in tables that pass
-number-of : (l : Lent) (s q : List ℕ) (n : ℕ) → refusal l ≡ 0 → run-number (task-of l) s q n ≡ numbered (l .head .variables) s q n
-unfolding run-number numbered
+number-of : (l : Lent) (s q : List ℕ) (n : ℕ) → refusal l ≡ 0 → run-number (length (task-of l .initial)) s q n ≡ run-number (l .head .variables) s q n
 number-of l s q n e = rw (length-initial l (kept-rules l e .0))
 
 pub run-kept :
     (l : Lent) (s q : List ℕ) (n : ℕ) {number r : ℕ} {s′ result : List ℕ}
     → refusal l ≡ 0
-    → number ≡ numbered (l .head .variables) s q n
+    → number ≡ run-number (l .head .variables) s q n
     → number ≡ 0
     → RunEntryGives (run-given zero (task-of l) s q n) r s′ result
-    → RunEntryGives (run-given (run-number (task-of l) s q n) (task-of l) s q n) r s′ result
+    → RunEntryGives (run-given (run-number (length (task-of l .initial)) s q n) (task-of l) s q n) r s′ result
 run-kept l s q n e m z g = rw (number-of l s q n e ∙ sym m ∙ z) g
 
 pub run-refused :
     (l : Lent) (s q : List ℕ) (n : ℕ) {number : ℕ} {result : List ℕ}
     → refusal l ≡ 0
-    → number ≡ numbered (l .head .variables) s q n
+    → number ≡ run-number (l .head .variables) s q n
     → (number ≡ 0 → ⊥)
     → result ≡ replicate n 0
-    → RunEntryGives (run-given (run-number (task-of l) s q n) (task-of l) s q n) number s result
+    → RunEntryGives (run-given (run-number (length (task-of l .initial)) s q n) (task-of l) s q n) number s result
 unfolding run-given
 run-refused l s q n {number} {result} e m d c = rw (number-of l s q n e ∙ sym m) (go number d)
   where
@@ -141,7 +140,7 @@ run-refused l s q n {number} {result} e m d c = rw (number-of l s q n e ∙ sym 
 pub run-read :
     {m : Lengths} {file : List ℕ} (s q : List ℕ) (n : ℕ) {l : Lent} {r : ℕ} {s′ result : List ℕ}
     → ReadAs m file l
-    → RunEntryGives (run-given (run-number (task-of l) s q n) (task-of l) s q n) r s′ result
+    → RunEntryGives (run-given (run-number (length (task-of l .initial)) s q n) (task-of l) s q n) r s′ result
     → RunEntryGives (run-entry-by (reading m file) s q n) r s′ result
 unfolding run-entry-by
 run-read s q n t g = rw (t .read) g
@@ -192,7 +191,7 @@ module _ (m : Lengths) (file s q : List ℕ) (n : ℕ) {r : ℕ} {s′ result : 
       by-number t (suc k) h = h .left
 
       go : (x : Outcome) → reading m file ≡ x → s′ ≡ s
-      go (accepted t) e = by-number t (run-number t s q n) (rw e at g)
+      go (accepted t) e = by-number t (run-number (length (t .initial)) s q n) (rw e at g)
       go (rejected k) e =
           let h : RunEntryGives (run-entry-by (rejected k) s q n) r s′ result = rw e at g in
           h .left

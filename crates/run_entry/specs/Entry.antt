@@ -1,28 +1,18 @@
 -- What running's entry for C leaves: the number, the state and the result at exit, from the bytes that come in and the result's length alone.
-use Prim.Native.Nat.{ℕ, zero, suc, _%_}
-use mathlib.Core.Bool.{_&&_}
+use Prim.Native.Nat.{ℕ, zero, suc}
 use mathlib.Core.List.{List}
-use lib.ListN.{length, getD}
-use lib.Dec.{leb, eqb}
-use Rattle.task.specs.Bounded.{every}
+use lib.ListN.{length}
 use Rattle.task.specs.Table.{Task}
-use Rattle.task.specs.Check.{unless}
 use Rattle.task.specs.Run.{plain-run}
 use Rattle.file_format.specs.Reading.{Outcome, accepted, rejected, reading}
-use Rattle.normal_form.specs.Compiled.{padded}
+use Rattle.task.specs.Words.{padded}
 use Rattle.entry_tables.specs.Own.{own}
-use Rattle.layouts.specs.Layout.{numbers-of, stop-number, run-bytes, zeros}
+use Rattle.layouts.specs.Layout.{numbers-of, run-number, stop-number, run-bytes, zeros}
 
 pub record RunEntry : Type 0 where
   pub number : ℕ
   pub state : List ℕ
   pub result : List ℕ
-
--- 16, then 19 (also for half a number), then 20, all before the run
-unfoldable pub run-number : Task → (state sequence : List ℕ) → ℕ → ℕ
-run-number t state sequence r =
-    unless (eqb (length state) (length (t .initial)) && every (length state) (λ v. leb (getD state v 0) 1)) 16
-    (unless (eqb (length sequence % 2) 0 && leb (length (numbers-of sequence)) 65535) 19 (unless (leb 16 r) 20 0))
 
 -- a run that is not refused gives its stop's number, 17 or 18, or 0; its state and result are the plain run's
 unfoldable pub run-given : ℕ → Task → (state sequence : List ℕ) → ℕ → RunEntry
@@ -32,7 +22,7 @@ run-given zero t state sequence r =
 run-given (suc k) t state sequence r = record { number = suc k; state = state; result = zeros r }
 
 unfoldable pub run-entry-by : Outcome → (state sequence : List ℕ) → ℕ → RunEntry
-run-entry-by (accepted t) state sequence r = run-given (run-number t state sequence r) t state sequence r
+run-entry-by (accepted t) state sequence r = run-given (run-number (length (t .initial)) state sequence r) t state sequence r
 run-entry-by (rejected k) state sequence r = record { number = k; state = state; result = zeros r }
 
 unfoldable pub run-entry : (file state sequence : List ℕ) → ℕ → RunEntry

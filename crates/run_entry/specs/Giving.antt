@@ -8,7 +8,7 @@ use lib.Dec.{leb}
 use Rattle.task.specs.declared.Head.{Head}
 use Rattle.task.specs.Table.{Lent}
 use Rattle.task.specs.Check.{refusal}
-use Rattle.layouts.specs.Giving.{numbered}
+use Rattle.layouts.specs.Layout.{run-number}
 use Rattle.run_entry.specs.Entry.{RunEntry}
 
 pub record RunEntryGives (w : RunEntry) (r : ℕ) (after result : List ℕ) : Type 0 where
@@ -19,7 +19,7 @@ pub record RunEntryGives (w : RunEntry) (r : ℕ) (after result : List ℕ) : Ty
 -- a run that nothing refuses
 pub record FreeRun (l : Lent) (state sequence : List ℕ) (r : ℕ) : Type 0 where
   pub kept : refusal l ≡ 0
-  pub free : numbered (l .head .variables) state sequence r ≡ 0
+  pub free : run-number (l .head .variables) state sequence r ≡ 0
 
 -- .. with room for its numbers and for scratch
 pub record RunIn (l : Lent) (state sequence numbers scratch : List ℕ) (r : ℕ) : Type 0 where

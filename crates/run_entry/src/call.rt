@@ -7,7 +7,8 @@ ghost use Rattle.task.specs.Check.{refusal};
 ghost use Rattle.file_format.specs.Reading.{reading};
 ghost use Rattle.task_file.specs.Answers.{lengths};
 ghost use Rattle.entry_tables.specs.Own.{small};
-ghost use Rattle.run_entry.specs.Entry.{run-number, run-given, run-entry, run-entry-by};
+ghost use Rattle.layouts.specs.Layout.{run-number};
+ghost use Rattle.run_entry.specs.Entry.{run-given, run-entry, run-entry-by};
 ghost use Rattle.run_entry.specs.Giving.{small-run, FreeRun, SmallRun, RunIn, RunEntryGives};
 use task::Head;
 use task::clear::clear_bytes;
@@ -174,7 +175,7 @@ fn run_read(
     result: &mut [u8],
 ) -> u32
     requires { ⌜ refusal (lent head (now initial) (now twins) (now formulas) (now effects) (now operators)) ≡ 0 ⌝ }
-    ensures { λ r. ⌜ RunEntryGives (run-given (run-number (task-of (lent head (now (initial .entry)) (now (twins .entry)) (now (formulas .entry)) (now (effects .entry)) (now (operators .entry)))) (now (state .entry)) (now (sequence .entry)) (length (now (result .entry)))) (task-of (lent head (now (initial .entry)) (now (twins .entry)) (now (formulas .entry)) (now (effects .entry)) (now (operators .entry)))) (now (state .entry)) (now (sequence .entry)) (length (now (result .entry)))) r (now (state .exit)) (now (result .exit)) ⌝ }
+    ensures { λ r. ⌜ RunEntryGives (run-given (run-number (length (task-of (lent head (now (initial .entry)) (now (twins .entry)) (now (formulas .entry)) (now (effects .entry)) (now (operators .entry))) .initial)) (now (state .entry)) (now (sequence .entry)) (length (now (result .entry)))) (task-of (lent head (now (initial .entry)) (now (twins .entry)) (now (formulas .entry)) (now (effects .entry)) (now (operators .entry)))) (now (state .entry)) (now (sequence .entry)) (length (now (result .entry)))) r (now (state .exit)) (now (result .exit)) ⌝ }
 {
     let number = layouts::numbers::refused_run(
         head.variables as usize,

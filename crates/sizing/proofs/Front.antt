@@ -10,7 +10,8 @@ use Rattle.task.specs.Table.{Lent, task-of}
 use Rattle.task.specs.Words.{words-of, operator-words}
 use Rattle.task.proofs.Words.{length-words}
 use Rattle.normal_form.specs.Finished.{finished}
-use Rattle.normal_form.specs.Compiled.{Room, padded}
+use Rattle.normal_form.specs.Compiled.{Room}
+use Rattle.task.specs.Words.{padded}
 use Rattle.normal_form.proofs.Compiled.{length-padded}
 use Rattle.normal_form.proofs.Padded.{padded-over}
 use Rattle.lent_tables.specs.declared.Passes.{Passes}
@@ -184,16 +185,19 @@ module _ (l : Lent) (x : Tables) (n : ℕ) (within : n ≤ length (x .formulas))
                 fits =
                     record {
                       limits = h .fits .limits;
-                      initial = h .fits .initial;
-                      twins = h .fits .twins;
-                      formulas = omega (arith, h .fits .formulas, long);
-                      effects = h .fits .effects;
-                      operators = h .fits .operators;
+                      tables =
+                          record {
+                            initial = h .fits .tables .initial;
+                            twins = h .fits .tables .twins;
+                            formulas = omega (arith, h .fits .tables .formulas, long);
+                            effects = h .fits .tables .effects;
+                            operators = h .fits .tables .operators;
+                          };
                     };
                 head = h .head;
                 initial = h .initial;
                 twins = h .twins;
-                formulas = whole (h .fits .formulas) (h .formulas);
+                formulas = whole (h .fits .tables .formulas) (h .formulas);
                 effects = h .effects;
                 operators = h .operators;
               };

@@ -41,7 +41,7 @@ module _ (l : Lent) (s scratch : List ℕ) (n : ℕ) (checked : n ≡ refusal l)
   pub refused-tables : (n ≡ 0 → ⊥) → n ≡ early-refusal l s scratch
   unfolding early-refusal
   refused-tables d = rw (← checked)
-      (first n (unless (state-kept (l .head) s) 16 (unless (scratch-kept (l .head) scratch) 14 0)) d)
+      (first n (unless (state-kept (l .head .variables) s) 16 (unless (scratch-kept (l .head) scratch) 14 0)) d)
 
   module _ (passed : n ≡ 0) where
     none : refusal l ≡ 0
@@ -102,7 +102,7 @@ module _ (l : Lent) (passed : refusal l ≡ 0) where
 
 module _ (l : Lent) (s scratch : List ℕ) (passed : early-refusal l s scratch ≡ 0) where
   later : ℕ
-  later = unless (state-kept (l .head) s) 16 (unless (scratch-kept (l .head) scratch) 14 0)
+  later = unless (state-kept (l .head .variables) s) 16 (unless (scratch-kept (l .head) scratch) 14 0)
 
   tables-passed : refusal l ≡ 0
   unfolding early-refusal later
@@ -115,7 +115,7 @@ module _ (l : Lent) (s scratch : List ℕ) (passed : early-refusal l s scratch �
       let room = unless (scratch-kept (l .head) scratch) 14 0 in
       let size = eqb (length s) (l .head .variables) in
       let bits = every (length s) (λ v. leb (getD s v 0) 1) in
-      let both : (size && bits) ≡ true = unless-kept (state-kept (l .head) s) 16 room (omega arith) rest in
+      let both : (size && bits) ≡ true = unless-kept (state-kept (l .head .variables) s) 16 room (omega arith) rest in
       record {
         tables = tables-ready l tables-passed;
         state =
@@ -129,5 +129,5 @@ module _ (l : Lent) (s scratch : List ℕ) (passed : early-refusal l s scratch �
         room =
             leb-true (l .head .formulas + l .head .effects) (length scratch)
             (unless-kept (scratch-kept (l .head) scratch) 14 0 (omega arith)
-            (unless-rest (state-kept (l .head) s) 16 room (omega arith) rest));
+            (unless-rest (state-kept (l .head .variables) s) 16 room (omega arith) rest));
       }

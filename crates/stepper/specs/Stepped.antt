@@ -2,20 +2,16 @@
 -- exit, from the inputs alone.
 use Prim.Native.Nat.{ℕ, zero, suc, _+_}
 use mathlib.Core.Path.{_≡_}
-use mathlib.Core.Bool.{Bool, false, _&&_}
+use mathlib.Core.Bool.{Bool, false}
 use mathlib.Core.List.{List, [], _∷_}
-use lib.ListN.{length, getD, replicate}
-use lib.Dec.{leb, eqb}
+use lib.ListN.{length, replicate}
+use lib.Dec.{leb}
 use Rattle.task.specs.declared.Head.{Head}
-use Rattle.task.specs.Bounded.{every}
 use Rattle.task.specs.Table.{Lent, Task, task-of}
+unfoldable pub use Rattle.task.specs.Check.{state-kept}
 use Rattle.task.specs.Check.{refusal, unless}
 use Rattle.task.specs.Run.{Run, Stop, ended, stopped, plain-run}
 use Rattle.stepper.specs.declared.StepOutcome.{StepOutcome}
-
--- 16: a byte a variable, 0 or 1. Over V 1 the states [], [0, 0] and [2] are refused; tables may be longer than their counts, a state may not.
-unfoldable pub state-kept : Head → List ℕ → Bool
-state-kept h s = eqb (length s) (h .variables) && every (length s) (λ v. leb (getD s v 0) 1)
 
 -- 14: F + E bytes, of any content. One byte fewer is refused even if the operator's own rows would fit.
 unfoldable pub scratch-kept : Head → List ℕ → Bool
@@ -29,7 +25,7 @@ first-of (suc n) rest = suc n
 -- what refuses a step before its operator is looked at: the tables' own, 16, 14. A wrong state with too short a scratch is 16.
 unfoldable pub early-refusal : Lent → (state scratch : List ℕ) → ℕ
 early-refusal l s scratch =
-    first-of (refusal l) (unless (state-kept (l .head) s) 16 (unless (scratch-kept (l .head) scratch) 14 0))
+    first-of (refusal l) (unless (state-kept (l .head .variables) s) 16 (unless (scratch-kept (l .head) scratch) 14 0))
 
 -- What a call of `step` leaves.
 pub record Stepped : Type 0 where

@@ -2,7 +2,7 @@
 use Prim.Native.Nat.{ℕ, _+_, _≤_, _<_}
 use native.Mathlib.Omega.{arith}
 use mathlib.Core.Path.{_≡_, refl, sym, ap, _∙_}
-use mathlib.Core.Bool.{Bool, true, false}
+use mathlib.Core.Bool.{Bool, true, false, _&&_}
 use mathlib.Core.List.{List}
 use lib.ListN.{length, getD, List·getD-eq-default}
 use lib.Dec.{ltb}
@@ -34,6 +34,11 @@ module _ (o : List ℕ) (m n : ℕ) where
 
   pub one-asked : n < m → operator-at o n .precondition ≡ getD (upto m (operator-at o)) n no-operator .precondition
   one-asked b = ap (λ (r : Operator). r .precondition) (sym (getD-upto m (operator-at o) n no-operator b))
+
+-- 17 comes before 18, so a number outside need not be asked for its precondition
+by-number : (there holding : Bool) → unless there 17 (unless holding 18 0) ≡ unless there 17 (unless (there && holding) 18 0)
+by-number true holding = refl
+by-number false holding = refl
 
 -- the two ways of a step, by the number that stops it
 module _
@@ -129,9 +134,9 @@ module _ {h : Head} {f e o s scratch : List ℕ} (ready : Ready h f e o s scratc
           {holding : Bool} {stop : ℕ}
           (held : holding ≡ holds s (formula-of (rows-of (p + 1) f) p))
           (told : stop ≡ unless (ltb n (h .operators)) 17 (unless holding 18 0)) where
-        applicable-same : holding ≡ applicable (running h f e o) s n
-        unfolding applicable operator-of task-of
-        applicable-same =
+        holding-same : holding ≡ holds s (formula-of (rows-of (h .formulas) f) (operator-of (running h f e o) n .precondition))
+        unfolding operator-of task-of
+        holding-same =
             held
             ∙ same-holds all-valuable (p + 1) p (omega (arith, asked-below)) (omega arith)
             ∙ ap (λ (i : ℕ). holds s (formula-of (rows-of (h .formulas) f) i)) asked
@@ -139,7 +144,11 @@ module _ {h : Head} {f e o s scratch : List ℕ} (ready : Ready h f e o s scratc
         stop-same :
             stop
             ≡ unless (ltb n (length (running h f e o .operators))) 17 (unless (applicable (running h f e o) s n) 18 0)
-        stop-same = told ∙ rw (operators-same, applicable-same)
+        unfolding applicable task-of
+        stop-same =
+            told
+            ∙ rw (operators-same, holding-same)
+            (by-number (ltb n (h .operators)) (holds s (formula-of (rows-of (h .formulas) f) (operator-of (running h f e o) n .precondition))))
 
         pub stays : (stop ≡ 0 → ⊥) → Takes (running h f e o) s n (record { stop = stop; charge = 0 }) s
         stays d =

@@ -5,9 +5,9 @@ use mathlib.Core.Path.{_≡_, sym, _∙_}
 use lib.ListN.{length}
 use Rattle.task.specs.Table.{Lent, task-of}
 use Rattle.task.specs.Check.{refusal}
-use Rattle.task.specs.Rules.{Limits, Rules, LongEnough}
+use Rattle.task.specs.Rules.{Counts, Limits, TwinRule, Checked, LongEnough}
 use Rattle.task.proofs.Held.{length-initial, length-originals, length-formulas, length-effects, length-operators, initial-held, original-held, formula-held, effect-held, operator-held, goal-held}
-use Rattle.task.proofs.Passed.{Passed, passed, not-refused, Counts, counts-tested, goal-tested, TwinRule, lengths-tested, initial-tested, twins-tested, formulas-tested, effects-tested, operators-tested}
+use Rattle.task.proofs.Passed.{Passed, passed, not-refused, counts-tested, goal-tested, lengths-tested, initial-tested, twins-tested, formulas-tested, effects-tested, operators-tested}
 
 module _ (l : Lent) where
   limits-from : LongEnough l → Counts (l .head) → Limits (task-of l)
@@ -21,7 +21,7 @@ module _ (l : Lent) where
         operators = rw (length-operators l) (c .operators);
       }
 
-  rules-from : LongEnough l → Passed l → Rules (task-of l)
+  rules-from : LongEnough l → Passed l → Checked (task-of l)
   rules-from long p =
       record {
         limits = limits-from long (counts-tested (l .head) .0 (p .counts));
@@ -30,15 +30,14 @@ module _ (l : Lent) where
             λ v h.
             let b : v < l .head .variables = rw (length-initial l long) at h in
             rw (initial-held l v b) (initial-tested l .0 (p .initial) v b);
-        twin-of-source =
+        twin =
             λ k h.
             let b : k < l .head .twins = rw (length-originals l long) at h in
-            rw (length-initial l long, length-originals l long, original-held l k b) (twins-tested l .0 (p .twins) k b .below);
-        twin-once =
-            λ j k lower h same.
-            let b : k < l .head .twins = rw (length-originals l long) at h in
-            twins-tested l .0 (p .twins) k b .once j lower
-            (sym (original-held l j (omega arith)) ∙ same ∙ original-held l k b);
+            let rule = twins-tested l .0 (p .twins) k b in
+            record {
+              below = rw (length-initial l long, length-originals l long, original-held l k b) (rule .below);
+              once = λ j lower same. rule .once j lower (sym (original-held l j (omega arith)) ∙ same ∙ original-held l k b);
+            };
         formula =
             λ i h.
             let b : i < l .head .formulas = rw (length-formulas l) at h in
@@ -53,7 +52,7 @@ module _ (l : Lent) where
             rw (length-formulas l, length-effects l, operator-held l i b) (operators-tested l .0 (p .operators) i b);
       }
 
-  pub kept-rules : refusal l ≡ 0 → LongEnough l × Rules (task-of l)
+  pub kept-rules : refusal l ≡ 0 → LongEnough l × Checked (task-of l)
   kept-rules e =
       let p = passed l e in
       let long = lengths-tested l .0 (p .lengths) in
@@ -70,7 +69,7 @@ module _ (l : Lent) where
         operators = rw (length-operators l) at (r .operators);
       }
 
-  pub rules-kept : LongEnough l → Rules (task-of l) → refusal l ≡ 0
+  pub rules-kept : LongEnough l → Checked (task-of l) → refusal l ≡ 0
   rules-kept long r =
       not-refused l
       (record {
@@ -95,11 +94,8 @@ module _ (l : Lent) where
       twin : (k : ℕ) → k < l .head .twins → TwinRule (l .head .variables - l .head .twins) (l .twins) k
       twin k b =
           let h : k < length (task-of l .originals) = rw (length-originals l long) b in
+          let rule = r .twin k h in
           record {
-            below =
-                rw (length-initial l long, length-originals l long, original-held l k b) at (r .twin-of-source k h);
-            once =
-                λ j lower same.
-                r .twin-once j k lower h
-                (original-held l j (omega arith) ∙ same ∙ sym (original-held l k b));
+            below = rw (length-initial l long, length-originals l long, original-held l k b) at (rule .below);
+            once = λ j lower same. rule .once j lower (original-held l j (omega arith) ∙ same ∙ sym (original-held l k b));
           }

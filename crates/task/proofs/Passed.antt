@@ -11,8 +11,8 @@ use borrow.Author.Tests.{leb-true, ltb-true, eqb-false, not-true, le-leb, lt-ltb
 use Rattle.task.specs.declared.Head.{Head}
 use Rattle.task.specs.Bounded.{every}
 use Rattle.task.specs.Table.{Lent, row-at, operator-at, formula-kind, effect-kind}
-use Rattle.task.specs.Check.{counts-kept, goal-kept, long-enough, initial-kept, twin-kept, twins-kept, formula-kept, formulas-kept, effect-kept, effects-kept, operator-kept, operators-kept, unless, refusal}
-use Rattle.task.specs.Rules.{LongEnough, FormulaRule, EffectRule, OperatorRule}
+use Rattle.task.specs.Check.{Lengths, lengths-of, counts-kept, goal-kept, long-enough, room, initial-kept, twin-kept, twins-kept, formula-kept, formulas-kept, effect-kept, effects-kept, operator-kept, operators-kept, unless, refusal}
+use Rattle.task.specs.Rules.{Counts, TwinRule, RoomFor, LongEnough, FormulaRule, EffectRule, OperatorRule}
 use Rattle.task.proofs.Bounded.{and-left, and-right, and-both, every-at, every-from}
 use Rattle.task.proofs.RowRules.{formula-told, formula-passes, effect-told, effect-passes, operator-told, operator-passes}
 
@@ -69,15 +69,6 @@ unfolding refusal
 not-refused l p =
     rw (p .counts, p .goal, p .lengths, p .initial, p .twins, p .formulas, p .effects, p .operators)
 
--- What a head's counts keep.
-pub record Counts (h : Head) : Type 0 where
-  pub variables : h .variables ≤ 512
-  pub twins : h .twins + h .twins ≤ h .variables
-  pub one-formula : 1 ≤ h .formulas
-  pub formulas : h .formulas ≤ 4096
-  pub effects : h .effects ≤ 4096
-  pub operators : h .operators ≤ 256
-
 pub counts-tested : (h : Head) → counts-kept h ≡ true ↔ Counts h
 unfolding counts-kept
 counts-tested h = (told, tested)
@@ -105,11 +96,6 @@ pub goal-tested : (h : Head) → goal-kept h ≡ true ↔ h .goal < h .formulas
 unfolding goal-kept
 goal-tested h = (ltb-true (h .goal) (h .formulas), lt-ltb (h .goal) (h .formulas))
 
--- Twin row k names a variable below the bound that no row before it names.
-pub record TwinRule (bound : ℕ) (twins : List ℕ) (k : ℕ) : Type 0 where
-  pub below : getD twins k 0 < bound
-  pub once : (j : ℕ) → j < k → getD twins j 0 ≡ getD twins k 0 → ⊥
-
 pub twin-tested : (bound : ℕ) (twins : List ℕ) (k : ℕ) → twin-kept bound twins k ≡ true ↔ TwinRule bound twins k
 unfolding twin-kept
 twin-tested bound twins k = (told, tested)
@@ -133,28 +119,36 @@ twin-tested bound twins k = (told, tested)
         and-both (lt-ltb (getD twins k 0) bound (r .below))
         (every-from k other (λ j h. ap not (ne-eqb (getD twins j 0) (getD twins k 0) (r .once j h))))
 
+-- the test of room, of any tables and any counts
+pub room-tested :
+    (n : Lengths) (h : Head)
+    → room n h ≡ true
+    ↔ RoomFor n (h .variables) (h .twins) (h .formulas) (h .effects) (h .operators)
+unfolding room
+room-tested n h = (told, tested)
+  where
+    told : room n h ≡ true → RoomFor n (h .variables) (h .twins) (h .formulas) (h .effects) (h .operators)
+    told e =
+        record {
+          initial = leb-true (h .variables) (n .initial) (search and-left);
+          twins = leb-true (h .twins) (n .twins) (search (and-left, and-right));
+          formulas = leb-true (3 * h .formulas) (n .formulas) (search (and-left, and-right));
+          effects = leb-true (3 * h .effects) (n .effects) (search (and-left, and-right));
+          operators = leb-true (3 * h .operators) (n .operators) (search (and-left, and-right));
+        }
+
+    tested : RoomFor n (h .variables) (h .twins) (h .formulas) (h .effects) (h .operators) → room n h ≡ true
+    tested r =
+        and-both (le-leb (h .variables) (n .initial) (r .initial))
+        (and-both (le-leb (h .twins) (n .twins) (r .twins))
+        (and-both (le-leb (3 * h .formulas) (n .formulas) (r .formulas))
+        (and-both (le-leb (3 * h .effects) (n .effects) (r .effects))
+        (le-leb (3 * h .operators) (n .operators) (r .operators)))))
+
 module _ (l : Lent) where
   pub lengths-tested : long-enough l ≡ true ↔ LongEnough l
   unfolding long-enough
-  lengths-tested = (told, tested)
-    where
-      told : long-enough l ≡ true → LongEnough l
-      told e =
-          record {
-            initial = leb-true (l .head .variables) (length (l .initial)) (search and-left);
-            twins = leb-true (l .head .twins) (length (l .twins)) (search (and-left, and-right));
-            formulas = leb-true (3 * l .head .formulas) (length (l .formulas)) (search (and-left, and-right));
-            effects = leb-true (3 * l .head .effects) (length (l .effects)) (search (and-left, and-right));
-            operators = leb-true (3 * l .head .operators) (length (l .operators)) (search (and-left, and-right));
-          }
-
-      tested : LongEnough l → long-enough l ≡ true
-      tested r =
-          and-both (le-leb (l .head .variables) (length (l .initial)) (r .initial))
-          (and-both (le-leb (l .head .twins) (length (l .twins)) (r .twins))
-          (and-both (le-leb (3 * l .head .formulas) (length (l .formulas)) (r .formulas))
-          (and-both (le-leb (3 * l .head .effects) (length (l .effects)) (r .effects))
-          (le-leb (3 * l .head .operators) (length (l .operators)) (r .operators)))))
+  lengths-tested = room-tested (lengths-of l) (l .head)
 
   pub initial-tested : initial-kept l ≡ true ↔ ((v : ℕ) → v < l .head .variables → getD (l .initial) v 0 ≤ 1)
   unfolding initial-kept

@@ -13,7 +13,7 @@ use Rattle.task.specs.declared.Table.{Table}
 use Rattle.task.specs.declared.Table.the-variants.{Formulas, Effects, Operators}
 use Rattle.task.specs.Table.{Lent, formula-kind, effect-kind, row-at, operator-at, row-part}
 use Rattle.task.specs.Tables.{words-kept, row-kept}
-use Rattle.task.specs.Check.{counts-kept, long-enough, twin-kept, formula-words-kept, effect-words-kept}
+use Rattle.task.specs.Check.{counts-kept, long-enough, room, twin-kept, formula-words-kept, effect-words-kept}
 use Rattle.task.proofs.Bounded.{and-both}
 
 -- a conjunction fails with either half
@@ -152,7 +152,7 @@ pub lengths-last :
     → 3 * l .head .formulas ≤ length (l .formulas)
     → 3 * l .head .effects ≤ length (l .effects)
     → leb (3 * l .head .operators) (length (l .operators)) ≡ long-enough l
-unfolding long-enough
+unfolding long-enough room
 lengths-last l a b c d =
     rw (
       le-leb (l .head .variables) (length (l .initial)) a,

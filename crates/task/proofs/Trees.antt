@@ -6,7 +6,7 @@ use mathlib.Core.Path.{_≡_, refl, ap, ap₂}
 use mathlib.Core.List.{List, _++_}
 use lib.ListN.{length, getD, List·getD-append}
 use Rattle.task.specs.Table.{Row, Task, FormulaKind, false-kind, true-kind, variable-kind, not-kind, and-kind, or-kind, implies-kind, equivalent-kind, unknown-formula, formula-kind, EffectKind, empty-kind, set-kind, clear-kind, both-kind, under-kind, unknown-effect, effect-kind}
-use Rattle.task.specs.Rules.{no-row, FormulaRule, EffectRule, Rules}
+use Rattle.task.specs.Rules.{no-row, FormulaRule, EffectRule, Checked}
 use Rattle.task.specs.Semantics.{Formula, negation, conjunction, disjunction, implication, equivalence, Effect, both, under}
 use Rattle.task.specs.Tree.{formula-node, formula-within, formula-of, effect-node, effect-within, effect-of}
 
@@ -24,10 +24,10 @@ EffectKept v f i r = EffectRule v f i (effect-kind (r .kind)) (r .a) (r .b)
 pub record EffectsDown (v f : ℕ) (rows : List Row) : Type 0 where
   pub row : (i : ℕ) → i < length rows → EffectKept v f i (getD rows i no-row)
 
-pub rules-formulas : (t : Task) → Rules t → FormulasDown (length (t .initial)) (t .formulas)
+pub rules-formulas : (t : Task) → Checked t → FormulasDown (length (t .initial)) (t .formulas)
 rules-formulas t r = record { row = r .formula }
 
-pub rules-effects : (t : Task) → Rules t → EffectsDown (length (t .initial)) (length (t .formulas)) (t .effects)
+pub rules-effects : (t : Task) → Checked t → EffectsDown (length (t .initial)) (length (t .formulas)) (t .effects)
 rules-effects t r = record { row = r .effect }
 
 -- A row looks only at trees of lower rows.

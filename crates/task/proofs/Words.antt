@@ -9,7 +9,7 @@ use lib.Seq.{ext-getD, getD-append-add, take-append-seam}
 use Rattle.task.specs.Bounded.{upto}
 use Rattle.task.specs.Table.{Row, Operator, Lent, Task, row-at, operator-at, task-of}
 use Rattle.task.specs.Check.{refusal}
-use Rattle.task.specs.Rules.{no-row, no-operator, Rules, LongEnough}
+use Rattle.task.specs.Rules.{no-row, no-operator, Checked, LongEnough}
 use Rattle.task.specs.Words.{joined, row-words, operator-row-words, words-of, operator-words, head-of, lent-of}
 use Rattle.task.proofs.Bounded.{length-upto, getD-upto}
 use Rattle.task.proofs.Kept.{rules-kept}
@@ -142,7 +142,7 @@ module _ (t : Task) (i w f e o : List ℕ) where
         operators = omega (arith, length-append (operator-words (t .operators)) o, length-operator-words (t .operators));
       }
 
-  pub kept-in : Rules t → refusal lent-in ≡ 0
+  pub kept-in : Checked t → refusal lent-in ≡ 0
   kept-in r = rules-kept lent-in long-in (rw task-in r)
 
 pub lent-exactly : (t : Task) → lent-in t [] [] [] [] [] ≡ lent-of t
@@ -161,5 +161,5 @@ lent-exactly t =
 pub task-of-lent : (t : Task) → task-of (lent-of t) ≡ t
 task-of-lent t = ap task-of (sym (lent-exactly t)) ∙ task-in t [] [] [] [] []
 
-pub lent-kept : (t : Task) → Rules t → refusal (lent-of t) ≡ 0
+pub lent-kept : (t : Task) → Checked t → refusal (lent-of t) ≡ 0
 lent-kept t r = ap refusal (sym (lent-exactly t)) ∙ kept-in t [] [] [] [] [] r

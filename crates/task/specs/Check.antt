@@ -19,13 +19,35 @@ counts-kept h =
 unfoldable pub goal-kept : Head → Bool
 goal-kept h = ltb (h .goal) (h .formulas)
 
+-- how many words each table has (of the initial state: bytes)
+pub record Lengths : Type 0 where
+  pub initial : ℕ
+  pub twins : ℕ
+  pub formulas : ℕ
+  pub effects : ℕ
+  pub operators : ℕ
+
+abbrev pub lengths-of : Lent → Lengths
+lengths-of l =
+    record {
+      initial = length (l .initial);
+      twins = length (l .twins);
+      formulas = length (l .formulas);
+      effects = length (l .effects);
+      operators = length (l .operators);
+    }
+
+-- as many words as the counts ask: 5 of tables that are read or filled, 15 of those that compiling fills
+unfoldable pub room : Lengths → Head → Bool
+room n h =
+    leb (h .variables) (n .initial)
+    && (leb (h .twins) (n .twins)
+    && (leb (3 * h .formulas) (n .formulas)
+    && (leb (3 * h .effects) (n .effects) && leb (3 * h .operators) (n .operators))))
+
 -- 5
 unfoldable pub long-enough : Lent → Bool
-long-enough l =
-    leb (l .head .variables) (length (l .initial))
-    && (leb (l .head .twins) (length (l .twins))
-    && (leb (3 * l .head .formulas) (length (l .formulas))
-    && (leb (3 * l .head .effects) (length (l .effects)) && leb (3 * l .head .operators) (length (l .operators)))))
+long-enough l = room (lengths-of l) (l .head)
 
 -- 8
 unfoldable pub initial-kept : Lent → Bool
@@ -80,6 +102,15 @@ operator-kept f e o = ltb (o .precondition) f && ltb (o .effect) e
 unfoldable pub operators-kept : Lent → Bool
 operators-kept l =
     every (l .head .operators) (λ i. operator-kept (l .head .formulas) (l .head .effects) (operator-at (l .operators) i))
+
+-- 16, over v variables: a byte a variable, 0 or 1. Over V 1 the states [], [0, 0] and [2] are refused; tables may be longer than their counts, a state
+-- may not.
+unfoldable pub state-kept : (v : ℕ) → List ℕ → Bool
+state-kept v s = eqb (length s) v && every (length s) (λ v. leb (getD s v 0) 1)
+
+-- 19: 65,536 numbers are too many, even if the first would stop.
+unfoldable pub sequence-kept : List ℕ → Bool
+sequence-kept numbers = leb (length numbers) 65535
 
 -- the number, unless the rule is kept
 abbrev pub unless : Bool → ℕ → ℕ → ℕ

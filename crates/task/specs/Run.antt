@@ -1,6 +1,6 @@
 -- Steps and the plain run (01, "Stepping and running").
 use Prim.Native.Nat.{ℕ, _+_}
-use mathlib.Core.Bool.{Bool, true, false, cond}
+use mathlib.Core.Bool.{Bool, true, false, cond, _&&_}
 use mathlib.Core.List.{List, [], _∷_}
 use lib.ListN.{length, getD}
 use lib.Dec.{ltb}
@@ -18,9 +18,11 @@ effect-of-operator t o = effect-of (t .formulas) (t .effects) (operator-of t o .
 unfoldable pub goal-holds : Task → List ℕ → Bool
 goal-holds t s = holds s (formula-of (t .formulas) (t .goal))
 
--- an operator is applicable if its precondition holds
+-- An operator is applicable if its precondition holds; a number outside the task is applicable in no state. Without the first test number 9 of a
+-- task without operators would be applicable if formula 0 is true.
 unfoldable pub applicable : Task → List ℕ → ℕ → Bool
-applicable t s o = holds s (formula-of (t .formulas) (operator-of t o .precondition))
+applicable t s o =
+    ltb o (length (t .operators)) && holds s (formula-of (t .formulas) (operator-of t o .precondition))
 
 -- what operator o is charged when it is carried out in state s: its cost
 unfoldable pub charge : Task → List ℕ → ℕ → ℕ

@@ -1,7 +1,7 @@
 -- The words of a task's tables: what a writer reads, and what a reader or a compiler leaves in the tables that it is lent.
-use Prim.Native.Nat.{ℕ}
+use Prim.Native.Nat.{ℕ, _-_}
 use mathlib.Core.List.{List, [], _∷_, _++_}
-use lib.ListN.{length}
+use lib.ListN.{length, replicate}
 use Rattle.task.specs.declared.Head.{Head}
 use Rattle.task.specs.Table.{Row, Operator, Lent, Task}
 
@@ -9,6 +9,10 @@ use Rattle.task.specs.Table.{Row, Operator, Lent, Task}
 unfoldable pub joined : {A : Type 0} → (A → List ℕ) → List A → List ℕ
 joined f [] = []
 joined f (x ∷ rest) = f x ++ joined f rest
+
+-- words at the front of n, and 0 in all past them: what a call leaves in a table or buffer of n that is longer than its answer
+unfoldable pub padded : ℕ → List ℕ → List ℕ
+padded n words = words ++ replicate (n - length words) 0
 
 -- a formula's or an effect's row: its three words
 unfoldable pub row-words : Row → List ℕ

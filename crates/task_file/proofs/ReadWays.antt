@@ -22,7 +22,8 @@ use Rattle.file_format.specs.Parse.{Parsed, parsed, refused, next, kept}
 use Rattle.file_format.specs.Reading.{Lengths, room, head-read, head-kept, tables-read, task-read, Outcome, accepted, rejected, at-end, reading}
 use Rattle.task_file.specs.Answers.{lengths, Cleared}
 use Rattle.task_file.specs.Filling.{RowTables, AllTables, all-behind, all-words, part-told, RowsRoom, AllRoom, AllFilled}
-use Rattle.task_file.specs.Outcome.{ReadOutcome, padded, outcome-of, read-outcome, left, read-answer, Holds, Filled}
+use Rattle.task_file.specs.Outcome.{ReadOutcome, outcome-of, read-outcome, left, read-answer, Holds, Filled}
+use Rattle.task.specs.Words.{padded}
 use Rattle.file_format.proofs.Parse.{Bytes, bytes-behind, parsed-value, parsed-rest, refused-parsed, Steps, next-parsed, Kept, kept-parsed}
 use Rattle.task_file.proofs.FillWays.{all-read}
 use Rattle.file_format.proofs.Whole.{Behind, tables-parsed}

@@ -5,7 +5,7 @@ use mathlib.Core.Path.{_≡_}
 use mathlib.Core.List.{List, [], _++_}
 use lib.ListN.{length, drop, replicate}
 use Rattle.task.specs.Table.{Task}
-use Rattle.task.specs.Words.{head-of, words-of, operator-words}
+use Rattle.task.specs.Words.{padded, head-of, words-of, operator-words}
 use Rattle.task_file.specs.declared.ReadAnswer.{ReadAnswer}
 use Rattle.task_file.specs.declared.ReadAnswer.the-variants.{Read, Refused}
 use Rattle.file_format.specs.Reading.{Lengths, Outcome, accepted, rejected, reading}
@@ -17,10 +17,6 @@ pub record ReadOutcome : Type 0 where
   pub formulas : List ℕ
   pub effects : List ℕ
   pub operators : List ℕ
-
--- words in front of a table of n, and 0 behind them
-unfoldable pub padded : ℕ → List ℕ → List ℕ
-padded n words = words ++ replicate (n - length words) 0
 
 unfoldable pub outcome-of : Lengths → Outcome → ReadOutcome
 outcome-of l (accepted t) =

@@ -11,8 +11,10 @@ use Rattle.task.specs.Words.{head-of, words-of, operator-words}
 use Rattle.task.proofs.Kept.{kept-rules}
 use Rattle.task.proofs.Words.{lent-in, task-in, kept-in}
 use Rattle.file_format.specs.Bytes.{file-of}
-use Rattle.file_format.specs.Reading.{Lengths, Room, Outcome, accepted, rejected, reading}
-use Rattle.task_file.specs.Outcome.{ReadOutcome, padded, outcome-of, read-outcome}
+use Rattle.task.specs.Rules.{HasRoom}
+use Rattle.file_format.specs.Reading.{Lengths, Outcome, accepted, rejected, reading}
+use Rattle.task_file.specs.Outcome.{ReadOutcome, outcome-of, read-outcome}
+use Rattle.task.specs.Words.{padded}
 use Rattle.task_writer.specs.Writing.{WriteOutcome, wrote, file-outcome, write-outcome}
 use Rattle.file_format.proofs.Parse.{Bytes}
 use Rattle.file_format.proofs.RoundTrip.{read-written, Accepted, written-read}
@@ -22,7 +24,7 @@ pub read-after-write :
     (l : Lent) (n : ℕ) (lengths : Lengths)
     → refusal l ≡ 0
     → length (file-of (task-of l)) ≤ n
-    → Room lengths (task-of l)
+    → HasRoom lengths (task-of l)
     → read-outcome lengths (take (length (file-of (task-of l))) (write-outcome l n .out)) ≡ outcome-of lengths (accepted (task-of l))
 unfolding write-outcome file-outcome padded read-outcome
 read-after-write l n lengths e h room =

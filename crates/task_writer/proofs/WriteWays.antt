@@ -16,15 +16,15 @@ use Rattle.task.specs.declared.Table.the-variants.{Formulas, Effects, Operators
 use Rattle.task.specs.Bounded.{upto}
 use Rattle.task.specs.Table.{Row, Lent, Task, task-of, row-at, operator-at, false-kind, true-kind, variable-kind, not-kind, and-kind, or-kind, implies-kind, equivalent-kind, unknown-formula, formula-kind, empty-kind, set-kind, clear-kind, both-kind, under-kind, unknown-effect, effect-kind}
 use Rattle.task.specs.Check.{refusal, formula-words-kept, formula-kept, formulas-kept, effect-words-kept, effect-kept, effects-kept}
-use Rattle.task.specs.Rules.{LongEnough}
+use Rattle.task.specs.Rules.{LongEnough, Counts}
 use Rattle.task.specs.Words.{joined, head-of}
 use Rattle.task.proofs.Bounded.{every-at, length-upto}
 use Rattle.task.proofs.Held.{length-initial, length-originals, length-formulas, length-effects, length-operators}
-use Rattle.task.proofs.Passed.{Passed, passed, Counts, counts-tested, lengths-tested, initial-tested}
+use Rattle.task.proofs.Passed.{Passed, passed, counts-tested, lengths-tested, initial-tested}
 use Rattle.task_writer.specs.declared.WriteAnswer.{WriteAnswer}
 use Rattle.task_writer.specs.declared.WriteAnswer.the-variants.{Written, NotWritten}
 use Rattle.file_format.specs.Bytes.{word-bytes, field-bytes, head-fields, head-bytes, row-bytes, operator-bytes, packed, bytes-for, file-of}
-use Rattle.task_file.specs.Outcome.{padded}
+use Rattle.task.specs.Words.{padded}
 use Rattle.task_writer.specs.Putting.{Put, MapFits, three-bytes, rows-bytes, RowsIn, StateIn}
 use Rattle.task_writer.specs.Writing.{WriteOutcome, wrote, file-outcome, write-outcome, WriteIn}
 use Rattle.file_format.proofs.Initial.{packed-length}

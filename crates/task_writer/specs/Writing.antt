@@ -12,7 +12,7 @@ use Rattle.task.specs.Rules.{LongEnough}
 use Rattle.task_writer.specs.declared.WriteAnswer.{WriteAnswer}
 use Rattle.task_writer.specs.declared.WriteAnswer.the-variants.{Written, NotWritten}
 use Rattle.file_format.specs.Bytes.{file-of}
-use Rattle.task_file.specs.Outcome.{padded}
+use Rattle.task.specs.Words.{padded}
 use Rattle.task_writer.specs.Putting.{StateIn, MapFits}
 
 pub record WriteOutcome : Type 0 where

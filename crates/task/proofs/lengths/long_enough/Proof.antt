@@ -2,7 +2,7 @@ use Rattle.task.proofs.Refusals.{lengths-last}
 use mathlib.Core.Path.{refl}
 use mathlib.Core.Bool.{and-false}
 use borrow.Author.Tests.{lt-leb, le-leb}
-use Rattle.task.specs.Check.{long-enough}
+use Rattle.task.specs.Check.{long-enough, room}
 use borrow.Author.Needs.{needs}
 use Rattle.task.proofs.lengths.long_enough.Statement.{statement}
 use Rattle.task.proofs.lengths.long_enough.Tie as tie
@@ -11,14 +11,14 @@ cast-if1 : tie.Need-cast-if1
 cast-if1 c = search needs
 
 returns : tie.Need-returns
-unfolding long-enough
+unfolding long-enough room
 returns c = simp (lt-leb _ _ (c .if1 .taken))
 
 cast-if2 : tie.Need-cast-if2
 cast-if2 c = search needs
 
 returns-2 : tie.Need-returns-2
-unfolding long-enough
+unfolding long-enough room
 returns-2 c = simp (lt-leb _ _ (c .if2 .taken), and-false)
 
 cast-if3 : tie.Need-cast-if3
@@ -28,7 +28,7 @@ mul-if3 : tie.Need-mul-if3
 mul-if3 c = search needs
 
 returns-3 : tie.Need-returns-3
-unfolding long-enough
+unfolding long-enough room
 returns-3 c = simp (lt-leb _ _ (c .if3 .taken), and-false)
 
 cast-if4 : tie.Need-cast-if4
@@ -38,7 +38,7 @@ mul-if4 : tie.Need-mul-if4
 mul-if4 c = search needs
 
 returns-4 : tie.Need-returns-4
-unfolding long-enough
+unfolding long-enough room
 returns-4 c = simp (lt-leb _ _ (c .if4 .taken), and-false)
 
 cast-result : tie.Need-cast-result

@@ -1,0 +1,359 @@
+-- Demand 1, of every call: the number that it gives is that of the first rule in 01's order that is broken, and 0 exactly if all are kept. So a stepper that
+-- refused every state of more than 100 variables, say, would break `step-gives-the-first`.
+use Prim.Native.Nat.{ℕ, zero, suc, _+_, _-_, _*_, _%_, _≤_, _<_}
+use native.Mathlib.Omega.{arith}
+use mathlib.Core.Path.{_≡_, refl, sym, ap, _∙_}
+use mathlib.Core.Logic.{_↔_}
+use mathlib.Core.Bool.{Bool, true, false, cond, _&&_, false≢true}
+use mathlib.Core.List.{List, [], _∷_}
+use lib.ListN.{length, getD, replicate}
+use lib.Dec.{leb, ltb, eqb}
+use borrow.Author.Tests.{leb-true, le-leb, ltb-true, lt-ltb, eqb-true, eq-eqb, ne-eqb}
+use Rattle.task.specs.Bounded.{every}
+use Rattle.task.specs.Table.{Lent, Task, row-at, operator-at, task-of}
+use Rattle.task.specs.Check.{counts-kept, goal-kept, long-enough, initial-kept, twins-kept, formulas-kept, effects-kept, operators-kept, state-kept, sequence-kept, unless, refusal}
+use Rattle.task.specs.Rules.{Rules, Limits}
+use Rattle.task.specs.Words.{padded, head-of}
+use Rattle.task.specs.Semantics.{holds}
+use Rattle.task.specs.Tree.{formula-of}
+use Rattle.task.specs.Run.{operator-of, applicable, charge, after-step, answer, run-on, Stop, ended, stopped, plain-run}
+use Rattle.task.proofs.Bounded.{and-left, and-right, and-both, every-at, every-from}
+use Rattle.task.proofs.Held.{length-operators, operator-held}
+use Rattle.task.proofs.Passed.{passed, counts-tested, goal-tested, lengths-tested, initial-tested, twins-tested, formulas-tested, effects-tested, operators-tested}
+use Rattle.file_format.specs.Bytes.{file-of}
+use Rattle.file_format.specs.Reading.{accepted, rejected, Outcome, reading}
+use Rattle.task_writer.specs.declared.WriteAnswer.{WriteAnswer}
+use Rattle.task_writer.specs.declared.WriteAnswer.the-variants.{Written, NotWritten}
+use Rattle.task_writer.specs.Writing.{WriteOutcome, file-outcome, write-outcome}
+use Rattle.stepper.specs.Stepped.{scratch-kept, first-of, early-refusal, step-refused, step-told, step-by, stepped}
+use Rattle.plan.specs.declared.outcome.RunOutcome.{RunOutcome}
+use Rattle.plan.specs.declared.outcome.End.{End}
+use Rattle.plan.specs.declared.outcome.End.the-variants.{Ended, Stopped, Refused}
+use Rattle.plan.specs.Outcome.{run-refusal, run-refused, end-of, run-answer, run-told, run-by, ran}
+use Rattle.normal_form.specs.Compiled.{Room, scratch-kept as compile-scratch, fits, Fits, compile-refusal, Answer, compiled-head, refused, Outcome as CompileOutcome, nothing-given, task-given, outcome-by, compiling}
+use Rattle.normal_form.specs.Finished.{finished}
+use Rattle.normal_form.proofs.Compiled.{fits-tested}
+use Rattle.file_format.proofs.Numbers.{rejected-by}
+use Rattle.entry_tables.specs.Own.{own, compile-number}
+use Rattle.layouts.specs.Layout.{tables-bytes, numbers-of, run-number, stop-number, Laid, laid-by, laid}
+use Rattle.read_entry.specs.Entry.{read-entry, read-entry-by}
+use Rattle.compiled_file.specs.Filed.{CompileEntry, no-file, filed-by, filed, compiled-by, compiled}
+use Rattle.compile_entry.specs.Entry.{compile-entry, compile-entry-by}
+use Rattle.run_entry.specs.Entry.{RunEntry, run-given, run-entry, run-entry-by}
+use Rattle.claims.specs.Statements.{OfBytes}
+use Rattle.claims.specs.Numbers.{Given, broken, kept, nothing, tables-numbers, write-number, compile-answer-number, end-number, write-numbers, compile-numbers, StateRule, state-numbers, step-numbers, run-numbers, FileGiven, not-read, was-read, read-entry-numbers, FileFits, compile-entry-numbers, SequenceRule, StopNumber, not-stopped, stopped-by, run-entry-numbers}
+use Rattle.claims.proofs.DemandTwoFiles.{file-accepted-exactly-if}
+
+-- a test and its rule
+given :
+    (b : Bool) (number m : ℕ) {rule : Type 0} {behind : ℕ → Type 0}
+    → (b ≡ true ↔ rule)
+    → (rule → behind m)
+    → Given rule number behind (unless b number m)
+given true number m e rest =
+    let r = e .0 refl in
+    kept r (rest r)
+given false number m e rest = broken (λ r. false≢true (e .1 r)) refl
+
+-- tests of two numbers
+at-most : (a b : ℕ) → leb a b ≡ true ↔ a ≤ b
+at-most a b = (leb-true a b, le-leb a b)
+
+below : (a b : ℕ) → ltb a b ≡ true ↔ a < b
+below a b = (ltb-true a b, lt-ltb a b)
+
+same : (a b : ℕ) → eqb a b ≡ true ↔ a ≡ b
+same a b = (eqb-true a b, eq-eqb a b)
+
+-- the tables' own numbers, and what stands behind them
+tables-first :
+    (a b c d e f g h : Bool) (m : ℕ)
+    → first-of (unless a 6 (unless b 7 (unless c 5 (unless d 8 (unless e 9 (unless f 10 (unless g 11 (unless h 12 0)))))))) m
+    ≡ unless a 6 (unless b 7 (unless c 5 (unless d 8 (unless e 9 (unless f 10 (unless g 11 (unless h 12 m)))))))
+tables-first false b c d e f g h m = refl
+tables-first true false c d e f g h m = refl
+tables-first true true false d e f g h m = refl
+tables-first true true true false e f g h m = refl
+tables-first true true true true false f g h m = refl
+tables-first true true true true true false g h m = refl
+tables-first true true true true true true false h m = refl
+tables-first true true true true true true true false m = refl
+tables-first true true true true true true true true m = refl
+
+module _ (l : Lent) where
+  tables-given : (behind : ℕ → Type 0) (m : ℕ) → behind m → tables-numbers l behind (first-of (refusal l) m)
+  unfolding refusal
+  tables-given behind m rest =
+      rw (tables-first (counts-kept (l .head)) (goal-kept (l .head)) (long-enough l) (initial-kept l) (twins-kept l) (formulas-kept l)
+      (effects-kept l) (operators-kept l) m)
+      (given (counts-kept (l .head)) 6 _ (counts-tested (l .head)) (λ _.
+      given (goal-kept (l .head)) 7 _ (goal-tested (l .head)) (λ _.
+      given (long-enough l) 5 _ (lengths-tested l) (λ _.
+      given (initial-kept l) 8 _ (initial-tested l) (λ _.
+      given (twins-kept l) 9 _ (twins-tested l) (λ _.
+      given (formulas-kept l) 10 _ (formulas-tested l) (λ _.
+      given (effects-kept l) 11 _ (effects-tested l) (λ _.
+      given (operators-kept l) 12 _ (operators-tested l) (λ _. rest)))))))))
+
+alone : (n : ℕ) → first-of n 0 ≡ n
+alone zero = refl
+alone (suc n) = refl
+
+-- The check.
+pub check-gives-the-first : (l : Lent) → tables-numbers l nothing (refusal l)
+check-gives-the-first l = rw (alone (refusal l)) at (tables-given l nothing 0 refl)
+
+not-zero : (n : ℕ) → eqb (suc n) 0 ≡ false
+not-zero n = ne-eqb (suc n) 0 (λ e. omega arith)
+
+-- Writing.
+write-told : (l : Lent) (n : ℕ) → write-number (write-outcome l n .answer) ≡ first-of (refusal l) (unless (leb (length (file-of (task-of l))) n) 20 0)
+unfolding write-outcome file-outcome
+write-told l n = go (refusal l) refl (leb (length (file-of (task-of l))) n) refl
+  where
+    go :
+        (r : ℕ)
+        → refusal l ≡ r
+        → (b : Bool)
+        → leb (length (file-of (task-of l))) n ≡ b
+        → write-number (write-outcome l n .answer) ≡ first-of (refusal l) (unless (leb (length (file-of (task-of l))) n) 20 0)
+    go zero e true f = rw (e, f)
+    go zero e false f = rw (e, f)
+    go (suc r) e b f = rw (e, not-zero r)
+
+pub write-gives-the-first : (l : Lent) (n : ℕ) → write-numbers l n (write-number (write-outcome l n .answer))
+write-gives-the-first l n =
+    rw (write-told l n)
+    (tables-given l (Given (length (file-of (task-of l)) ≤ n) 20 nothing) _
+    (given (leb (length (file-of (task-of l))) n) 20 0 (at-most (length (file-of (task-of l))) n) (λ _. refl)))
+
+-- Compiling.
+compile-told : (n : ℕ) (t : Task) (room : Room) → compile-answer-number (outcome-by n t room .answer) ≡ n
+unfolding outcome-by task-given nothing-given
+compile-told zero t room = refl
+compile-told (suc n) t room = refl
+
+behind-tables : (r m : ℕ) → unless (eqb r 0) r m ≡ first-of r m
+behind-tables zero m = refl
+behind-tables (suc r) m = rw (not-zero r)
+
+pub compile-gives-the-first : (l : Lent) (room : Room) → compile-numbers l room (compile-answer-number (compiling l room .answer))
+unfolding compiling compile-refusal compile-scratch
+compile-gives-the-first l room =
+    let h = l .head in
+    rw (
+      compile-told (compile-refusal l room) (finished (task-of l)) room,
+      behind-tables (refusal l) (unless (eqb (h .twins) 0) 13 (unless (compile-scratch h room) 14 (unless (fits (finished (task-of l)) room) 15 0))),
+    )
+    (tables-given l _ _
+    (given (eqb (h .twins) 0) 13 _ (same (h .twins) 0) (λ _.
+    given (compile-scratch h room) 14 _ (at-most (2 * h .formulas + 2 * h .effects) (room .scratch)) (λ _.
+    given (fits (finished (task-of l)) room) 15 0 (fits-tested (finished (task-of l)) room) (λ _. refl)))))
+
+-- Stepping and running.
+state-tested : (v : ℕ) (s : List ℕ) → state-kept v s ≡ true ↔ StateRule v s
+unfolding state-kept
+state-tested v s = (
+  λ e.
+      record {
+        size = eqb-true (length s) v (and-left (eqb (length s) v) (every (length s) bit) e);
+        bits = λ x h. leb-true (getD s x 0) 1 (every-at (length s) bit (and-right (eqb (length s) v) (every (length s) bit) e) x h);
+      },
+  λ r. and-both (eq-eqb (length s) v (r .size)) (every-from (length s) bit (λ x h. le-leb (getD s x 0) 1 (r .bits x h))),
+)
+  where
+    bit : ℕ → Bool
+    bit x = leb (getD s x 0) 1
+
+-- a number behind the tables' own, 16 and 14
+early-first : (r m : ℕ) (a b : Bool) → first-of (first-of r (unless a 16 (unless b 14 0))) m ≡ first-of r (unless a 16 (unless b 14 m))
+early-first zero m true true = refl
+early-first zero m true false = refl
+early-first zero m false b = refl
+early-first (suc r) m a b = refl
+
+module _ (l : Lent) (s scratch : List ℕ) where
+  state-given : (behind : ℕ → Type 0) (m : ℕ) → behind m → state-numbers l s scratch behind (first-of (early-refusal l s scratch) m)
+  unfolding early-refusal scratch-kept
+  state-given behind m rest =
+      let h = l .head in
+      rw (early-first (refusal l) m (state-kept (h .variables) s) (leb (h .formulas + h .effects) (length scratch)))
+      (tables-given l _ _
+      (given (state-kept (h .variables) s) 16 _ (state-tested (h .variables) s) (λ _.
+      given (leb (h .formulas + h .effects) (length scratch)) 14 m (at-most (h .formulas + h .effects) (length scratch)) (λ _. rest))))
+
+  module _ (o : ℕ) where
+    there : length (task-of l .operators) ≡ l .head .operators
+    there = length-operators l
+
+    applicable-is :
+        o < l .head .operators
+        → applicable (task-of l) s o ≡ holds s (formula-of (task-of l .formulas) (operator-at (l .operators) o .precondition))
+    unfolding applicable operator-of
+    applicable-is h = rw (there, lt-ltb o (l .head .operators) h, operator-held l o h)
+
+    step-number-told :
+        stepped l s o scratch .answer .refusal
+        ≡ first-of (early-refusal l s scratch) (unless (ltb o (l .head .operators)) 17 (unless (applicable (task-of l) s o) 18 0))
+    unfolding stepped step-by step-told step-refused plain-run run-on answer
+    step-number-told = go (early-refusal l s scratch) refl (ltb o (l .head .operators)) refl (applicable (task-of l) s o) refl
+      where
+        go :
+            (r : ℕ)
+            → early-refusal l s scratch ≡ r
+            → (b : Bool)
+            → ltb o (l .head .operators) ≡ b
+            → (c : Bool)
+            → applicable (task-of l) s o ≡ c
+            → stepped l s o scratch .answer .refusal
+            ≡ first-of (early-refusal l s scratch) (unless (ltb o (l .head .operators)) 17 (unless (applicable (task-of l) s o) 18 0))
+        go zero e true f true g = rw (e, there, f, g)
+        go zero e true f false g = rw (e, there, f, g)
+        go zero e false f c g = rw (e, there, f)
+        go (suc r) e b f c g = rw e
+
+    pub step-gives-the-first : step-numbers l s o scratch (stepped l s o scratch .answer .refusal)
+    step-gives-the-first =
+        rw step-number-told
+        (state-given _ _
+        (given (ltb o (l .head .operators)) 17 _ (below o (l .head .operators)) (λ h.
+        given (applicable (task-of l) s o) 18 0 (λ e. sym (applicable-is h) ∙ e, λ e. applicable-is h ∙ e) (λ _. refl))))
+
+  module _ (numbers : List ℕ) where
+    run-number-told : end-number (ran l s numbers scratch .answer .end) ≡ run-refusal l s numbers scratch
+    unfolding ran run-by run-told run-refused run-answer end-of
+    run-number-told = go (run-refusal l s numbers scratch) refl (plain-run (task-of l) s numbers .stop) refl
+      where
+        go :
+            (r : ℕ)
+            → run-refusal l s numbers scratch ≡ r
+            → (stop : Stop)
+            → plain-run (task-of l) s numbers .stop ≡ stop
+            → end-number (ran l s numbers scratch .answer .end) ≡ run-refusal l s numbers scratch
+        go zero e ended f = rw (e, f)
+        go zero e (stopped n) f = rw (e, f)
+        go (suc r) e stop f = rw e
+
+    pub run-gives-the-first : run-numbers l s numbers scratch (end-number (ran l s numbers scratch .answer .end))
+    unfolding run-refusal sequence-kept
+    run-gives-the-first =
+        rw run-number-told
+        (state-given _ _ (given (leb (length numbers) 65535) 19 0 (at-most (length numbers) 65535) (λ _. refl)))
+
+-- The C entries.
+laid-told : (k : ℕ) (bytes : List ℕ) (n : ℕ) → laid-by k bytes n .number ≡ k
+unfolding laid-by
+laid-told zero bytes n = refl
+laid-told (suc k) bytes n = refl
+
+limits-kept : (t : Task) → counts-kept (head-of t) ≡ true ↔ Limits t
+unfolding head-of
+limits-kept t = counts-tested (head-of t)
+
+file-tested : (t : Task) (o r : ℕ) → leb (length (file-of t)) o && leb 4 r ≡ true ↔ FileFits t o r
+file-tested t o r =
+    let n = length (file-of t) in (
+      λ e.
+          record {
+            file = leb-true n o (and-left (leb n o) (leb 4 r) e);
+            result = leb-true 4 r (and-right (leb n o) (leb 4 r) e);
+          },
+      λ f. and-both (le-leb n o (f .file)) (le-leb 4 r (f .result)),
+    )
+
+compiled-told :
+    (t : Task) (o r : ℕ)
+    → compiled t o r .number
+    ≡ unless (eqb (length (t .originals)) 0) 13
+    (unless (counts-kept (head-of (finished t))) 15 (unless (leb (length (file-of (finished t))) o && leb 4 r) 20 0))
+unfolding compiled compile-number compiled-by filed filed-by
+compiled-told t o r =
+    go (eqb (length (t .originals)) 0) refl (counts-kept (head-of (finished t))) refl (leb (length (file-of (finished t))) o && leb 4 r) refl
+  where
+    go :
+        (a : Bool)
+        → eqb (length (t .originals)) 0 ≡ a
+        → (b : Bool)
+        → counts-kept (head-of (finished t)) ≡ b
+        → (c : Bool)
+        → leb (length (file-of (finished t))) o && leb 4 r ≡ c
+        → compiled t o r .number
+        ≡ unless (eqb (length (t .originals)) 0) 13
+        (unless (counts-kept (head-of (finished t))) 15 (unless (leb (length (file-of (finished t))) o && leb 4 r) 20 0))
+    go false e b f c g = rw e
+    go true e false f c g = rw (e, f)
+    go true e true f false g = rw (e, f, g)
+    go true e true f true g = rw (e, f, g)
+
+sequence-tested : (q : List ℕ) → eqb (length q % 2) 0 && sequence-kept (numbers-of q) ≡ true ↔ SequenceRule q
+unfolding sequence-kept
+sequence-tested q =
+    let half = eqb (length q % 2) 0 in
+    let few = leb (length (numbers-of q)) 65535 in (
+      λ e.
+          record {
+            whole = eqb-true (length q % 2) 0 (and-left half few e);
+            few = leb-true (length (numbers-of q)) 65535 (and-right half few e);
+          },
+      λ r. and-both (eq-eqb (length q % 2) 0 (r .whole)) (le-leb (length (numbers-of q)) 65535 (r .few)),
+    )
+
+run-told-number :
+    (t : Task) (s q : List ℕ) (r : ℕ) (a b c : Bool)
+    → run-given (unless a 16 (unless b 19 (unless c 20 0))) t s q r .number
+    ≡ unless a 16 (unless b 19 (unless c 20 (stop-number (plain-run t s (numbers-of q) .stop))))
+unfolding run-given
+run-told-number t s q r true true true = refl
+run-told-number t s q r true true false = refl
+run-told-number t s q r true false c = refl
+run-told-number t s q r false b c = refl
+
+stop-told : (stop : Stop) → StopNumber stop (stop-number stop)
+unfolding stop-number
+stop-told ended = not-stopped refl refl
+stop-told (stopped n) = stopped-by refl
+
+module _ (file : List ℕ) (bytes : OfBytes file) where
+  file-given :
+      (behind : Task → ℕ → Type 0) (number : Outcome → ℕ)
+      → ((k : ℕ) → number (rejected k) ≡ k)
+      → ((t : Task) → Rules t → behind t (number (accepted t)))
+      → FileGiven file behind (number (reading own file))
+  file-given behind number refusal-told rest = go (reading own file) refl
+    where
+      go : (o : Outcome) → reading own file ≡ o → FileGiven file behind (number (reading own file))
+      go (accepted t) e =
+          let a = file-accepted-exactly-if own file t bytes .0 e in
+          was-read t (a .0) (a .1) (rw e (rest t (a .1)))
+      go (rejected k) e =
+          let n : number (reading own file) ≡ k = ap number e ∙ refusal-told k in
+          not-read (rw n e) (λ z. omega (arith, rejected-by own file k e .0, n, z))
+
+  pub read-entry-gives-the-first : (n : ℕ) → read-entry-numbers file n (read-entry file n .number)
+  unfolding read-entry read-entry-by laid
+  read-entry-gives-the-first n =
+      file-given (λ t. Given (length (tables-bytes t) ≤ n) 20 nothing) (λ o. read-entry-by o n .number) (λ k. refl) (λ t r.
+      rw (laid-told (unless (leb (length (tables-bytes t)) n) 20 0) (tables-bytes t) n)
+      (given (leb (length (tables-bytes t)) n) 20 0 (at-most (length (tables-bytes t)) n) (λ _. refl)))
+
+  pub compile-entry-gives-the-first : (o r : ℕ) → compile-entry-numbers file o r (compile-entry file o r .number)
+  unfolding compile-entry compile-entry-by
+  compile-entry-gives-the-first o r =
+      file-given _ (λ v. compile-entry-by v o r .number) (λ k. refl) (λ t rules.
+      let u = finished t in
+      let n = length (file-of u) in
+      rw (compiled-told t o r)
+      (given (eqb (length (t .originals)) 0) 13 _ (same (length (t .originals)) 0) (λ _.
+      given (counts-kept (head-of u)) 15 _ (limits-kept u) (λ _. given (leb n o && leb 4 r) 20 0 (file-tested u o r) (λ _. refl)))))
+
+  pub run-entry-gives-the-first :
+      (state sequence : List ℕ) (r : ℕ)
+      → run-entry-numbers file state sequence r (run-entry file state sequence r .number)
+  unfolding run-entry run-entry-by run-number
+  run-entry-gives-the-first state sequence r =
+      file-given _ (λ v. run-entry-by v state sequence r .number) (λ k. refl) (λ t rules.
+      let v = length (t .initial) in
+      rw (run-told-number t state sequence r (state-kept v state) (eqb (length sequence % 2) 0 && sequence-kept (numbers-of sequence)) (leb 16 r))
+      (given (state-kept v state) 16 _ (state-tested v state) (λ _.
+      given (eqb (length sequence % 2) 0 && sequence-kept (numbers-of sequence)) 19 _ (sequence-tested sequence) (λ _.
+      given (leb 16 r) 20 _ (at-most 16 r) (λ _. stop-told (plain-run t state (numbers-of sequence) .stop))))))
