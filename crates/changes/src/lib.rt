@@ -5,7 +5,7 @@ mod variable;
 
 pub use variable::change_of;
 
-// The rows under which a variable is set and cleared, never both; or that there was no room.
+// The rows under which a variable is set and cleared, which in corresponding states never both hold; or that there was no room.
 pub struct Change {
     pub adds: u16,
     pub deletes: u16,

@@ -133,35 +133,38 @@ pub fold-after-building :
 unfolding result
 fold-after-building = refl
 
--- "v0 equivalent to v1" and its negation: each pair left, right, join
+-- "v0 equivalent to v1" or its negation: first the plain image, then the negated one, in each of them each pair left, right, join
 pub equivalence-order :
     finished
     (record {
       initial = 0 ∷ 0 ∷ [];
       originals = [];
-      formulas = words 2 0 0 ∷ words 2 1 0 ∷ words 7 0 1 ∷ words 3 2 0 ∷ words 6 2 3 ∷ [];
+      formulas = words 2 0 0 ∷ words 2 1 0 ∷ words 7 0 1 ∷ words 3 2 0 ∷ words 5 2 3 ∷ [];
       effects = [];
       operators = [];
       goal = 4;
     })
     ≡ record {
       initial = 0 ∷ 0 ∷ 1 ∷ 1 ∷ [];
-      originals = 1 ∷ 0 ∷ [];
+      originals = 0 ∷ 1 ∷ [];
       formulas =
           words 0 0 0
           ∷ words 1 0 0
           ∷ words 2 0 0
-          ∷ words 2 2 0
-          ∷ words 4 2 3
-          ∷ words 2 3 0
           ∷ words 2 1 0
+          ∷ words 4 2 3
+          ∷ words 2 2 0
+          ∷ words 2 3 0
           ∷ words 4 5 6
           ∷ words 5 4 7
-          ∷ words 5 8 8
+          ∷ words 4 2 6
+          ∷ words 4 5 3
+          ∷ words 5 9 10
+          ∷ words 5 8 11
           ∷ [];
       effects = words 0 0 0 ∷ [];
       operators = [];
-      goal = 9;
+      goal = 12;
     }
 unfolding result
 equivalence-order = refl

@@ -12,7 +12,8 @@ use Rattle.normal_form.specs.Builder.{Build, give, bind, each, join, pla
 use Rattle.normal_form.specs.Image.{image}
 use Rattle.normal_form.specs.Conditions.{condition}
 
--- Of a variable under an operator: the rows under which it is set and cleared, never both.
+-- Of a variable under an operator: the rows under which it is set and cleared. In corresponding states never both hold; in a state where v0 and its twin
+-- are both 1, "set v1 under v0, and clear v1" has both.
 pub record Changes : Type 0 where
   pub variable : ℕ
   pub adds : ℕ

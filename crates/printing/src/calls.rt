@@ -13,15 +13,15 @@ use crate::lines::line_of_one;
 use crate::lines::task_lines;
 use task::Head;
 
-// The answer for a text of `length` bytes that was put into a clear buffer: if it is not whole there, 20, and the buffer is clear again.
-fn settled(out: &mut [u8], length: usize) -> PrintAnswer
-    ensures { λ r. ⌜ ((text : List ℕ) (n most : ℕ) → Put (replicate n 0) 0 text most (now (out .entry)) length → Gives (placed text n) r (now (out .exit))) ⌝ }
+// The answer for a text of `size` bytes that was put into a clear buffer: if it is not whole there, 20, and the buffer is clear again.
+fn settled(out: &mut [u8], size: usize) -> PrintAnswer
+    ensures { λ r. ⌜ ((text : List ℕ) (n most : ℕ) → Put (replicate n 0) 0 text most (now (out .entry)) size → Gives (placed text n) r (now (out .exit))) ⌝ }
 {
-    if out.len() < length {
+    if out.len() < size {
         clear(out);
         return PrintAnswer::Refused(20);
     }
-    PrintAnswer::Printed(length)
+    PrintAnswer::Printed(size)
 }
 
 // The lines of a task, if its tables pass: otherwise their number; 20 if `out` is shorter than the lines.
@@ -42,8 +42,8 @@ pub fn print(
     if refusal != 0 {
         return PrintAnswer::Refused(refusal);
     }
-    let length = task_lines(out, head, initial, twins, formulas, effects, operators);
-    settled(out, length)
+    let size = task_lines(out, head, initial, twins, formulas, effects, operators);
+    settled(out, size)
 }
 
 // The line of a refusal: r and the number; 20 if `out` is shorter than that. Linear in `out`.
@@ -51,6 +51,6 @@ pub fn print_refusal(number: u16, out: &mut [u8]) -> PrintAnswer
     ensures { λ r. ⌜ Gives (printing-refusal number (length (now (out .entry)))) r (now (out .exit)) ⌝ }
 {
     clear(out);
-    let length = line_of_one(out, 0, b'r', number);
-    settled(out, length)
+    let size = line_of_one(out, 0, b'r', number);
+    settled(out, size)
 }

@@ -33,7 +33,7 @@ pub struct Rule {
     pub condition: u16,
 }
 
-// The rows under which an operator sets and clears a variable, never both.
+// The rows under which an operator sets and clears a variable: in corresponding states never both hold.
 pub struct Changes {
     pub variable: u16,
     pub adds: u16,
