@@ -6,7 +6,7 @@ use mathlib.Core.Bool.{Bool, true, false, true≢false}
 use mathlib.Core.List.{List}
 use lib.ListN.{length}
 use borrow.Author.Tests.{eq-eqb, ne-eqb}
-use Rattle.normal_form.specs.Builder.{Got, Build, give, bind, join, plain, negated, falsity}
+use Rattle.normal_form.specs.Builder.{Got, Build, give, bind, join, plain, negated, image-of-false}
 use Rattle.normal_form.specs.Growth.{Steady}
 use Rattle.normal_form.specs.Conditions.{condition}
 use Rattle.normal_form.specs.Operators.{Changes, deletes-of, changes-of}
@@ -57,10 +57,10 @@ pub condition-unnamed :
     {frame : Frame} {formulas effects notes : List ℕ} {at : Size} {s : Store} {scratch : List ℕ} {e : ℕ} (t : Target)
     → StandsAt frame formulas effects notes at s scratch e
     → Unnamed frame formulas effects (t .clear) (t .variable) e
-    → Conditions (condition-at frame formulas effects t e) frame formulas effects notes at s s scratch (stepped (at .rows) (at .twins) (falsity (side (t .negated))))
+    → Conditions (condition-at frame formulas effects t e) frame formulas effects notes at s s scratch (stepped (at .rows) (at .twins) (image-of-false (side (t .negated))))
 condition-unnamed t a u =
     conditions-as (u .idle t refl refl)
-    (given-row (falsity (side (t .negated))) a (omega (arith, falsity-small (side (t .negated)), a .stands .ready .two)))
+    (given-row (image-of-false (side (t .negated))) a (omega (arith, falsity-small (side (t .negated)), a .stands .ready .two)))
 
 -- where building stands after a step
 pub stands-next :

@@ -18,7 +18,7 @@ use Rattle.normal_form.specs.Image.{image}
 use Rattle.normal_form.specs.Conditions.{condition}
 use Rattle.normal_form.specs.Operators.{parts}
 use Rattle.normal_form.specs.Finished.{finished}
-use Rattle.normal_form.specs.Compiled.{Room, Fits, compiled-head, refused, Outcome, nothing-given, task-given, compiling, given}
+use Rattle.normal_form.specs.Compiled.{Room, Fits, compiled-head, not-compiled, CompileOutcome, nothing-given, task-given, compiling, given}
 use Rattle.normal_form.proofs.Steady.{steady-image, steady-condition, steady-parts}
 use Rattle.normal_form.proofs.ShapeFinished.{flat}
 use Rattle.normal_form.proofs.ShapePassed.{positive, finished-positive, finished-passes}
@@ -50,7 +50,7 @@ compiled-exactly-if l room = (
       let c = given-compiles l room (head-of (finished (task-of l))) e in
       (c .passes, c .untwinned, c .scratch, c .fits),
   λ p.
-      ap (λ (o : Outcome). o .answer)
+      ap (λ (o : CompileOutcome). o .answer)
       (succeeds l room (record { passes = p .0; untwinned = p .1; scratch = p .2; fits = p .3 })),
 )
 
@@ -60,12 +60,12 @@ pub fifteen-exactly-if :
     → refusal l ≡ 0
     → l .head .twins ≡ 0
     → 2 * l .head .formulas + 2 * l .head .effects ≤ room .scratch
-    → compiling l room .answer ≡ refused 15
+    → compiling l room .answer ≡ not-compiled 15
     ↔ (Fits (finished (task-of l)) room → ⊥)
 unfolding nothing-given
 fifteen-exactly-if l room passed untwinned scratch = (
   fifteen l room,
-  λ n. ap (λ (o : Outcome). o .answer) (by-room l room passed untwinned scratch n),
+  λ n. ap (λ (o : CompileOutcome). o .answer) (by-room l room passed untwinned scratch n),
 )
 
 module _ (l : Lent) (room : Room) (h : Head) (success : compiling l room .answer ≡ compiled-head h) where

@@ -17,7 +17,7 @@ use Rattle.file_format.proofs.RoundTrip.{read-written}
 use Rattle.normal_form.specs.Finished.{finished}
 use Rattle.printing.specs.Lines.{lines, refusal-line}
 use Rattle.entry_tables.specs.Own.{own, compile-number}
-use Rattle.compile_text.specs.Text.{compiled-by, compiled-text, text-by, text-of}
+use Rattle.compile_text.specs.Text.{compiled-text-by, compiled-text, text-by, text-of}
 use Rattle.compile_text.proofs.TextWays.{cut-text}
 use Rattle.claims.specs.Statements.{Compiles}
 
@@ -43,7 +43,7 @@ limits-told t e = counts-tested (head-of t) .0 e
 
 -- Given the file of a task that compiles, the program prints the compiled task's lines.
 pub prints-compiled-task : (t : Task) → Compiles t → text-of (file-of t) ≡ lines (finished t)
-unfolding text-of text-by compiled-text compiled-by compile-number
+unfolding text-of text-by compiled-text compiled-text-by compile-number
 prints-compiled-task t c =
     rw (
       read-written own t (c .rules .checked) (own-fits t (c .rules)),
@@ -58,7 +58,7 @@ prints-number file n e = ap text-by e
 
 -- So it does with 13 for a task with twins, and with 15 for one whose compiled task passes a limit, and for no other.
 pub prints-thirteen : (t : Task) → Rules t → (length (t .originals) ≡ 0 → ⊥) → text-of (file-of t) ≡ refusal-line 13
-unfolding text-of text-by compiled-text compiled-by compile-number
+unfolding text-of text-by compiled-text compiled-text-by compile-number
 prints-thirteen t r n = rw (read-written own t (r .checked) (own-fits t r), ne-eqb (length (t .originals)) 0 n)
 
 pub prints-fifteen :
@@ -67,7 +67,7 @@ pub prints-fifteen :
     → length (t .originals) ≡ 0
     → (Limits (finished t) → ⊥)
     → text-of (file-of t) ≡ refusal-line 15
-unfolding text-of text-by compiled-text compiled-by compile-number
+unfolding text-of text-by compiled-text compiled-text-by compile-number
 prints-fifteen t r w n = go (counts-kept (head-of (finished t))) refl
   where
     go : (b : Bool) → counts-kept (head-of (finished t)) ≡ b → text-of (file-of t) ≡ refusal-line 15

@@ -21,27 +21,27 @@ use Rattle.task.proofs.Bounded.{and-left, and-right, and-both, every-at, every-
 use Rattle.task.proofs.Held.{length-operators, operator-held}
 use Rattle.task.proofs.Passed.{passed, counts-tested, goal-tested, lengths-tested, initial-tested, twins-tested, formulas-tested, effects-tested, operators-tested}
 use Rattle.file_format.specs.Bytes.{file-of}
-use Rattle.file_format.specs.Reading.{accepted, rejected, Outcome, reading}
+use Rattle.file_format.specs.Reading.{accepted, rejected, Verdict, reading}
 use Rattle.task_writer.specs.declared.WriteAnswer.{WriteAnswer}
 use Rattle.task_writer.specs.declared.WriteAnswer.the-variants.{Written, NotWritten}
 use Rattle.task_writer.specs.Writing.{WriteOutcome, file-outcome, write-outcome}
-use Rattle.stepper.specs.Stepped.{scratch-kept, first-of, early-refusal, step-refused, step-told, step-by, stepped}
+use Rattle.stepper.specs.Stepped.{step-scratch-kept, first-of, early-refusal, step-refused, step-told, step-by, stepped}
 use Rattle.plan.specs.declared.outcome.RunOutcome.{RunOutcome}
 use Rattle.plan.specs.declared.outcome.End.{End}
 use Rattle.plan.specs.declared.outcome.End.the-variants.{Ended, Stopped, Refused}
 use Rattle.plan.specs.Outcome.{run-refusal, run-refused, end-of, run-answer, run-told, run-by, ran}
-use Rattle.normal_form.specs.Compiled.{Room, scratch-kept as compile-scratch, fits, Fits, compile-refusal, Answer, compiled-head, refused, Outcome as CompileOutcome, nothing-given, task-given, outcome-by, compiling}
+use Rattle.normal_form.specs.Compiled.{Room, compile-scratch-kept as compile-scratch, fits, Fits, compile-refusal, Answer, compiled-head, not-compiled, CompileOutcome as CompileOutcome, nothing-given, task-given, outcome-by, compiling}
 use Rattle.normal_form.specs.Finished.{finished}
 use Rattle.normal_form.proofs.Compiled.{fits-tested}
 use Rattle.file_format.proofs.Numbers.{rejected-by}
 use Rattle.entry_tables.specs.Own.{own, compile-number}
 use Rattle.layouts.specs.Layout.{tables-bytes, numbers-of, run-number, stop-number, Laid, laid-by, laid}
 use Rattle.read_entry.specs.Entry.{read-entry, read-entry-by}
-use Rattle.compiled_file.specs.Filed.{CompileEntry, no-file, filed-by, filed, compiled-by, compiled}
+use Rattle.compiled_file.specs.Filed.{CompileEntry, no-file, filed-by, filed, compiled-file-by, compiled-file}
 use Rattle.compile_entry.specs.Entry.{compile-entry, compile-entry-by}
 use Rattle.run_entry.specs.Entry.{RunEntry, run-given, run-entry, run-entry-by}
 use Rattle.claims.specs.Statements.{OfBytes}
-use Rattle.claims.specs.Numbers.{Given, broken, kept, nothing, tables-numbers, write-number, compile-answer-number, end-number, write-numbers, compile-numbers, StateRule, state-numbers, step-numbers, run-numbers, FileGiven, not-read, was-read, read-entry-numbers, FileFits, compile-entry-numbers, SequenceRule, StopNumber, not-stopped, stopped-by, run-entry-numbers}
+use Rattle.claims.specs.Numbers.{Given, broken, keeps, no-rule-left, tables-numbers, write-number, compile-answer-number, end-number, write-numbers, compile-numbers, StateRule, state-numbers, step-numbers, run-numbers, FileGiven, not-read, was-read, read-entry-numbers, FileFits, compile-entry-numbers, SequenceRule, StopNumber, not-stopped, stopped-by, run-entry-numbers}
 use Rattle.claims.proofs.DemandTwoFiles.{file-accepted-exactly-if}
 
 -- a test and its rule
@@ -52,7 +52,7 @@ given :
     → Given rule number behind (unless b number m)
 given true number m e rest =
     let r = e .0 refl in
-    kept r (rest r)
+    keeps r (rest r)
 given false number m e rest = broken (λ r. false≢true (e .1 r)) refl
 
 -- tests of two numbers
@@ -100,8 +100,8 @@ alone zero = refl
 alone (suc n) = refl
 
 -- The check.
-pub check-gives-the-first : (l : Lent) → tables-numbers l nothing (refusal l)
-check-gives-the-first l = rw (alone (refusal l)) at (tables-given l nothing 0 refl)
+pub check-gives-the-first : (l : Lent) → tables-numbers l no-rule-left (refusal l)
+check-gives-the-first l = rw (alone (refusal l)) at (tables-given l no-rule-left 0 refl)
 
 not-zero : (n : ℕ) → eqb (suc n) 0 ≡ false
 not-zero n = ne-eqb (suc n) 0 (λ e. omega arith)
@@ -124,7 +124,7 @@ write-told l n = go (refusal l) refl (leb (length (file-of (task-of l))) n) refl
 pub write-gives-the-first : (l : Lent) (n : ℕ) → write-numbers l n (write-number (write-outcome l n .answer))
 write-gives-the-first l n =
     rw (write-told l n)
-    (tables-given l (Given (length (file-of (task-of l)) ≤ n) 20 nothing) _
+    (tables-given l (Given (length (file-of (task-of l)) ≤ n) 20 no-rule-left) _
     (given (leb (length (file-of (task-of l))) n) 20 0 (at-most (length (file-of (task-of l))) n) (λ _. refl)))
 
 -- Compiling.
@@ -174,7 +174,7 @@ early-first (suc r) m a b = refl
 
 module _ (l : Lent) (s scratch : List ℕ) where
   state-given : (behind : ℕ → Type 0) (m : ℕ) → behind m → state-numbers l s scratch behind (first-of (early-refusal l s scratch) m)
-  unfolding early-refusal scratch-kept
+  unfolding early-refusal step-scratch-kept
   state-given behind m rest =
       let h = l .head in
       rw (early-first (refusal l) m (state-kept (h .variables) s) (leb (h .formulas + h .effects) (length scratch)))
@@ -263,10 +263,10 @@ file-tested t o r =
 
 compiled-told :
     (t : Task) (o r : ℕ)
-    → compiled t o r .number
+    → compiled-file t o r .number
     ≡ unless (eqb (length (t .originals)) 0) 13
     (unless (counts-kept (head-of (finished t))) 15 (unless (leb (length (file-of (finished t))) o && leb 4 r) 20 0))
-unfolding compiled compile-number compiled-by filed filed-by
+unfolding compiled-file compile-number compiled-file-by filed filed-by
 compiled-told t o r =
     go (eqb (length (t .originals)) 0) refl (counts-kept (head-of (finished t))) refl (leb (length (file-of (finished t))) o && leb 4 r) refl
   where
@@ -277,7 +277,7 @@ compiled-told t o r =
         → counts-kept (head-of (finished t)) ≡ b
         → (c : Bool)
         → leb (length (file-of (finished t))) o && leb 4 r ≡ c
-        → compiled t o r .number
+        → compiled-file t o r .number
         ≡ unless (eqb (length (t .originals)) 0) 13
         (unless (counts-kept (head-of (finished t))) 15 (unless (leb (length (file-of (finished t))) o && leb 4 r) 20 0))
     go false e b f c g = rw e
@@ -315,13 +315,13 @@ stop-told (stopped n) = stopped-by refl
 
 module _ (file : List ℕ) (bytes : OfBytes file) where
   file-given :
-      (behind : Task → ℕ → Type 0) (number : Outcome → ℕ)
+      (behind : Task → ℕ → Type 0) (number : Verdict → ℕ)
       → ((k : ℕ) → number (rejected k) ≡ k)
       → ((t : Task) → Rules t → behind t (number (accepted t)))
       → FileGiven file behind (number (reading own file))
   file-given behind number refusal-told rest = go (reading own file) refl
     where
-      go : (o : Outcome) → reading own file ≡ o → FileGiven file behind (number (reading own file))
+      go : (o : Verdict) → reading own file ≡ o → FileGiven file behind (number (reading own file))
       go (accepted t) e =
           let a = file-accepted-exactly-if own file t bytes .0 e in
           was-read t (a .0) (a .1) (rw e (rest t (a .1)))
@@ -332,7 +332,7 @@ module _ (file : List ℕ) (bytes : OfBytes file) where
   pub read-entry-gives-the-first : (n : ℕ) → read-entry-numbers file n (read-entry file n .number)
   unfolding read-entry read-entry-by laid
   read-entry-gives-the-first n =
-      file-given (λ t. Given (length (tables-bytes t) ≤ n) 20 nothing) (λ o. read-entry-by o n .number) (λ k. refl) (λ t r.
+      file-given (λ t. Given (length (tables-bytes t) ≤ n) 20 no-rule-left) (λ o. read-entry-by o n .number) (λ k. refl) (λ t r.
       rw (laid-told (unless (leb (length (tables-bytes t)) n) 20 0) (tables-bytes t) n)
       (given (leb (length (tables-bytes t)) n) 20 0 (at-most (length (tables-bytes t)) n) (λ _. refl)))
 

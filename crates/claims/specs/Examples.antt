@@ -11,7 +11,7 @@ use Rattle.printing.specs.Lines.{bytes}
 use Rattle.plan.specs.declared.outcome.RunOutcome.{RunOutcome}
 use Rattle.plan.specs.declared.outcome.End.the-variants.{Ended}
 use Rattle.plan.specs.Outcome.{ran}
-use Rattle.normal_form.specs.Compiled.{Room, Answer, compiled-head, refused, Outcome, compiling, given}
+use Rattle.normal_form.specs.Compiled.{Room, Answer, compiled-head, not-compiled, CompileOutcome, compiling, given}
 use Rattle.compile_text.specs.Text.{text-of}
 
 -- What is asked: the check of tables; a run on tables, from a state; the compiling of tables into what is lent; the compiling
@@ -24,24 +24,24 @@ pub data Asked : Type 0 where
 
 -- What is told: a number; the outcome of a run and the state that it left; the compiled task; a text.
 pub data Told : Type 0 where
-  number : ℕ → Told
+  told-number : ℕ → Told
   answers : RunOutcome → (state : List ℕ) → Told
-  compiled : Task → Told
+  compiled-task : Task → Told
   printed : List ℕ → Told
 
 -- what a compiling told: the task in the tables that it gave, or its number
-abbrev pub gave : Answer → Outcome → Told
-gave (compiled-head h) o = compiled (task-of (given h o))
-gave (refused n) o = number n
+abbrev pub gave : Answer → CompileOutcome → Told
+gave (compiled-head h) o = compiled-task (task-of (given h o))
+gave (not-compiled n) o = told-number n
 
 -- by the definitions that the calls are held to
 unfoldable pub outcome : Asked → Told
-outcome (check l) = number (refusal l)
+outcome (check l) = told-number (refusal l)
 outcome (run l s numbers scratch) =
     let r = ran l s numbers scratch in
     answers (r .answer) (r .state)
-outcome (compile l room) =
-    let o = compiling l room in
+outcome (compile l enough-room) =
+    let o = compiling l enough-room in
     gave (o .answer) o
 outcome (program file) = printed (text-of file)
 
@@ -50,60 +50,60 @@ pub record Example : Type 0 where
   pub told : Told
 
 -- a row: kind, a, b; of an operator: precondition, effect, cost
-abbrev pub row : (kind a b : ℕ) → Row
-row k a b = record { kind = k; a = a; b = b }
+abbrev pub a-row : (kind a b : ℕ) → Row
+a-row k a b = record { kind = k; a = a; b = b }
 
 abbrev pub operator : (precondition effect cost : ℕ) → Operator
 operator p e c = record { precondition = p; effect = e; cost = c }
 
 -- tables without twins: initial values, formulas, effects, operators, goal
-abbrev pub tables : List ℕ → (formulas effects : List Row) → List Operator → (goal : ℕ) → Lent
-tables i f e o g =
+abbrev pub task-tables : List ℕ → (formulas effects : List Row) → List Operator → (goal : ℕ) → Lent
+task-tables i f e o g =
     lent-of (record { initial = i; originals = []; formulas = f; effects = e; operators = o; goal = g })
 
 -- n variables and the goal true
 abbrev pub variables : ℕ → Lent
-variables n = tables (replicate n 0) (row 1 0 0 ∷ []) [] [] 0
+variables n = task-tables (replicate n 0) (a-row 1 0 0 ∷ []) [] [] 0
 
 -- formulas v0; true; and the goal with this number
 abbrev pub with-goal : ℕ → Lent
-with-goal g = tables (0 ∷ []) (row 2 0 0 ∷ row 1 0 0 ∷ []) [] [] g
+with-goal g = task-tables (0 ∷ []) (a-row 2 0 0 ∷ a-row 1 0 0 ∷ []) [] [] g
 
 -- three variables, and in row 3 "not a"
 abbrev pub not-in-row-three : ℕ → Lent
-not-in-row-three a = tables (0 ∷ 0 ∷ 0 ∷ []) (row 2 0 0 ∷ row 2 1 0 ∷ row 2 2 0 ∷ row 3 a 0 ∷ []) [] [] 3
+not-in-row-three a = task-tables (0 ∷ 0 ∷ 0 ∷ []) (a-row 2 0 0 ∷ a-row 2 1 0 ∷ a-row 2 2 0 ∷ a-row 3 a 0 ∷ []) [] [] 3
 
 -- set and clear v0 together: effects set v0; clear v0; both
 abbrev pub set-and-clear : Lent
 set-and-clear =
-    tables (0 ∷ []) (row 1 0 0 ∷ []) (row 1 0 0 ∷ row 2 0 0 ∷ row 3 0 1 ∷ []) (operator 0 2 0 ∷ []) 0
+    task-tables (0 ∷ []) (a-row 1 0 0 ∷ []) (a-row 1 0 0 ∷ a-row 2 0 0 ∷ a-row 3 0 1 ∷ []) (operator 0 2 0 ∷ []) 0
 
 -- v0 sets v1, v1 always cleared: formulas v0; true. Effects set v1; 0 under v0; clear v1; both 1 and 2
 abbrev pub set-overrules : Lent
 set-overrules =
-    tables (0 ∷ 0 ∷ []) (row 2 0 0 ∷ row 1 0 0 ∷ [])
-    (row 1 1 0 ∷ row 4 0 0 ∷ row 2 1 0 ∷ row 3 1 2 ∷ [])
+    task-tables (0 ∷ 0 ∷ []) (a-row 2 0 0 ∷ a-row 1 0 0 ∷ [])
+    (a-row 1 1 0 ∷ a-row 4 0 0 ∷ a-row 2 1 0 ∷ a-row 3 1 2 ∷ [])
     (operator 1 3 5 ∷ [])
     0
 
 -- set v0 under not v0, clear v0 under v0: formulas v0; not 0; true. Effects set v0; 0 under 1; clear v0; 2 under 0; both 1 and 3
 abbrev pub flip : Lent
 flip =
-    tables (0 ∷ []) (row 2 0 0 ∷ row 3 0 0 ∷ row 1 0 0 ∷ [])
-    (row 1 0 0 ∷ row 4 1 0 ∷ row 2 0 0 ∷ row 4 0 2 ∷ row 3 1 3 ∷ [])
+    task-tables (0 ∷ []) (a-row 2 0 0 ∷ a-row 3 0 0 ∷ a-row 1 0 0 ∷ [])
+    (a-row 1 0 0 ∷ a-row 4 1 0 ∷ a-row 2 0 0 ∷ a-row 4 0 2 ∷ a-row 3 1 3 ∷ [])
     (operator 2 4 0 ∷ [])
     2
 
 -- a formula over an empty effect: formulas v0; not 0; true. Effects empty; 0 under 1
 abbrev pub over-empty : Lent
 over-empty =
-    tables (0 ∷ []) (row 2 0 0 ∷ row 3 0 0 ∷ row 1 0 0 ∷ []) (row 0 0 0 ∷ row 4 1 0 ∷ []) (operator 2 1 0 ∷ []) 2
+    task-tables (0 ∷ []) (a-row 2 0 0 ∷ a-row 3 0 0 ∷ a-row 1 0 0 ∷ []) (a-row 0 0 0 ∷ a-row 4 1 0 ∷ []) (operator 2 1 0 ∷ []) 2
 
 -- the whole example: formulas v0; v1; not 0; not 1; 0 and 3. Effects set v0; clear v1; 1 under 1; both 0 and 2. Operator (2, 3, cost 3). Goal 4
 abbrev pub whole : Lent
 whole =
-    tables (0 ∷ 1 ∷ []) (row 2 0 0 ∷ row 2 1 0 ∷ row 3 0 0 ∷ row 3 1 0 ∷ row 4 0 3 ∷ [])
-    (row 1 0 0 ∷ row 2 1 0 ∷ row 4 1 1 ∷ row 3 0 2 ∷ [])
+    task-tables (0 ∷ 1 ∷ []) (a-row 2 0 0 ∷ a-row 2 1 0 ∷ a-row 3 0 0 ∷ a-row 3 1 0 ∷ a-row 4 0 3 ∷ [])
+    (a-row 1 0 0 ∷ a-row 2 1 0 ∷ a-row 4 1 1 ∷ a-row 3 0 2 ∷ [])
     (operator 2 3 3 ∷ [])
     4
 
@@ -126,49 +126,49 @@ whole-compiled =
       initial = 0 ∷ 1 ∷ 1 ∷ 0 ∷ [];
       originals = 0 ∷ 1 ∷ [];
       formulas =
-          row 0 0 0
-          ∷ row 1 0 0
-          ∷ row 2 2 0
-          ∷ row 2 1 0
-          ∷ row 2 0 0
-          ∷ row 2 3 0
-          ∷ row 4 4 5
+          a-row 0 0 0
+          ∷ a-row 1 0 0
+          ∷ a-row 2 2 0
+          ∷ a-row 2 1 0
+          ∷ a-row 2 0 0
+          ∷ a-row 2 3 0
+          ∷ a-row 4 4 5
           ∷ [];
       effects =
-          row 0 0 0
-          ∷ row 1 0 0
-          ∷ row 4 1 1
-          ∷ row 2 2 0
-          ∷ row 4 1 3
-          ∷ row 3 2 4
-          ∷ row 2 1 0
-          ∷ row 4 3 6
-          ∷ row 3 5 7
-          ∷ row 1 3 0
-          ∷ row 4 3 9
-          ∷ row 3 8 10
+          a-row 0 0 0
+          ∷ a-row 1 0 0
+          ∷ a-row 4 1 1
+          ∷ a-row 2 2 0
+          ∷ a-row 4 1 3
+          ∷ a-row 3 2 4
+          ∷ a-row 2 1 0
+          ∷ a-row 4 3 6
+          ∷ a-row 3 5 7
+          ∷ a-row 1 3 0
+          ∷ a-row 4 3 9
+          ∷ a-row 3 8 10
           ∷ [];
       operators = operator 2 11 3 ∷ [];
       goal = 6;
     }
 
 -- room that the whole example's compiled task just fills
-abbrev pub room : Room
-room = record { initial = 4; twins = 2; formulas = 21; effects = 36; operators = 3; scratch = 18 }
+abbrev pub enough-room : Room
+enough-room = record { initial = 4; twins = 2; formulas = 21; effects = 36; operators = 3; scratch = 18 }
 
 abbrev pub table : List Example
 table =
     -- F 0 gives 6
-    record { asked = check (tables [] [] [] [] 0); told = number 6 }
+    record { asked = check (task-tables [] [] [] [] 0); told = told-number 6 }
     -- goal F gives 7, goal F − 1 passes
-    ∷ record { asked = check (with-goal 2); told = number 7 }
-    ∷ record { asked = check (with-goal 1); told = number 0 }
+    ∷ record { asked = check (with-goal 2); told = told-number 7 }
+    ∷ record { asked = check (with-goal 1); told = told-number 0 }
     -- V 512 passes, 513 gives 6
-    ∷ record { asked = check (variables 512); told = number 0 }
-    ∷ record { asked = check (variables 513); told = number 6 }
+    ∷ record { asked = check (variables 512); told = told-number 0 }
+    ∷ record { asked = check (variables 513); told = told-number 6 }
     -- row 3 "not 3" gives 10, "not 2" passes
-    ∷ record { asked = check (not-in-row-three 3); told = number 10 }
-    ∷ record { asked = check (not-in-row-three 2); told = number 0 }
+    ∷ record { asked = check (not-in-row-three 3); told = told-number 10 }
+    ∷ record { asked = check (not-in-row-three 2); told = told-number 0 }
     -- O 0, goal true: the empty run is a plan (it ended with the goal true) of cost 0
     ∷ record {
       asked = run (variables 0) [] [] (0 ∷ []);
@@ -185,54 +185,54 @@ table =
     }
     -- .. and no clear rule is built
     ∷ record {
-      asked = compile set-and-clear room;
+      asked = compile set-and-clear enough-room;
       told =
-          compiled
+          compiled-task
           (record {
             initial = 0 ∷ [];
             originals = [];
-            formulas = row 0 0 0 ∷ row 1 0 0 ∷ [];
-            effects = row 0 0 0 ∷ row 1 0 0 ∷ row 4 1 1 ∷ [];
+            formulas = a-row 0 0 0 ∷ a-row 1 0 0 ∷ [];
+            effects = a-row 0 0 0 ∷ a-row 1 0 0 ∷ a-row 4 1 1 ∷ [];
             operators = operator 1 2 0 ∷ [];
             goal = 1;
           });
     }
     -- v0 sets v1, v1 always cleared: the clear's condition (effect row 4) is v0's twin, formula row 3
     ∷ record {
-      asked = compile set-overrules room;
+      asked = compile set-overrules enough-room;
       told =
-          compiled
+          compiled-task
           (record {
             initial = 0 ∷ 0 ∷ 1 ∷ [];
             originals = 0 ∷ [];
-            formulas = row 0 0 0 ∷ row 1 0 0 ∷ row 2 0 0 ∷ row 2 2 0 ∷ [];
-            effects = row 0 0 0 ∷ row 1 1 0 ∷ row 4 2 1 ∷ row 2 1 0 ∷ row 4 3 3 ∷ row 3 2 4 ∷ [];
+            formulas = a-row 0 0 0 ∷ a-row 1 0 0 ∷ a-row 2 0 0 ∷ a-row 2 2 0 ∷ [];
+            effects = a-row 0 0 0 ∷ a-row 1 1 0 ∷ a-row 4 2 1 ∷ a-row 2 1 0 ∷ a-row 4 3 3 ∷ a-row 3 2 4 ∷ [];
             operators = operator 1 5 5 ∷ [];
             goal = 2;
           });
     }
     -- set v under not v, clear v under v: the clear's condition (effect row 7) is the row "v and v", formula row 4
     ∷ record {
-      asked = compile flip room;
+      asked = compile flip enough-room;
       told =
-          compiled
+          compiled-task
           (record {
             initial = 0 ∷ 1 ∷ [];
             originals = 0 ∷ [];
-            formulas = row 0 0 0 ∷ row 1 0 0 ∷ row 2 1 0 ∷ row 2 0 0 ∷ row 4 3 3 ∷ [];
+            formulas = a-row 0 0 0 ∷ a-row 1 0 0 ∷ a-row 2 1 0 ∷ a-row 2 0 0 ∷ a-row 4 3 3 ∷ [];
             effects =
-                row 0 0 0
-                ∷ row 1 0 0
-                ∷ row 4 2 1
-                ∷ row 2 1 0
-                ∷ row 4 2 3
-                ∷ row 3 2 4
-                ∷ row 2 0 0
-                ∷ row 4 4 6
-                ∷ row 3 5 7
-                ∷ row 1 1 0
-                ∷ row 4 4 9
-                ∷ row 3 8 10
+                a-row 0 0 0
+                ∷ a-row 1 0 0
+                ∷ a-row 4 2 1
+                ∷ a-row 2 1 0
+                ∷ a-row 4 2 3
+                ∷ a-row 3 2 4
+                ∷ a-row 2 0 0
+                ∷ a-row 4 4 6
+                ∷ a-row 3 5 7
+                ∷ a-row 1 1 0
+                ∷ a-row 4 4 9
+                ∷ a-row 3 8 10
                 ∷ [];
             operators = operator 1 11 0 ∷ [];
             goal = 1;
@@ -240,20 +240,20 @@ table =
     }
     -- a formula over an empty effect builds nothing
     ∷ record {
-      asked = compile over-empty room;
+      asked = compile over-empty enough-room;
       told =
-          compiled
+          compiled-task
           (record {
             initial = 0 ∷ [];
             originals = [];
-            formulas = row 0 0 0 ∷ row 1 0 0 ∷ [];
-            effects = row 0 0 0 ∷ [];
+            formulas = a-row 0 0 0 ∷ a-row 1 0 0 ∷ [];
+            effects = a-row 0 0 0 ∷ [];
             operators = operator 1 0 0 ∷ [];
             goal = 1;
           });
     }
     -- the whole example: its tables compiled, and what the program prints, given its file
-    ∷ record { asked = compile whole room; told = compiled whole-compiled }
+    ∷ record { asked = compile whole enough-room; told = compiled-task whole-compiled }
     ∷ record {
       asked = program whole-file;
       told =

@@ -13,7 +13,7 @@ use Rattle.task.specs.Run.{Stop, ended, stopped, plain-run}
 use Rattle.file_format.specs.Bytes.{file-of}
 use Rattle.file_format.specs.Reading.{rejected, reading}
 use Rattle.normal_form.specs.Finished.{finished}
-use Rattle.normal_form.specs.Compiled.{Room, Fits, Answer, compiled-head, refused}
+use Rattle.normal_form.specs.Compiled.{Room, Fits, Answer, compiled-head, not-compiled}
 use Rattle.task_writer.specs.declared.WriteAnswer.{WriteAnswer}
 use Rattle.task_writer.specs.declared.WriteAnswer.the-variants.{Written, NotWritten}
 use Rattle.plan.specs.declared.outcome.End.{End}
@@ -24,11 +24,11 @@ use Rattle.layouts.specs.Layout.{tables-bytes, numbers-of}
 -- n is given at this place or behind it: the rule is broken and n is its number, or it is kept and n is what the places behind it give
 pub data Given (rule : Type 0) (number : ℕ) (behind : ℕ → Type 0) (n : ℕ) : Type 0 where
   broken : (rule → ⊥) → n ≡ number → Given rule number behind n
-  kept : rule → behind n → Given rule number behind n
+  keeps : rule → behind n → Given rule number behind n
 
 -- behind the last place
-abbrev pub nothing : ℕ → Type 0
-nothing n = n ≡ 0
+abbrev pub no-rule-left : ℕ → Type 0
+no-rule-left n = n ≡ 0
 
 -- Head, initial bytes, twin row, formula row, effect row, operator row
 abbrev pub tables-numbers : Lent → (behind : ℕ → Type 0) → ℕ → Type 0
@@ -54,7 +54,7 @@ write-number (NotWritten number) = number
 
 abbrev pub compile-answer-number : Answer → ℕ
 compile-answer-number (compiled-head h) = 0
-compile-answer-number (refused number) = number
+compile-answer-number (not-compiled number) = number
 
 abbrev pub end-number : End → ℕ
 end-number (Ended goal) = 0
@@ -63,14 +63,14 @@ end-number (Refused number) = number
 
 -- Writing: 20, output of n bytes shorter than the file
 abbrev pub write-numbers : Lent → (n : ℕ) → ℕ → Type 0
-write-numbers l n = tables-numbers l (Given (length (file-of (task-of l)) ≤ n) 20 nothing)
+write-numbers l n = tables-numbers l (Given (length (file-of (task-of l)) ≤ n) 20 no-rule-left)
 
 -- Compiling: 13, 14, 15
 abbrev pub compile-numbers : Lent → Room → ℕ → Type 0
 compile-numbers l room =
     tables-numbers l
     (Given (l .head .twins ≡ 0) 13
-    (Given (2 * l .head .formulas + 2 * l .head .effects ≤ room .scratch) 14 (Given (Fits (finished (task-of l)) room) 15 nothing)))
+    (Given (2 * l .head .formulas + 2 * l .head .effects ≤ room .scratch) 14 (Given (Fits (finished (task-of l)) room) 15 no-rule-left)))
 
 -- 16: a state of v variables
 pub record StateRule (v : ℕ) (s : List ℕ) : Type 0 where
@@ -88,11 +88,11 @@ abbrev pub step-numbers : Lent → (state : List ℕ) → (o : ℕ) → (scratch
 step-numbers l s o scratch =
     state-numbers l s scratch
     (Given (o < l .head .operators) 17
-    (Given (holds s (formula-of (task-of l .formulas) (operator-at (l .operators) o .precondition)) ≡ true) 18 nothing))
+    (Given (holds s (formula-of (task-of l .formulas) (operator-at (l .operators) o .precondition)) ≡ true) 18 no-rule-left))
 
 -- Running: 19. A run that 17 or 18 stops is not refused.
 abbrev pub run-numbers : Lent → (state numbers scratch : List ℕ) → ℕ → Type 0
-run-numbers l s numbers scratch = state-numbers l s scratch (Given (length numbers ≤ 65535) 19 nothing)
+run-numbers l s numbers scratch = state-numbers l s scratch (Given (length numbers ≤ 65535) 19 no-rule-left)
 
 -- The C entries. A file is refused with reading's number, which is never 0; or it is the file of a task that keeps the rules, and n is what the places
 -- behind reading give.
@@ -102,7 +102,7 @@ pub data FileGiven (file : List ℕ) (behind : Task → ℕ → Type 0) (n : ℕ
 
 -- pnf_read: 20, the buffer of n bytes shorter than the layout
 abbrev pub read-entry-numbers : (file : List ℕ) → (n : ℕ) → ℕ → Type 0
-read-entry-numbers file n = FileGiven file (λ t. Given (length (tables-bytes t) ≤ n) 20 nothing)
+read-entry-numbers file n = FileGiven file (λ t. Given (length (tables-bytes t) ≤ n) 20 no-rule-left)
 
 -- pnf_compile: 13, 15, then 20, one of the outputs too short
 pub record FileFits (t : Task) (o r : ℕ) : Type 0 where
@@ -112,7 +112,7 @@ pub record FileFits (t : Task) (o r : ℕ) : Type 0 where
 abbrev pub compile-entry-numbers : (file : List ℕ) → (o r : ℕ) → ℕ → Type 0
 compile-entry-numbers file o r =
     FileGiven file
-    (λ t. Given (length (t .originals) ≡ 0) 13 (Given (Limits (finished t)) 15 (Given (FileFits (finished t) o r) 20 nothing)))
+    (λ t. Given (length (t .originals) ≡ 0) 13 (Given (Limits (finished t)) 15 (Given (FileFits (finished t) o r) 20 no-rule-left)))
 
 -- pnf_run: 16, then 19, also for half a number, then 20
 pub record SequenceRule (sequence : List ℕ) : Type 0 where

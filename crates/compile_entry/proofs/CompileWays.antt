@@ -3,9 +3,9 @@ use Prim.Native.Nat.{ℕ}
 use mathlib.Core.Path.{_≡_, ap, _∙_, subst}
 use mathlib.Core.List.{List}
 use Rattle.task.specs.Table.{Lent, task-of}
-use Rattle.file_format.specs.Reading.{Lengths, Outcome, rejected, reading}
+use Rattle.file_format.specs.Reading.{Lengths, Verdict, rejected, reading}
 use Rattle.entry_tables.proofs.Reading.{ReadAs, same-reading}
-use Rattle.compiled_file.specs.Filed.{no-file, compiled}
+use Rattle.compiled_file.specs.Filed.{no-file, compiled-file}
 use Rattle.compiled_file.specs.Giving.{CompileGives}
 use Rattle.compile_entry.specs.Entry.{compile-entry-by, compile-entry}
 
@@ -13,7 +13,7 @@ use Rattle.compile_entry.specs.Entry.{compile-entry-by, compile-entry}
 pub compile-read :
     {m : Lengths} {file : List ℕ} (o n : ℕ) {l : Lent} {r : ℕ} {out result : List ℕ}
     → ReadAs m file l
-    → CompileGives (compiled (task-of l) o n) r out result
+    → CompileGives (compiled-file (task-of l) o n) r out result
     → CompileGives (compile-entry-by (reading m file) o n) r out result
 unfolding compile-entry-by
 compile-read o n t g = rw (t .read) g
@@ -36,6 +36,6 @@ pub compile-settled :
     → CompileGives (compile-entry file o n) r out result
 unfolding compile-entry compile-entry-by
 compile-settled m file o n {r} {out} {result} d g =
-    subst (λ (x : Outcome). CompileGives (compile-entry-by x o n) r out result)
-    (same-reading m file (λ e. d (g .told ∙ ap (λ (x : Outcome). compile-entry-by x o n .number) e)))
+    subst (λ (x : Verdict). CompileGives (compile-entry-by x o n) r out result)
+    (same-reading m file (λ e. d (g .told ∙ ap (λ (x : Verdict). compile-entry-by x o n .number) e)))
     g

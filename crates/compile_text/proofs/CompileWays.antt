@@ -6,31 +6,31 @@ use Rattle.task.specs.declared.Head.{Head}
 use Rattle.task.specs.Table.{Lent, lent, task-of}
 use Rattle.task.specs.Check.{refusal}
 use Rattle.normal_form.specs.Finished.{finished}
-use Rattle.normal_form.specs.Compiled.{compiled-head, refused, Outcome, compiling, given}
+use Rattle.normal_form.specs.Compiled.{compiled-head, not-compiled, CompileOutcome, compiling, given}
 use Rattle.normal_form.proofs.Compiled.{given-task, given-passes}
 use Rattle.compiler.specs.declared.CompileAnswer.{CompileAnswer}
 use Rattle.compiler.specs.declared.CompileAnswer.the-variants.{Compiled, Refused}
 use Rattle.compiler.specs.Fills.{Tables, tables, room-of}
-use Rattle.compiler.specs.Left.{answer-of, left}
+use Rattle.compiler.specs.Left.{answer-of, compile-left}
 use Rattle.printing.specs.Lines.{lines, refusal-line}
 use Rattle.entry_tables.specs.Own.{own-room, compile-number}
 use Rattle.entry_tables.specs.Answers.{refused-compile}
 use Rattle.entry_tables.proofs.Compiling.{own-number, number-told, not-zero}
-use Rattle.compile_text.specs.Text.{compiled-by, compiled-text}
-use Rattle.compile_text.specs.Giving.{CompileIn, Gives}
+use Rattle.compile_text.specs.Text.{compiled-text-by, compiled-text}
+use Rattle.compile_text.specs.Giving.{CompileIn, TextGives}
 
 module _ (l : Lent) (kept : refusal l ≡ 0) where
   number-is : compile-number (task-of l) ≡ refused-compile (compiling l own-room .answer)
   number-is = sym (own-number l kept) ∙ number-told l own-room
 
-  line-told : (n : ℕ) → compiling l own-room .answer ≡ refused n → compiled-text (task-of l) ≡ refusal-line n
-  unfolding compiled-text compiled-by
+  line-told : (n : ℕ) → compiling l own-room .answer ≡ not-compiled n → compiled-text (task-of l) ≡ refusal-line n
+  unfolding compiled-text compiled-text-by
   line-told zero q = absurd (not-zero l own-room q)
-  line-told (suc n) q = ap (λ (k : ℕ). compiled-by k (task-of l)) (number-is ∙ ap refused-compile q)
+  line-told (suc n) q = ap (λ (k : ℕ). compiled-text-by k (task-of l)) (number-is ∙ ap refused-compile q)
 
   lines-told : {h : Head} → compiling l own-room .answer ≡ compiled-head h → compiled-text (task-of l) ≡ lines (finished (task-of l))
-  unfolding compiled-text compiled-by
-  lines-told q = ap (λ (k : ℕ). compiled-by k (task-of l)) (number-is ∙ ap refused-compile q)
+  unfolding compiled-text compiled-text-by
+  lines-told q = ap (λ (k : ℕ). compiled-text-by k (task-of l)) (number-is ∙ ap refused-compile q)
 
 room-own : {l : Lent} {x : Tables} → CompileIn l x → room-of x ≡ own-room
 unfolding own-room
@@ -44,22 +44,22 @@ room-own c = λ j.
       scratch = c .scratch-words j;
     }
 
-module _ (l : Lent) {x : Tables} (c : CompileIn l x) (r : CompileAnswer) {v o f e w s : List ℕ} (compiles : left r (tables v o f e w s) ≡ compiling l (room-of x)) where
-  leaves : left r (tables v o f e w s) ≡ compiling l own-room
+module _ (l : Lent) {x : Tables} (c : CompileIn l x) (r : CompileAnswer) {v o f e w s : List ℕ} (compiles : compile-left r (tables v o f e w s) ≡ compiling l (room-of x)) where
+  leaves : compile-left r (tables v o f e w s) ≡ compiling l own-room
   leaves = compiles ∙ ap (compiling l) (room-own c)
 
   answered : {q : CompileAnswer} → r ≡ q → compiling l own-room .answer ≡ answer-of q
-  answered p = sym (ap (λ (y : Outcome). y .answer) leaves) ∙ ap answer-of p
+  answered p = sym (ap (λ (y : CompileOutcome). y .answer) leaves) ∙ ap answer-of p
 
   -- the two ways out of compiling
   pub number-given :
       {n k m : ℕ} {out : List ℕ}
       → r ≡ Refused n
       → k ≡ refused-compile (answer-of r)
-      → Gives (refusal-line k) m out
-      → Gives (compiled-text (task-of l)) m out
+      → TextGives (refusal-line k) m out
+      → TextGives (compiled-text (task-of l)) m out
   number-given {n} {k} {m} {out} p told g =
-      subst (λ (text : List ℕ). Gives text m out)
+      subst (λ (text : List ℕ). TextGives text m out)
       (ap refusal-line (told ∙ ap (λ (y : CompileAnswer). refused-compile (answer-of y)) p) ∙ sym (line-told l (c .kept) n (answered p)))
       g
 
@@ -70,9 +70,9 @@ module _ (l : Lent) {x : Tables} (c : CompileIn l x) (r : CompileAnswer) {v o f 
     pub outputs-pass : refusal (lent h v o f e w) ≡ 0
     outputs-pass = ap refusal its-tables ∙ given-passes l own-room h (answered p)
 
-    pub lines-given : {m : ℕ} {out : List ℕ} → Gives (lines (task-of (lent h v o f e w))) m out → Gives (compiled-text (task-of l)) m out
+    pub lines-given : {m : ℕ} {out : List ℕ} → TextGives (lines (task-of (lent h v o f e w))) m out → TextGives (compiled-text (task-of l)) m out
     lines-given {m} {out} g =
         let task : task-of (lent h v o f e w) ≡ finished (task-of l) =
         ap task-of its-tables ∙ given-task l own-room h (answered p)
         in
-        subst (λ (text : List ℕ). Gives text m out) (ap lines task ∙ sym (lines-told l (c .kept) (answered p))) g
+        subst (λ (text : List ℕ). TextGives text m out) (ap lines task ∙ sym (lines-told l (c .kept) (answered p))) g

@@ -7,12 +7,12 @@ use mathlib.Core.Bool.{Bool, true, false}
 use mathlib.Core.List.{List, [], _∷_, _++_}
 use lib.ListN.{length}
 use lib.Dec.{ltb}
-use Rattle.file_format.specs.Parse.{Parsed, parsed, refused, next, kept, byte-read, word-read, field-read, fields-read, mapped-read, table-read}
+use Rattle.file_format.specs.Parse.{Parsed, parsed, unparsed, next, kept, byte-read, word-read, field-read, fields-read, mapped-read, table-read}
 use Rattle.file_format.proofs.Parse.{next-to, next-refused}
 
 -- the same refusal, or the same value with all that follows behind it; at most so many bytes are taken
 pub data Same {A : Type 0} (p : List ℕ → Parsed A) (most : ℕ) (front more : List ℕ) : Type 0 where
-  both-refused : (n : ℕ) → p front ≡ refused n → p (front ++ more) ≡ refused n → Same p most front more
+  both-refused : (n : ℕ) → p front ≡ unparsed n → p (front ++ more) ≡ unparsed n → Same p most front more
   both-parsed : (x : A) (rest : List ℕ) → p front ≡ parsed x rest → p (front ++ more) ≡ parsed x (rest ++ more) → length front ≤ most + length rest → Same p most front more
 
 abbrev pub Looks : {A : Type 0} → ℕ → (List ℕ → Parsed A) → Type 0

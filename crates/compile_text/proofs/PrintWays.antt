@@ -11,23 +11,23 @@ use Rattle.task.specs.Words.{padded}
 use Rattle.printing.specs.declared.PrintAnswer.{PrintAnswer}
 use Rattle.printing.specs.declared.PrintAnswer.the-variants.{Printed}
 use Rattle.printing.specs.Lines.{lines, refusal-line}
-use Rattle.printing.specs.Printing.{Outcome, printing, printing-refusal}
-use Rattle.printing.specs.Printing.{Gives as Prints}
+use Rattle.printing.specs.Printing.{PrintOutcome, printing, printing-refusal}
+use Rattle.printing.specs.Printing.{PrintGives as Prints}
 use Rattle.printing.proofs.Suffices.{task-printed, refusal-printed}
-use Rattle.compile_text.specs.Giving.{most, Gives, printed-length}
+use Rattle.compile_text.specs.Giving.{most, TextGives, printed-length}
 
 -- a text that was printed whole into the program's buffer
 printed-whole :
-    (text : List ℕ) {o : Outcome} {a : PrintAnswer} {r : ℕ} {out : List ℕ}
+    (text : List ℕ) {o : PrintOutcome} {a : PrintAnswer} {r : ℕ} {out : List ℕ}
     → o ≡ record { answer = Printed (length text); out = padded most text }
     → Prints o a out
     → r ≡ printed-length a
     → length out ≡ most
-    → Gives text r out
+    → TextGives text r out
 unfolding padded
 printed-whole text {o} {a} {r} {out} whole prints told long =
-    let held : out ≡ text ++ replicate (most - length text) 0 = prints .left ∙ ap (λ (x : Outcome). x .out) whole in
-    let same : r ≡ length text = told ∙ ap printed-length (prints .answered ∙ ap (λ (x : Outcome). x .answer) whole) in
+    let held : out ≡ text ++ replicate (most - length text) 0 = prints .left ∙ ap (λ (x : PrintOutcome). x .out) whole in
+    let same : r ≡ length text = told ∙ ap printed-length (prints .answered ∙ ap (λ (x : PrintOutcome). x .answer) whole) in
     let sum : length out ≡ length text + length (replicate {A = ℕ} (most - length text) 0) = ap length held ∙ length-append text _ in
     let fits : r ≤ length out = omega (arith, same, sum, long) in
     record { counted = same; held = held; fits = fits; front = sym (length-take r out ∙ min-eq-left fits) }
@@ -39,7 +39,7 @@ pub number-printed :
     → Prints (printing-refusal number n) a out
     → r ≡ printed-length a
     → length out ≡ n
-    → Gives (refusal-line number) r out
+    → TextGives (refusal-line number) r out
 number-printed number n b e p told long =
     printed-whole (refusal-line number) (ap (printing-refusal number) e ∙ refusal-printed number most b (omega arith)) p told (long ∙ e)
 
@@ -51,6 +51,6 @@ pub task-given :
     → Prints (printing l n) a out
     → r ≡ printed-length a
     → length out ≡ n
-    → Gives (lines (task-of l)) r out
+    → TextGives (lines (task-of l)) r out
 task-given l n e words s p told long =
     printed-whole (lines (task-of l)) (ap (printing l) s ∙ task-printed l most e (λ i h. words (3 * i + 2)) (omega arith)) p told (long ∙ s)

@@ -16,7 +16,7 @@ most = 164384
 
 -- A text was given: its length, and the buffer at exit, 0 past the text. That it is the front of the buffer follows, and is told for a
 -- caller who passes that part on.
-pub record Gives (text : List ℕ) (r : ℕ) (out : List ℕ) : Type 0 where
+pub record TextGives (text : List ℕ) (r : ℕ) (out : List ℕ) : Type 0 where
   pub counted : r ≡ length text
   pub held : out ≡ padded most text
   pub fits : r ≤ length out

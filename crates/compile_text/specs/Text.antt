@@ -3,20 +3,20 @@
 use Prim.Native.Nat.{ℕ, zero, suc}
 use mathlib.Core.List.{List}
 use Rattle.task.specs.Table.{Task}
-use Rattle.file_format.specs.Reading.{Outcome, accepted, rejected, reading}
+use Rattle.file_format.specs.Reading.{Verdict, accepted, rejected, reading}
 use Rattle.normal_form.specs.Finished.{finished}
 use Rattle.printing.specs.Lines.{lines, refusal-line}
 use Rattle.entry_tables.specs.Own.{own, compile-number}
 
 -- by compiling's number: the finished task's lines, or the number's
-unfoldable pub compiled-by : ℕ → Task → List ℕ
-compiled-by zero t = lines (finished t)
-compiled-by (suc n) t = refusal-line (suc n)
+unfoldable pub compiled-text-by : ℕ → Task → List ℕ
+compiled-text-by zero t = lines (finished t)
+compiled-text-by (suc n) t = refusal-line (suc n)
 
 unfoldable pub compiled-text : Task → List ℕ
-compiled-text t = compiled-by (compile-number t) t
+compiled-text t = compiled-text-by (compile-number t) t
 
-unfoldable pub text-by : Outcome → List ℕ
+unfoldable pub text-by : Verdict → List ℕ
 text-by (accepted t) = compiled-text t
 text-by (rejected n) = refusal-line n
 

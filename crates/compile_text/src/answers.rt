@@ -5,7 +5,7 @@ ghost use Rattle.task.specs.Check.{refusal};
 ghost use Rattle.printing.specs.Lines.{lines, refusal-line};
 ghost use Rattle.compiler.specs.Left.{answer-of};
 ghost use Rattle.entry_tables.specs.Answers.{refused-compile};
-ghost use Rattle.compile_text.specs.Giving.{Gives, printed-length};
+ghost use Rattle.compile_text.specs.Giving.{TextGives, printed-length};
 use compiler::CompileAnswer;
 use printing::PrintAnswer;
 use task::Head;
@@ -30,7 +30,7 @@ pub fn not_compiled(r: CompileAnswer) -> u16
 
 // The line of a number.
 pub fn number_line(number: u16, out: &mut [u8; 164384]) -> usize
-    ensures { λ r. ⌜ Gives (refusal-line number) r (now (out .exit)) ⌝ }
+    ensures { λ r. ⌜ TextGives (refusal-line number) r (now (out .exit)) ⌝ }
 {
     printed(printing::print_refusal(number, out))
 }
@@ -46,7 +46,7 @@ pub fn task_lines(
     out: &mut [u8; 164384],
 ) -> usize
     requires { ⌜ refusal (lent head (now initial) (now twins) (now formulas) (now effects) (now operators)) ≡ 0 ⌝ }
-    ensures { λ r. ⌜ Gives (lines (task-of (lent head (now (initial .entry)) (now (twins .entry)) (now (formulas .entry)) (now (effects .entry)) (now (operators .entry))))) r (now (out .exit)) ⌝ }
+    ensures { λ r. ⌜ TextGives (lines (task-of (lent head (now (initial .entry)) (now (twins .entry)) (now (formulas .entry)) (now (effects .entry)) (now (operators .entry))))) r (now (out .exit)) ⌝ }
 {
     printed(printing::print(head, initial, twins, formulas, effects, operators, out))
 }

@@ -4,7 +4,7 @@ ghost use Rattle.task.specs.Table.{lent, task-of};
 ghost use Rattle.task.specs.Check.{refusal};
 ghost use Rattle.compiler.specs.Fills.{tables};
 ghost use Rattle.compile_text.specs.Text.{compiled-text};
-ghost use Rattle.compile_text.specs.Giving.{CompileIn, Gives};
+ghost use Rattle.compile_text.specs.Giving.{CompileIn, TextGives};
 use crate::answers::not_compiled;
 use crate::answers::number_line;
 use crate::answers::task_lines;
@@ -28,7 +28,7 @@ fn compile_through(
     out: &mut [u8; 164384],
 ) -> usize
     requires { ⌜ CompileIn (lent head (now initial) (now twins) (now formulas) (now effects) (now operators)) (tables (now values) (now originals) (now table) (now rules) (now written) (now scratch)) ⌝ }
-    ensures { λ r. ⌜ Gives (compiled-text (task-of (lent head (now (initial .entry)) (now (twins .entry)) (now (formulas .entry)) (now (effects .entry)) (now (operators .entry))))) r (now (out .exit)) ⌝ }
+    ensures { λ r. ⌜ TextGives (compiled-text (task-of (lent head (now (initial .entry)) (now (twins .entry)) (now (formulas .entry)) (now (effects .entry)) (now (operators .entry))))) r (now (out .exit)) ⌝ }
 {
     let r = compiler::compile(
         head,
@@ -61,7 +61,7 @@ pub fn compile_text(
     out: &mut [u8; 164384],
 ) -> usize
     requires { ⌜ refusal (lent head (now initial) (now twins) (now formulas) (now effects) (now operators)) ≡ 0 ⌝ }
-    ensures { λ r. ⌜ Gives (compiled-text (task-of (lent head (now (initial .entry)) (now (twins .entry)) (now (formulas .entry)) (now (effects .entry)) (now (operators .entry))))) r (now (out .exit)) ⌝ }
+    ensures { λ r. ⌜ TextGives (compiled-text (task-of (lent head (now (initial .entry)) (now (twins .entry)) (now (formulas .entry)) (now (effects .entry)) (now (operators .entry))))) r (now (out .exit)) ⌝ }
 {
     let mut values = [0u8; 512];
     let mut originals = [0u16; 256];

@@ -1,6 +1,6 @@
 // The text of an input.
 ghost use Rattle.compile_text.specs.Text.{text-of};
-ghost use Rattle.compile_text.specs.Giving.{Own, Gives};
+ghost use Rattle.compile_text.specs.Giving.{Own, TextGives};
 use crate::answers::number_line;
 use crate::compiling::compile_text;
 use task_file::ReadAnswer;
@@ -16,7 +16,7 @@ fn text_through(
     out: &mut [u8; 164384],
 ) -> usize
     requires { ⌜ Own (now initial) (now twins) (now formulas) (now effects) (now operators) ⌝ }
-    ensures { λ r. ⌜ Gives (text-of (now (file .entry))) r (now (out .exit)) ⌝ }
+    ensures { λ r. ⌜ TextGives (text-of (now (file .entry))) r (now (out .exit)) ⌝ }
 {
     let r = task_file::read::read(file, initial, twins, formulas, effects, operators);
     let ReadAnswer::Read(head) = r else {
@@ -28,7 +28,7 @@ fn text_through(
 // The text that the program prints, given this input: its length, and the text in the front of `out`, 0 behind it. An input that is cut
 // behind 43,342 bytes has the text of the whole (proofs/Cut). Reading, compiling, one pass over the compiled task, and clearing `out`.
 pub fn text_of(file: &[u8], out: &mut [u8; 164384]) -> usize
-    ensures { λ r. ⌜ Gives (text-of (now (file .entry))) r (now (out .exit)) ⌝ }
+    ensures { λ r. ⌜ TextGives (text-of (now (file .entry))) r (now (out .exit)) ⌝ }
 {
     let mut initial = [0u8; 512];
     let mut twins = [0u16; 256];

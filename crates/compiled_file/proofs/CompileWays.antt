@@ -11,54 +11,54 @@ use Rattle.task.specs.Check.{refusal}
 use Rattle.task.proofs.Kept.{kept-rules}
 use Rattle.file_format.specs.Bytes.{file-of}
 use Rattle.normal_form.specs.Finished.{finished}
-use Rattle.normal_form.specs.Compiled.{Room, scratch-kept, compile-refusal, refused, Outcome, compiling, given}
+use Rattle.normal_form.specs.Compiled.{Room, compile-scratch-kept, compile-refusal, not-compiled, CompileOutcome, compiling, given}
 use Rattle.normal_form.proofs.Compiled.{given-task, given-passes}
 use Rattle.compiler.specs.declared.CompileAnswer.{CompileAnswer}
 use Rattle.compiler.specs.declared.CompileAnswer.the-variants.{Compiled, Refused}
 use Rattle.compiler.specs.Fills.{tables}
-use Rattle.compiler.specs.Left.{answer-of, left}
+use Rattle.compiler.specs.Left.{answer-of, compile-left}
 use Rattle.entry_tables.specs.Own.{own-room, compile-number}
 use Rattle.entry_tables.specs.Answers.{refused-compile}
 use Rattle.entry_tables.proofs.Compiling.{own-number, same-refusal, number-told, not-zero}
-use Rattle.compiled_file.specs.Filed.{no-file, filed, compiled-by, compiled}
+use Rattle.compiled_file.specs.Filed.{no-file, filed, compiled-file-by, compiled-file}
 use Rattle.compiled_file.specs.Giving.{CompileGives, compile-through, small-room, SmallSource}
 
 module _ (l : Lent) (kept : refusal l ≡ 0) (o n : ℕ) {code : ℕ} {out result : List ℕ} where
-  by-number : (room : Room) → compile-refusal l room ≡ compile-number (task-of l) → CompileGives (compile-through l room o n) code out result → CompileGives (compiled (task-of l) o n) code out result
-  unfolding compile-through compiled
+  by-number : (room : Room) → compile-refusal l room ≡ compile-number (task-of l) → CompileGives (compile-through l room o n) code out result → CompileGives (compiled-file (task-of l) o n) code out result
+  unfolding compile-through compiled-file
   by-number room same g =
-      subst (λ (k : ℕ). CompileGives (compiled-by k (finished (task-of l)) o n) code out result) same g
+      subst (λ (k : ℕ). CompileGives (compiled-file-by k (finished (task-of l)) o n) code out result) same g
 
-  pub full-given : CompileGives (compile-through l own-room o n) code out result → CompileGives (compiled (task-of l) o n) code out result
+  pub full-given : CompileGives (compile-through l own-room o n) code out result → CompileGives (compiled-file (task-of l) o n) code out result
   full-given g = by-number own-room (own-number l kept) g
 
   -- through room of any lengths, with scratch enough, any answer but 15 stands
   settled :
       (room : Room)
-      → scratch-kept (l .head) room ≡ true
+      → compile-scratch-kept (l .head) room ≡ true
       → (code ≡ 15 → ⊥)
       → CompileGives (compile-through l room o n) code out result
-      → CompileGives (compiled (task-of l) o n) code out result
-  unfolding compile-through compiled-by
+      → CompileGives (compiled-file (task-of l) o n) code out result
+  unfolding compile-through compiled-file-by
   settled room enough d g =
       by-number room
-      (same-refusal l kept room enough (λ e. d (g .told ∙ ap (λ (k : ℕ). compiled-by k (finished (task-of l)) o n .number) e)))
+      (same-refusal l kept room enough (λ e. d (g .told ∙ ap (λ (k : ℕ). compiled-file-by k (finished (task-of l)) o n .number) e)))
       g
 
-module _ (l : Lent) (room : Room) {r : CompileAnswer} {i w f e p s : List ℕ} (leaves : left r (tables i w f e p s) ≡ compiling l room) where
+module _ (l : Lent) (room : Room) {r : CompileAnswer} {i w f e p s : List ℕ} (leaves : compile-left r (tables i w f e p s) ≡ compiling l room) where
   answered : {q : CompileAnswer} → r ≡ q → compiling l room .answer ≡ answer-of q
-  answered q = sym (ap (λ (x : Outcome). x .answer) leaves) ∙ ap answer-of q
+  answered q = sym (ap (λ (x : CompileOutcome). x .answer) leaves) ∙ ap answer-of q
 
-  pub not-compiled :
+  pub no-task-compiled :
       (o n : ℕ) {k number code : ℕ} {out result : List ℕ}
       → r ≡ Refused k
       → number ≡ k
       → CompileGives (no-file number o n) code out result
       → CompileGives (compile-through l room o n) code out result
-  unfolding compile-through compiled-by
-  not-compiled o n {k} {number} {code} {out} {result} q same none = go k (answered q) same
+  unfolding compile-through compiled-file-by
+  no-task-compiled o n {k} {number} {code} {out} {result} q same none = go k (answered q) same
     where
-      go : (k : ℕ) → compiling l room .answer ≡ refused k → number ≡ k → CompileGives (compile-through l room o n) code out result
+      go : (k : ℕ) → compiling l room .answer ≡ not-compiled k → number ≡ k → CompileGives (compile-through l room o n) code out result
       go zero e same = absurd (not-zero l room e)
       go (suc m) e same =
           rw (number-told l room ∙ ap refused-compile e)
@@ -75,7 +75,7 @@ module _ (l : Lent) (room : Room) {r : CompileAnswer} {i w f e p s : List ℕ} (
         (o n : ℕ) {code : ℕ} {out result : List ℕ}
         → CompileGives (filed (file-of (task-of (lent head i w f e p))) o n) code out result
         → CompileGives (compile-through l room o n) code out result
-    unfolding compile-through compiled-by
+    unfolding compile-through compiled-file-by
     compiled-given o n g =
         let t : task-of (lent head i w f e p) ≡ finished (task-of l) =
         ap task-of its-tables ∙ given-task l room head (answered q)
@@ -88,8 +88,8 @@ pub small-settled :
     → SmallSource l
     → (code ≡ 15 → ⊥)
     → CompileGives (compile-through l small-room o n) code out result
-    → CompileGives (compiled (task-of l) o n) code out result
-unfolding scratch-kept small-room
+    → CompileGives (compiled-file (task-of l) o n) code out result
+unfolding compile-scratch-kept small-room
 small-settled {l} o n small d g =
     let long = kept-rules l (small .kept) .0 in
     settled l (small .kept) o n small-room

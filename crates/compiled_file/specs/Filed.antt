@@ -31,10 +31,10 @@ unfoldable pub filed : List ℕ → (out result : ℕ) → CompileEntry
 filed file o r = filed-by (unless (leb (length file) o && leb 4 r) 20 0) file o r
 
 -- by compiling's number: the finished task's file, or all 0
-unfoldable pub compiled-by : ℕ → Task → (out result : ℕ) → CompileEntry
-compiled-by zero t o r = filed (file-of t) o r
-compiled-by (suc k) t o r = no-file (suc k) o r
+unfoldable pub compiled-file-by : ℕ → Task → (out result : ℕ) → CompileEntry
+compiled-file-by zero t o r = filed (file-of t) o r
+compiled-file-by (suc k) t o r = no-file (suc k) o r
 
 -- of a source: 13, 15, then 20
-unfoldable pub compiled : Task → (out result : ℕ) → CompileEntry
-compiled t o r = compiled-by (compile-number t) (finished t) o r
+unfoldable pub compiled-file : Task → (out result : ℕ) → CompileEntry
+compiled-file t o r = compiled-file-by (compile-number t) (finished t) o r

@@ -7,7 +7,7 @@ use Rattle.task.specs.Table.{Lent, task-of}
 use Rattle.task.specs.Check.{refusal}
 use Rattle.normal_form.specs.Finished.{finished}
 use Rattle.normal_form.specs.Compiled.{Room, compile-refusal}
-use Rattle.compiled_file.specs.Filed.{CompileEntry, compiled-by}
+use Rattle.compiled_file.specs.Filed.{CompileEntry, compiled-file-by}
 
 pub record CompileGives (w : CompileEntry) (r : ℕ) (out result : List ℕ) : Type 0 where
   pub told : r ≡ w .number
@@ -16,7 +16,7 @@ pub record CompileGives (w : CompileEntry) (r : ℕ) (out result : List ℕ) : T
 
 -- what compiling through lent room comes to
 unfoldable pub compile-through : Lent → Room → (o r : ℕ) → CompileEntry
-compile-through l room o r = compiled-by (compile-refusal l room) (finished (task-of l)) o r
+compile-through l room o r = compiled-file-by (compile-refusal l room) (finished (task-of l)) o r
 
 -- small room, which is tried first for a source in small tables
 unfoldable pub small-room : Room

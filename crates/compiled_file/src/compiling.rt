@@ -6,7 +6,7 @@ ghost use Rattle.task.specs.Check.{refusal};
 ghost use Rattle.compiler.specs.Fills.{tables, room-of};
 ghost use Rattle.compiler.specs.Left.{answer-of};
 ghost use Rattle.entry_tables.specs.Answers.{refused-compile};
-ghost use Rattle.compiled_file.specs.Filed.{compiled};
+ghost use Rattle.compiled_file.specs.Filed.{compiled-file};
 ghost use Rattle.compiled_file.specs.Giving.{CompileGives, compile-through, small-room, SmallSource};
 use crate::filing::give_file;
 use crate::filing::refuse;
@@ -122,7 +122,7 @@ fn compile_full(
     result: &mut [u8],
 ) -> u32
     requires { ⌜ refusal (lent head (now initial) (now twins) (now formulas) (now effects) (now operators)) ≡ 0 ⌝ }
-    ensures { λ r. ⌜ CompileGives (compiled (task-of (lent head (now (initial .entry)) (now (twins .entry)) (now (formulas .entry)) (now (effects .entry)) (now (operators .entry)))) (length (now (out .entry))) (length (now (result .entry)))) r (now (out .exit)) (now (result .exit)) ⌝ }
+    ensures { λ r. ⌜ CompileGives (compiled-file (task-of (lent head (now (initial .entry)) (now (twins .entry)) (now (formulas .entry)) (now (effects .entry)) (now (operators .entry)))) (length (now (out .entry))) (length (now (result .entry)))) r (now (out .exit)) (now (result .exit)) ⌝ }
 {
     let mut values = [0u8; 512];
     let mut originals = [0u16; 256];
@@ -160,7 +160,7 @@ fn compile_short(
     result: &mut [u8],
 ) -> u32
     requires { ⌜ SmallSource (lent head (now initial) (now twins) (now formulas) (now effects) (now operators)) ⌝ }
-    ensures { λ r. ⌜ CompileGives (compiled (task-of (lent head (now (initial .entry)) (now (twins .entry)) (now (formulas .entry)) (now (effects .entry)) (now (operators .entry)))) (length (now (out .entry))) (length (now (result .entry)))) r (now (out .exit)) (now (result .exit)) ⌝ }
+    ensures { λ r. ⌜ CompileGives (compiled-file (task-of (lent head (now (initial .entry)) (now (twins .entry)) (now (formulas .entry)) (now (effects .entry)) (now (operators .entry)))) (length (now (out .entry))) (length (now (result .entry)))) r (now (out .exit)) (now (result .exit)) ⌝ }
 {
     let number = compile_small(
         head,
@@ -199,7 +199,7 @@ pub fn compile_tables(
     result: &mut [u8],
 ) -> u32
     requires { ⌜ refusal (lent head (now initial) (now twins) (now formulas) (now effects) (now operators)) ≡ 0 ⌝ }
-    ensures { λ r. ⌜ CompileGives (compiled (task-of (lent head (now (initial .entry)) (now (twins .entry)) (now (formulas .entry)) (now (effects .entry)) (now (operators .entry)))) (length (now (out .entry))) (length (now (result .entry)))) r (now (out .exit)) (now (result .exit)) ⌝ }
+    ensures { λ r. ⌜ CompileGives (compiled-file (task-of (lent head (now (initial .entry)) (now (twins .entry)) (now (formulas .entry)) (now (effects .entry)) (now (operators .entry)))) (length (now (out .entry))) (length (now (result .entry)))) r (now (out .exit)) (now (result .exit)) ⌝ }
 {
     if formulas.len() + effects.len() <= 768 {
         return compile_short(

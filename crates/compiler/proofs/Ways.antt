@@ -12,7 +12,7 @@ use Rattle.task.specs.Words.{head-of}
 use Rattle.task.proofs.Held.{length-operators}
 use Rattle.normal_form.specs.Assembly.{unassembled}
 use Rattle.normal_form.specs.Finished.{built, assembled, finished}
-use Rattle.normal_form.specs.Compiled.{Room, Fits, nothing-given, task-given, compiling, refused, compiled-head}
+use Rattle.normal_form.specs.Compiled.{Room, Fits, nothing-given, task-given, compiling, not-compiled, compiled-head}
 use Rattle.normal_form.proofs.Growth.{longer}
 use Rattle.normal_form.proofs.Compiled.{by-tables, by-twins, by-scratch, by-room, succeeds}
 use Rattle.normal_form.proofs.ShapeAssembled.{assemble-effects}
@@ -24,7 +24,7 @@ use Rattle.lent_tables.proofs.Source.{its-variables}
 use Rattle.lent_tables.proofs.AsLong.{same-room}
 use Rattle.sizing.specs.Asks.{Passed}
 use Rattle.compiler.specs.declared.CompileAnswer.the-variants.{Compiled, Refused}
-use Rattle.compiler.specs.Left.{left}
+use Rattle.compiler.specs.Left.{compile-left}
 
 module _ (l : Lent) {x : Tables} where
   -- a number, and every table 0
@@ -32,12 +32,12 @@ module _ (l : Lent) {x : Tables} where
       {y : Tables} (n : ℕ)
       → compiling l (room-of x) ≡ nothing-given n (room-of x)
       → Blanked x y
-      → left (Refused n) y ≡ compiling l (room-of x)
+      → compile-left (Refused n) y ≡ compiling l (room-of x)
   unfolding nothing-given
   refuses n e b =
       (λ i.
       record {
-        answer = refused n;
+        answer = not-compiled n;
         initial = b .initial i;
         twins = b .twins i;
         formulas = b .formulas i;
@@ -47,11 +47,11 @@ module _ (l : Lent) {x : Tables} where
       })
       ∙ sym e
 
-  pub refuses-tables : {y : Tables} (n : ℕ) → n ≡ refusal l → (n ≡ 0 → ⊥) → Blanked x y → left (Refused n) y ≡ compiling l (room-of x)
+  pub refuses-tables : {y : Tables} (n : ℕ) → n ≡ refusal l → (n ≡ 0 → ⊥) → Blanked x y → compile-left (Refused n) y ≡ compiling l (room-of x)
   refuses-tables zero e d b = absurd (d refl)
   refuses-tables (suc n) e d b = refuses (suc n) (by-tables l (room-of x) n (sym e)) b
 
-  pub refuses-twins : {y : Tables} → refusal l ≡ 0 → (l .head .twins ≡ 0 → ⊥) → Blanked x y → left (Refused 13) y ≡ compiling l (room-of x)
+  pub refuses-twins : {y : Tables} → refusal l ≡ 0 → (l .head .twins ≡ 0 → ⊥) → Blanked x y → compile-left (Refused 13) y ≡ compiling l (room-of x)
   refuses-twins e d b = refuses 13 (by-twins l (room-of x) e d) b
 
   pub refuses-scratch :
@@ -60,7 +60,7 @@ module _ (l : Lent) {x : Tables} where
       → l .head .twins ≡ 0
       → length (y .scratch) < 2 * l .head .formulas + 2 * l .head .effects
       → Blanked x y
-      → left (Refused 14) y ≡ compiling l (room-of x)
+      → compile-left (Refused 14) y ≡ compiling l (room-of x)
   refuses-scratch e w h b =
       refuses 14 (by-scratch l (room-of x) e w (omega (arith, h, ap (λ (r : Room). r .scratch) (same-room b)))) b
 
@@ -68,14 +68,14 @@ module _ {l : Lent} {x : Tables} (p : Passed l x) where
   abbrev t : Task
   t = task-of l
 
-  pub refuses-room : {y : Tables} → (Fits (finished (task-of l)) (room-of x) → ⊥) → Blanked x y → left (Refused 15) y ≡ compiling l (room-of x)
+  pub refuses-room : {y : Tables} → (Fits (finished (task-of l)) (room-of x) → ⊥) → Blanked x y → compile-left (Refused 15) y ≡ compiling l (room-of x)
   refuses-room n b = refuses l 15 (by-room l (room-of x) (p .passes) (p .untwinned) (p .memo) n) b
 
-  pub short-initial : length (x .initial) < l .head .variables → left (Refused 15) x ≡ compiling l (room-of x)
+  pub short-initial : length (x .initial) < l .head .variables → compile-left (Refused 15) x ≡ compiling l (room-of x)
   short-initial h =
       refuses-room (λ fit. omega (arith, fit .tables .initial, finished-variables t, its-variables l (p .passes))) (p .blank)
 
-  pub short-operators : length (x .operators) < 3 * l .head .operators → left (Refused 15) x ≡ compiling l (room-of x)
+  pub short-operators : length (x .operators) < 3 * l .head .operators → compile-left (Refused 15) x ≡ compiling l (room-of x)
   short-operators h =
       refuses-room (λ fit. omega (arith, fit .tables .operators, finished-operators t, length-operators l)) (p .blank)
 
@@ -85,11 +85,11 @@ module _ {l : Lent} {x : Tables} (p : Passed l x) where
       longer (unassembled .effects) (assembled t .effects)
       (assemble-effects (length (t .initial)) (built t .st .twins) unassembled (built t .value .operators))
 
-  pub short-effects : length (x .effects) < 3 → left (Refused 15) x ≡ compiling l (room-of x)
+  pub short-effects : length (x .effects) < 3 → compile-left (Refused 15) x ≡ compiling l (room-of x)
   short-effects h = refuses-room (λ fit. omega (arith, fit .tables .effects, one-effect)) (p .blank)
 
   module _ {y : Tables} {r : Passes} (f : Fills l x y r) where
-    pub filled-over : {z : Tables} → r .full ≡ true → Blanked x z → left (Refused 15) z ≡ compiling l (room-of x)
+    pub filled-over : {z : Tables} → r .full ≡ true → Blanked x z → compile-left (Refused 15) z ≡ compiling l (room-of x)
     filled-over q b = refuses-room (f .over q) b
 
     pub filled-done :
@@ -97,7 +97,7 @@ module _ {l : Lent} {x : Tables} (p : Passed l x) where
         → r .full ≡ false
         → k ≡ head-after (l .head) r
         → s ≡ replicate (length (x .scratch)) 0
-        → left (Compiled k) (record { initial = y .initial; twins = y .twins; formulas = y .formulas; effects = y .effects; operators = y .operators; scratch = s })
+        → compile-left (Compiled k) (record { initial = y .initial; twins = y .twins; formulas = y .formulas; effects = y .effects; operators = y .operators; scratch = s })
         ≡ compiling l (room-of x)
     unfolding task-given
     filled-done q n e =

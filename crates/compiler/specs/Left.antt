@@ -1,16 +1,16 @@
 -- What compiling leaves, as one value.
-use Rattle.normal_form.specs.Compiled.{Answer, compiled-head, refused, Outcome}
+use Rattle.normal_form.specs.Compiled.{Answer, compiled-head, not-compiled, CompileOutcome}
 use Rattle.compiler.specs.declared.CompileAnswer.{CompileAnswer}
 use Rattle.compiler.specs.declared.CompileAnswer.the-variants.{Compiled, Refused}
 use Rattle.compiler.specs.Fills.{Tables}
 
 abbrev pub answer-of : CompileAnswer → Answer
 answer-of (Compiled h) = compiled-head h
-answer-of (Refused n) = refused n
+answer-of (Refused n) = not-compiled n
 
 -- the answer, and every table at exit
-abbrev pub left : CompileAnswer → Tables → Outcome
-left r y =
+abbrev pub compile-left : CompileAnswer → Tables → CompileOutcome
+compile-left r y =
     record {
       answer = answer-of r;
       initial = y .initial;

@@ -8,7 +8,7 @@ ghost use mathlib.Core.Path.{_≡_};
 ghost use Rattle.task.specs.Table.{lent};
 ghost use Rattle.normal_form.specs.Compiled.{compiling};
 ghost use Rattle.compiler.specs.Fills.{tables, room-of};
-ghost use Rattle.compiler.specs.Left.{left};
+ghost use Rattle.compiler.specs.Left.{compile-left};
 
 // The tables' own number, 13 for twins, 14 for short scratch, 15 for no room; or the compiled task, in values, originals, table (formulas),
 // out (effects) and written (operators). After a refusal all of them are 0; scratch always ends as 0. Costs the check of the tables, a walk
@@ -27,7 +27,7 @@ pub fn compile(
     written: &mut [u16],
     scratch: &mut [u16],
 ) -> CompileAnswer
-    ensures { λ r. ⌜ left r (tables (now (values .exit)) (now (originals .exit)) (now (table .exit)) (now (out .exit)) (now (written .exit)) (now (scratch .exit))) ≡ compiling (lent head (now (initial .entry)) (now (twins .entry)) (now (formulas .entry)) (now (effects .entry)) (now (operators .entry))) (room-of (tables (now (values .entry)) (now (originals .entry)) (now (table .entry)) (now (out .entry)) (now (written .entry)) (now (scratch .entry)))) ⌝ }
+    ensures { λ r. ⌜ compile-left r (tables (now (values .exit)) (now (originals .exit)) (now (table .exit)) (now (out .exit)) (now (written .exit)) (now (scratch .exit))) ≡ compiling (lent head (now (initial .entry)) (now (twins .entry)) (now (formulas .entry)) (now (effects .entry)) (now (operators .entry))) (room-of (tables (now (values .entry)) (now (originals .entry)) (now (table .entry)) (now (out .entry)) (now (written .entry)) (now (scratch .entry)))) ⌝ }
 {
     clear_all(values, originals, table, out, written, scratch);
     let n = check(head, initial, twins, formulas, effects, operators);

@@ -9,7 +9,7 @@ ghost use mathlib.Core.Path.{_≡_};
 ghost use Rattle.task.specs.Table.{lent};
 ghost use Rattle.normal_form.specs.Compiled.{compiling};
 ghost use Rattle.compiler.specs.Fills.{tables, room-of};
-ghost use Rattle.compiler.specs.Left.{left};
+ghost use Rattle.compiler.specs.Left.{compile-left};
 ghost use Rattle.sizing.specs.Asks.{Passed};
 
 // 15, with all 0, if the finished task passes a limit or a lent table. Costs what filling does, and a walk over what is lent.
@@ -28,7 +28,7 @@ pub fn compile_checked(
     scratch: &mut [u16],
 ) -> CompileAnswer
     requires { ⌜ Passed (lent head (now initial) (now twins) (now formulas) (now effects) (now operators)) (tables (now values) (now originals) (now table) (now out) (now written) (now scratch)) ⌝ }
-    ensures { λ r. ⌜ left r (tables (now (values .exit)) (now (originals .exit)) (now (table .exit)) (now (out .exit)) (now (written .exit)) (now (scratch .exit))) ≡ compiling (lent head (now (initial .entry)) (now (twins .entry)) (now (formulas .entry)) (now (effects .entry)) (now (operators .entry))) (room-of (tables (now (values .entry)) (now (originals .entry)) (now (table .entry)) (now (out .entry)) (now (written .entry)) (now (scratch .entry)))) ⌝ }
+    ensures { λ r. ⌜ compile-left r (tables (now (values .exit)) (now (originals .exit)) (now (table .exit)) (now (out .exit)) (now (written .exit)) (now (scratch .exit))) ≡ compiling (lent head (now (initial .entry)) (now (twins .entry)) (now (formulas .entry)) (now (effects .entry)) (now (operators .entry))) (room-of (tables (now (values .entry)) (now (originals .entry)) (now (table .entry)) (now (out .entry)) (now (written .entry)) (now (scratch .entry)))) ⌝ }
 {
     if values.len() < head.variables as usize {
         return CompileAnswer::Refused(15);

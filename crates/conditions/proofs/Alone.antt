@@ -12,7 +12,7 @@ use Rattle.task.specs.Table.{Row, row-at, effect-kind}
 use Rattle.task.specs.Semantics.{Formula}
 use Rattle.task.specs.Rules.{no-row, EffectRule}
 use Rattle.task.proofs.Bounded.{length-upto, getD-upto}
-use Rattle.normal_form.specs.Builder.{Build, give, bind, join, pair, Polarity, plain, negated, opposite, falsity, truth}
+use Rattle.normal_form.specs.Builder.{Build, give, bind, join, pair, Polarity, plain, negated, opposite, image-of-false, image-of-true}
 use Rattle.normal_form.specs.Conditions.{guarded}
 use Rattle.formula_builder.specs.declared.Words.{Words}
 use Rattle.formula_builder.specs.declared.Frame.{Frame}
@@ -26,13 +26,13 @@ use Rattle.conditions.proofs.Atoms.{touch-other, other-atom}
 use Rattle.conditions.proofs.Rows.{both-lower, under-lower, known-kind, of-atom, of-both, of-under}
 
 -- a join of what folds away folds away
-pub idle-pair : (p : Polarity) → pair (opposite p) (give (falsity p)) (give (falsity p)) ≡ give (falsity p)
+pub idle-pair : (p : Polarity) → pair (opposite p) (give (image-of-false p)) (give (image-of-false p)) ≡ give (image-of-false p)
 unfolding pair bind give
 idle-pair plain = join-left-true negated 0 0 (λ e. omega arith) (λ e. omega arith) refl
 idle-pair negated = join-left-true plain 1 1 (λ e. omega arith) (λ e. omega arith) refl
 
 -- and a formula over what folds away is not built
-pub idle-guard : (n : ℕ) (p : Polarity) (f : Formula) → bind (give (falsity p)) (λ c. guarded n p f c) ≡ give (falsity p)
+pub idle-guard : (n : ℕ) (p : Polarity) (f : Formula) → bind (give (image-of-false p)) (λ c. guarded n p f c) ≡ give (image-of-false p)
 unfolding bind give guarded
 idle-guard n plain f = refl
 idle-guard n negated f = refl
@@ -99,7 +99,7 @@ module _ (frame : Frame) (formulas effects scratch : List ℕ) (source : EffectS
           idle = λ t c e.
               of-atom frame formulas effects scratch source i h t three four
               ∙ ap
-              (λ (b : Bool). give (cond b (truth (side (t .negated))) (falsity (side (t .negated)))))
+              (λ (b : Bool). give (cond b (image-of-true (side (t .negated))) (image-of-false (side (t .negated)))))
               (sym (go t c e (ℕ-discrete (row-at effects i .a) (t .variable))));
         }
       where

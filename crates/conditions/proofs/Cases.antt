@@ -10,7 +10,7 @@ use borrow.Author.Tests.{eq-eqb, ne-eqb}
 use Rattle.task.specs.Bounded.{upto}
 use Rattle.task.specs.Table.{Row, row-at, effect-kind}
 use Rattle.task.proofs.Bounded.{length-upto}
-use Rattle.normal_form.specs.Builder.{Build, give, bind, join, Polarity, plain, negated, falsity, truth}
+use Rattle.normal_form.specs.Builder.{Build, give, bind, join, Polarity, plain, negated, image-of-false, image-of-true}
 use Rattle.normal_form.specs.Conditions.{guarded}
 use Rattle.normal_form.specs.Growth.{Steady}
 use Rattle.normal_form.proofs.Growth.{steady-give, steady-bind, steady-join, steady-cond}
@@ -32,7 +32,7 @@ use Rattle.conditions.proofs.Notes.{steady-condition-at, looks, stays-r
 use Rattle.conditions.proofs.Memos.{conditions-as, conditions-of-images, conditions-leaf, conditions-bind, conditions-stop, conditions-known, conditions-kept}
 use Rattle.conditions.proofs.Joins.{conditions-joined}
 
-pub truth-small : (p : Polarity) → truth p < 2
+pub truth-small : (p : Polarity) → image-of-true p < 2
 truth-small plain = omega arith
 truth-small negated = omega arith
 
@@ -84,7 +84,7 @@ module _ (frame : Frame) (effects notes scratch : List ℕ) (t : Target) (e : �
           → b ≡ acts (atom-of t) (effect-kind (w .kind)) (w .a)
           → (formulas : List ℕ) (at : Size) (before : Store)
           → Asks frame formulas effects notes t at before scratch e
-          → condition-at frame formulas effects t e ≡ give (cond b (truth (side (t .negated))) (falsity (side (t .negated))))
+          → condition-at frame formulas effects t e ≡ give (cond b (image-of-true (side (t .negated))) (image-of-false (side (t .negated))))
       constant b h formulas at before a =
           of-atom frame formulas effects scratch (a .effect-source) e (a .effect) t
           (λ k. omega (arith, ap (λ (r : Row). r .kind) q, low, k))
@@ -92,17 +92,17 @@ module _ (frame : Frame) (effects notes scratch : List ℕ) (t : Target) (e : �
           ∙ ap
           (λ (r : Row).
           give
-          (cond (acts (atom-of t) (effect-kind (r .kind)) (r .a)) (truth (side (t .negated))) (falsity (side (t .negated)))))
+          (cond (acts (atom-of t) (effect-kind (r .kind)) (r .a)) (image-of-true (side (t .negated))) (image-of-false (side (t .negated)))))
           (sym q)
-          ∙ ap (λ (x : Bool). give (cond x (truth (side (t .negated))) (falsity (side (t .negated))))) (sym h)
+          ∙ ap (λ (x : Bool). give (cond x (image-of-true (side (t .negated))) (image-of-false (side (t .negated))))) (sym h)
 
       pub sees-acts :
-          true ≡ acts (atom-of t) (effect-kind (w .kind)) (w .a) → Sees frame effects notes scratch t e (truth (side (t .negated)) + 1)
-      sees-acts h = sees-constant (truth (side (t .negated))) (truth-small (side (t .negated))) (constant true h)
+          true ≡ acts (atom-of t) (effect-kind (w .kind)) (w .a) → Sees frame effects notes scratch t e (image-of-true (side (t .negated)) + 1)
+      sees-acts h = sees-constant (image-of-true (side (t .negated))) (truth-small (side (t .negated))) (constant true h)
 
       pub sees-idle :
-          false ≡ acts (atom-of t) (effect-kind (w .kind)) (w .a) → Sees frame effects notes scratch t e (falsity (side (t .negated)) + 1)
-      sees-idle h = sees-constant (falsity (side (t .negated))) (falsity-small (side (t .negated))) (constant false h)
+          false ≡ acts (atom-of t) (effect-kind (w .kind)) (w .a) → Sees frame effects notes scratch t e (image-of-false (side (t .negated)) + 1)
+      sees-idle h = sees-constant (image-of-false (side (t .negated))) (falsity-small (side (t .negated))) (constant false h)
 
 -- Row e's formula over the condition s of the inner effect.
 module _ {frame : Frame} {formulas effects notes : List ℕ} {t : Target} {s : Step} {before : Store} {scratch : List ℕ} {e : ℕ} (x : AsksUnder frame formulas effects notes t s before scratch e) where
@@ -110,14 +110,14 @@ module _ {frame : Frame} {formulas effects notes : List ℕ} {t : Target} {s : S
   over = guarded (frame .variables) (side (t .negated)) (tree frame formulas (row-at effects e .a)) (s .row)
 
   pub under-folded :
-      s .row ≡ falsity (side (t .negated))
+      s .row ≡ image-of-false (side (t .negated))
       → Climbs over frame formulas effects notes notes (frame .effects) (size-of s) before before scratch s
   unfolding guarded give
   under-folded h =
       let a = x .asks in
       record {
         conditions =
-            conditions-as (rw (eq-eqb (s .row) (falsity (side (t .negated))) h))
+            conditions-as (rw (eq-eqb (s .row) (image-of-false (side (t .negated))) h))
             (conditions-leaf (steady-give (s .row)) (a .noted) (a .memo) (a .effect-memo)
             (builds-done (x .going) (record { value = refl; state = refl; ready = a .ready; below = x .inner; grew = omega arith })));
         stays = stays-refl frame notes (frame .effects);
@@ -131,10 +131,10 @@ module _ {frame : Frame} {formulas effects notes : List ℕ} {t : Target} {s : S
         let low = under-lower frame formulas effects scratch (a .effect-source) e (a .effect) (x .under) in
         record { source = a .source; ready = a .ready; memo = a .memo; formula = omega (arith, ap (λ (r : Row). r .a) q, low .0) }
 
-    module _ (h : s .row ≡ falsity (side (t .negated)) → ⊥) {after : Store} {s2 : List ℕ} {f : Step} (y : Images (image-at frame formulas (side (t .negated)) (w .a)) frame formulas (size-of s) before after scratch s2 f) where
+    module _ (h : s .row ≡ image-of-false (side (t .negated)) → ⊥) {after : Store} {s2 : List ℕ} {f : Step} (y : Images (image-at frame formulas (side (t .negated)) (w .a)) frame formulas (size-of s) before after scratch s2 f) where
       joins : over ≡ bind (image-at frame formulas (side (t .negated)) (w .a)) (λ z. join (side (t .negated)) z (s .row))
       unfolding guarded image-at
-      joins = rw (ne-eqb (s .row) (falsity (side (t .negated))) h, ← q)
+      joins = rw (ne-eqb (s .row) (image-of-false (side (t .negated))) h, ← q)
 
       image : Conditions (image-at frame formulas (side (t .negated)) (w .a)) frame formulas effects notes (size-of s) before after s2 f
       image =

@@ -10,7 +10,7 @@ use lib.ListN.{length, getD, set, length-set}
 use lib.Seq.{getD-set-same, getD-set-other}
 use borrow.Author.Tests.{lt-ltb, le-ltb}
 use Rattle.task.specs.Table.{Row, row-at}
-use Rattle.normal_form.specs.Builder.{St, give, falsity}
+use Rattle.normal_form.specs.Builder.{St, give, image-of-false}
 use Rattle.formula_builder.specs.declared.Words.{Words}
 use Rattle.formula_builder.specs.declared.Frame.{Frame}
 use Rattle.formula_builder.specs.Held.{row-of, side}
@@ -64,7 +64,7 @@ module _ {frame : Frame} {effects notes : List ℕ} {t : Target} {e : ℕ} (a : 
         → i < e
         → true ≡ lacks frame notes (t .clear) (t .variable) i
         → (formulas : List ℕ)
-        → condition-at frame formulas effects t i ≡ give (falsity (side (t .negated)))
+        → condition-at frame formulas effects t i ≡ give (image-of-false (side (t .negated)))
     idle i low h formulas =
         a .sets .alone formulas (t .clear) (t .variable) i (a .variable) (omega (arith, low, a .effect)) (sym h) .idle t refl refl
 

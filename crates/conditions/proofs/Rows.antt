@@ -13,7 +13,7 @@ use Rattle.task.specs.Semantics.{Formula, Atom, Effect}
 use Rattle.task.specs.Tree.{effect-node}
 use Rattle.task.proofs.Bounded.{length-upto, getD-upto}
 use Rattle.task.proofs.Trees.{EffectKept, effect-unfolds}
-use Rattle.normal_form.specs.Builder.{Build, give, bind, join, pair, Polarity, plain, negated, opposite, falsity, truth}
+use Rattle.normal_form.specs.Builder.{Build, give, bind, join, pair, Polarity, plain, negated, opposite, image-of-false, image-of-true}
 use Rattle.normal_form.specs.Conditions.{guarded, condition}
 use Rattle.formula_builder.specs.declared.Frame.{Frame}
 use Rattle.formula_builder.specs.Held.{side}
@@ -29,7 +29,7 @@ module _ (n : ℕ) (p : Polarity) (l : Atom) (a : ℕ) (f : Formula) (d g : Effe
       (k : ℕ)
       → (k ≡ 3 → ⊥)
       → (k ≡ 4 → ⊥)
-      → condition n p l (effect-node (effect-kind k) a f d g) ≡ give (cond (acts l (effect-kind k) a) (truth p) (falsity p))
+      → condition n p l (effect-node (effect-kind k) a f d g) ≡ give (cond (acts l (effect-kind k) a) (image-of-true p) (image-of-false p))
   unfolding condition effect-node effect-kind acts
   atom-condition zero h i = refl
   atom-condition (suc zero) h i = refl
@@ -53,7 +53,7 @@ module _ (n : ℕ) (p : Polarity) (l : Atom) (a : ℕ) (f : Formula) (d g : Effe
   under-condition k e = rw e
 
 -- A join with what folds away is the other side.
-join-skipped-left : (p : Polarity) (r : ℕ) → join (opposite p) (falsity p) r ≡ give r
+join-skipped-left : (p : Polarity) (r : ℕ) → join (opposite p) (image-of-false p) r ≡ give r
 join-skipped-left plain r = go (ℕ-discrete r 1)
   where
     go : Dec (r ≡ 1) → join negated 0 r ≡ give r
@@ -65,7 +65,7 @@ join-skipped-left negated r = go (ℕ-discrete r 0)
     go (yes e) = join-right-false plain 1 r (λ z. omega (arith, z)) e ∙ ap give (sym e)
     go (no n) = join-left-true plain 1 r (λ e. omega (arith, e)) n refl
 
-join-skipped-right : (p : Polarity) (l : ℕ) → join (opposite p) l (falsity p) ≡ give l
+join-skipped-right : (p : Polarity) (l : ℕ) → join (opposite p) l (image-of-false p) ≡ give l
 join-skipped-right plain l = go (ℕ-discrete l 1) (ℕ-discrete l 0)
   where
     go : Dec (l ≡ 1) → Dec (l ≡ 0) → join negated l 0 ≡ give l
@@ -79,11 +79,11 @@ join-skipped-right negated l = go (ℕ-discrete l 0) (ℕ-discrete l 1)
     go (no n) (yes z) = join-left-true plain l 1 n (λ e. omega (arith, e)) z ∙ ap give (sym z)
     go (no n) (no z) = join-right-true plain l 1 n (λ e. omega (arith, e)) z refl
 
-skipped-left : (p : Polarity) (m : Build ℕ) → bind (give (falsity p)) (λ l. bind m (λ r. join (opposite p) l r)) ≡ bind m (λ r. give r)
+skipped-left : (p : Polarity) (m : Build ℕ) → bind (give (image-of-false p)) (λ l. bind m (λ r. join (opposite p) l r)) ≡ bind m (λ r. give r)
 unfolding bind give
 skipped-left p m = ap (λ f. bind m f) (λ i r. join-skipped-left p r i)
 
-skipped-right : (p : Polarity) (m : Build ℕ) → bind m (λ l. bind (give (falsity p)) (λ r. join (opposite p) l r)) ≡ bind m (λ l. give l)
+skipped-right : (p : Polarity) (m : Build ℕ) → bind m (λ l. bind (give (image-of-false p)) (λ r. join (opposite p) l r)) ≡ bind m (λ l. give l)
 unfolding bind give
 skipped-right p m = ap (λ f. bind m f) (λ i l. join-skipped-right p l i)
 
@@ -163,8 +163,8 @@ module _ (frame : Frame) (formulas effects scratch : List ℕ) (source : EffectS
         → (row-at effects e .kind ≡ 4 → ⊥)
         → condition-at frame formulas effects t e
         ≡ give
-        (cond (acts (atom-of t) (effect-kind (row-at effects e .kind)) (row-at effects e .a)) (truth (side (t .negated)))
-        (falsity (side (t .negated))))
+        (cond (acts (atom-of t) (effect-kind (row-at effects e .kind)) (row-at effects e .a)) (image-of-true (side (t .negated)))
+        (image-of-false (side (t .negated))))
     unfolding node
     of-atom i j = unfolds ∙ atom-condition (frame .variables) _ _ _ _ _ _ (row-at effects e .kind) i j
 
@@ -208,7 +208,7 @@ module _ (frame : Frame) (effects scratch : List ℕ) (source : EffectSource fra
         }
 
     pub leads-right :
-        ((formulas : List ℕ) → condition-at frame formulas effects t (row-at effects e .a) ≡ give (falsity (side (t .negated))))
+        ((formulas : List ℕ) → condition-at frame formulas effects t (row-at effects e .a) ≡ give (image-of-false (side (t .negated))))
         → Leads frame effects t true e (row-at effects e .b)
     unfolding onward pair
     leads-right idle =
@@ -225,7 +225,7 @@ module _ (frame : Frame) (effects scratch : List ℕ) (source : EffectSource fra
         }
 
     pub leads-left :
-        ((formulas : List ℕ) → condition-at frame formulas effects t (row-at effects e .b) ≡ give (falsity (side (t .negated))))
+        ((formulas : List ℕ) → condition-at frame formulas effects t (row-at effects e .b) ≡ give (image-of-false (side (t .negated))))
         → Leads frame effects t true e (row-at effects e .a)
     unfolding onward pair
     leads-left idle =

@@ -10,7 +10,7 @@ use Rattle.task.specs.Table.{Row, row-at, EffectKind, empty-kind, set-kind, cle
 use Rattle.task.specs.Semantics.{Atom, sets, clears, same-atom, Effect}
 use Rattle.task.specs.Tree.{effect-of}
 use Rattle.task.proofs.Trees.{EffectsDown}
-use Rattle.normal_form.specs.Builder.{St, Build, give, join, falsity}
+use Rattle.normal_form.specs.Builder.{St, Build, give, join, image-of-false}
 use Rattle.normal_form.specs.Conditions.{condition}
 use Rattle.formula_builder.specs.declared.Frame.{Frame}
 use Rattle.formula_builder.specs.declared.Size.{Size}
@@ -83,7 +83,7 @@ pub record Unnamed (frame : Frame) (formulas effects : List ℕ) (clear : Bool) 
       (t : Target)
       → t .clear ≡ clear
       → t .variable ≡ v
-      → condition-at frame formulas effects t e ≡ give (falsity (side (t .negated)))
+      → condition-at frame formulas effects t e ≡ give (image-of-false (side (t .negated)))
 
 -- Each row has a set of atoms, and does not name those that its set lacks.
 pub record AtomSets (frame : Frame) (effects notes : List ℕ) : Type 0 where

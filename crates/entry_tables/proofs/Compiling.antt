@@ -14,7 +14,7 @@ use Rattle.task.proofs.Kept.{kept-rules}
 use Rattle.task.proofs.Passed.{passed, counts-tested}
 use Rattle.task.specs.Check.{room as has-room}
 use Rattle.normal_form.specs.Finished.{finished}
-use Rattle.normal_form.specs.Compiled.{Room, scratch-kept, output-lengths, fits, compile-refusal, compiled-head, refused, nothing-given, task-given, outcome-by, compiling}
+use Rattle.normal_form.specs.Compiled.{Room, compile-scratch-kept, output-lengths, fits, compile-refusal, compiled-head, not-compiled, nothing-given, task-given, outcome-by, compiling}
 use Rattle.entry_tables.specs.Own.{own, own-room, compile-number}
 use Rattle.entry_tables.specs.Answers.{refused-compile}
 use Rattle.entry_tables.proofs.Reading.{limits-room}
@@ -30,8 +30,8 @@ limits-alone t = go (counts-kept (head-of t)) refl
 
 module _ (l : Lent) (kept : refusal l ≡ 0) where
   -- 14 never: scratch is as long as the limits ask for
-  own-scratch : scratch-kept (l .head) own-room ≡ true
-  unfolding scratch-kept own-room
+  own-scratch : compile-scratch-kept (l .head) own-room ≡ true
+  unfolding compile-scratch-kept own-room
   own-scratch =
       let c = counts-tested (l .head) .0 (passed l kept .counts) in
       le-leb (2 * l .head .formulas + 2 * l .head .effects) 16384 (omega (arith, c .formulas, c .effects))
@@ -42,7 +42,7 @@ module _ (l : Lent) (kept : refusal l ≡ 0) where
       rw (kept, length-originals l (kept-rules l kept .0), own-scratch, limits-alone (finished (task-of l)))
 
   -- any other room that has scratch enough comes to 15 or to the same: what fits it keeps the limits
-  pub same-refusal : (room : Room) → scratch-kept (l .head) room ≡ true → (compile-refusal l room ≡ 15 → ⊥) → compile-refusal l room ≡ compile-number (task-of l)
+  pub same-refusal : (room : Room) → compile-scratch-kept (l .head) room ≡ true → (compile-refusal l room ≡ 15 → ⊥) → compile-refusal l room ≡ compile-number (task-of l)
   unfolding compile-refusal
   same-refusal room enough d = go (eqb (l .head .twins) 0) (fits source room) refl refl ∙ own-number
     where
@@ -68,16 +68,16 @@ module _ (l : Lent) (room : Room) where
       go zero = unfold outcome-by task-given in refl
       go (suc n) = unfold outcome-by nothing-given in refl
 
-  pub not-zero : compiling l room .answer ≡ refused 0 → ⊥
+  pub not-zero : compiling l room .answer ≡ not-compiled 0 → ⊥
   unfolding compiling
   not-zero = go (compile-refusal l room)
     where
-      go : (n : ℕ) → outcome-by n (finished (task-of l)) room .answer ≡ refused 0 → ⊥
+      go : (n : ℕ) → outcome-by n (finished (task-of l)) room .answer ≡ not-compiled 0 → ⊥
       go zero e =
-          let g : compiled-head (head-of (finished (task-of l))) ≡ refused 0 = unfold outcome-by task-given in e in
+          let g : compiled-head (head-of (finished (task-of l))) ≡ not-compiled 0 = unfold outcome-by task-given in e in
           let z : _≡_ {A = ℕ} 0 1 = cc in
           omega arith
       go (suc n) e =
-          let g : refused (suc n) ≡ refused 0 = unfold outcome-by nothing-given in e in
+          let g : not-compiled (suc n) ≡ not-compiled 0 = unfold outcome-by nothing-given in e in
           let z : suc n ≡ 0 = cc in
           omega (arith, z)

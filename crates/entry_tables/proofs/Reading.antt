@@ -15,9 +15,9 @@ use Rattle.task.proofs.Words.{lent-in, task-in, kept-in}
 use Rattle.task.proofs.Passed.{counts-tested}
 use Rattle.task_file.specs.declared.ReadAnswer.{ReadAnswer}
 use Rattle.task_file.specs.declared.ReadAnswer.the-variants.{Read, Refused}
-use Rattle.file_format.specs.Parse.{Parsed, parsed, refused, next, kept}
-use Rattle.file_format.specs.Reading.{Lengths, room, head-read, head-kept, Outcome, accepted, rejected, at-end, task-read, reading}
-use Rattle.task_file.specs.Outcome.{ReadOutcome, outcome-of, left, read-outcome}
+use Rattle.file_format.specs.Parse.{Parsed, parsed, unparsed, next, kept}
+use Rattle.file_format.specs.Reading.{Lengths, room, head-read, head-kept, Verdict, accepted, rejected, at-end, task-read, reading}
+use Rattle.task_file.specs.Outcome.{ReadOutcome, outcome-of, read-left, read-outcome}
 use Rattle.task.specs.Words.{padded}
 use Rattle.file_format.proofs.Parse.{Bytes}
 use Rattle.file_format.proofs.RoundTrip.{Accepted, written-read}
@@ -34,7 +34,7 @@ limits-room h e =
     (and-both (le-leb (3 * h .effects) 12288 (omega (arith, c .effects)))
     (le-leb (3 * h .operators) 768 (omega (arith, c .operators))))))
 
-same-head : (l : Lengths) (h : Head) (rest : List ℕ) → (head-kept l h rest ≡ refused 5 → ⊥) → head-kept l h rest ≡ head-kept own h rest
+same-head : (l : Lengths) (h : Head) (rest : List ℕ) → (head-kept l h rest ≡ unparsed 5 → ⊥) → head-kept l h rest ≡ head-kept own h rest
 unfolding head-kept next kept
 same-head l h rest d = go (counts-kept h) (goal-kept h) (room l h) refl refl refl
   where
@@ -53,7 +53,7 @@ same-reading l file d = go (head-read file) refl
     go (parsed h rest) x =
         let s : head-kept l h rest ≡ head-kept own h rest = same-head l h rest (λ y. d (rw (x, y))) in
         rw (x, s)
-    go (refused n) x = rw x
+    go (unparsed n) x = rw x
 
 -- Tables that hold what a file was read as, through tables of these lengths: the task's words stand in front.
 pub record ReadAs (m : Lengths) (file : List ℕ) (l : Lent) : Type 0 where
@@ -81,8 +81,8 @@ held-in m file l t i w f e o s a r =
     }
 
 -- the two answers of reading through tables of any lengths
-module _ (m : Lengths) (file : List ℕ) {r : ReadAnswer} {i′ w′ f′ e′ o′ : List ℕ} (reads : left r i′ w′ f′ e′ o′ ≡ read-outcome m file) where
-  reads-by : left r i′ w′ f′ e′ o′ ≡ outcome-of m (reading m file)
+module _ (m : Lengths) (file : List ℕ) {r : ReadAnswer} {i′ w′ f′ e′ o′ : List ℕ} (reads : read-left r i′ w′ f′ e′ o′ ≡ read-outcome m file) where
+  reads-by : read-left r i′ w′ f′ e′ o′ ≡ outcome-of m (reading m file)
   unfolding read-outcome
   reads-by = reads
 
@@ -90,9 +90,9 @@ module _ (m : Lengths) (file : List ℕ) {r : ReadAnswer} {i′ w′ f′ e′ o
   unfolding outcome-of padded lent-in
   read-as {head} q b = go (reading m file) refl
     where
-      go : (x : Outcome) → reading m file ≡ x → ReadAs m file (lent head i′ w′ f′ e′ o′)
+      go : (x : Verdict) → reading m file ≡ x → ReadAs m file (lent head i′ w′ f′ e′ o′)
       go (accepted t) x =
-          let s : left r i′ w′ f′ e′ o′ ≡ outcome-of m (accepted t) = reads-by ∙ ap (outcome-of m) x in
+          let s : read-left r i′ w′ f′ e′ o′ ≡ outcome-of m (accepted t) = reads-by ∙ ap (outcome-of m) x in
           let h : Read head ≡ Read (head-of t) = sym q ∙ ap (λ (y : ReadOutcome). y .answer) s in
           let g : head ≡ head-of t = cc in
           held-in m file (lent head i′ w′ f′ e′ o′) t
@@ -104,7 +104,7 @@ module _ (m : Lengths) (file : List ℕ) {r : ReadAnswer} {i′ w′ f′ e′ o
           (λ j. lent (g j) (s j .initial) (s j .twins) (s j .formulas) (s j .effects) (s j .operators))
           (written-read m file t b x) x
       go (rejected n) x =
-          let s : left r i′ w′ f′ e′ o′ ≡ outcome-of m (rejected n) = reads-by ∙ ap (outcome-of m) x in
+          let s : read-left r i′ w′ f′ e′ o′ ≡ outcome-of m (rejected n) = reads-by ∙ ap (outcome-of m) x in
           let h : Read head ≡ Refused n = sym q ∙ ap (λ (y : ReadOutcome). y .answer) s in
           absurd (let z : _≡_ {A = ℕ} 0 1 = cc in omega arith)
 
@@ -112,13 +112,13 @@ module _ (m : Lengths) (file : List ℕ) {r : ReadAnswer} {i′ w′ f′ e′ o
   unfolding outcome-of
   refused-as {n} q = go (reading m file) refl
     where
-      go : (x : Outcome) → reading m file ≡ x → reading m file ≡ rejected n
+      go : (x : Verdict) → reading m file ≡ x → reading m file ≡ rejected n
       go (accepted t) x =
-          let s : left r i′ w′ f′ e′ o′ ≡ outcome-of m (accepted t) = reads-by ∙ ap (outcome-of m) x in
+          let s : read-left r i′ w′ f′ e′ o′ ≡ outcome-of m (accepted t) = reads-by ∙ ap (outcome-of m) x in
           let h : Refused n ≡ Read (head-of t) = sym q ∙ ap (λ (y : ReadOutcome). y .answer) s in
           absurd (let z : _≡_ {A = ℕ} 0 1 = cc in omega arith)
       go (rejected k) x =
-          let s : left r i′ w′ f′ e′ o′ ≡ outcome-of m (rejected k) = reads-by ∙ ap (outcome-of m) x in
+          let s : read-left r i′ w′ f′ e′ o′ ≡ outcome-of m (rejected k) = reads-by ∙ ap (outcome-of m) x in
           let h : Refused n ≡ Refused k = sym q ∙ ap (λ (y : ReadOutcome). y .answer) s in
           let g : k ≡ n = cc in
           x ∙ ap rejected g

@@ -10,7 +10,7 @@ use lib.Dec.{ltb}
 use borrow.Author.Tests.{ltb-true, lt-ltb}
 use Rattle.task.specs.Words.{joined}
 use Rattle.file_format.specs.Bytes.{number, word-bytes, field-bytes, present, map-of}
-use Rattle.file_format.specs.Parse.{Parsed, parsed, refused, next, kept, byte-read, word-read, field-read, fields-read}
+use Rattle.file_format.specs.Parse.{Parsed, parsed, unparsed, next, kept, byte-read, word-read, field-read, fields-read}
 use Rattle.file_format.proofs.Parse.{Bytes, bytes-behind, parsed-value, parsed-rest, refused-parsed, Kept, kept-parsed, kept-true, Steps, next-parsed, next-to, Cut, short, whole, Stable, pure-stable, kept-stable, byte-stable, next-stable}
 
 -- a byte that was read stands in front of what is left

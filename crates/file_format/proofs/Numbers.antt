@@ -9,12 +9,12 @@ use Rattle.task.specs.declared.Head.{Head}
 use Rattle.task.specs.Table.{Task}
 use Rattle.task.specs.Check.{counts-kept, goal-kept}
 use Rattle.file_format.specs.Bytes.{bytes-for}
-use Rattle.file_format.specs.Parse.{Parsed, parsed, refused, next, kept, byte-read, word-read, field-read, fields-read, mapped-read, table-read}
+use Rattle.file_format.specs.Parse.{Parsed, parsed, unparsed, next, kept, byte-read, word-read, field-read, fields-read, mapped-read, table-read}
 use Rattle.file_format.specs.Reading.{Lengths, room, head-read, head-kept, initial-read, twin-read, row-read, formula-read, effect-read, operator-fields-read, operator-read, tables-read, task-read, accepted, rejected, at-end, reading}
 
 abbrev Numbered : {A : Type 0} → Parsed A → Type 0
 Numbered (parsed x rest) = Unit {0}
-Numbered (refused n) = (1 ≤ n) × (n ≤ 12)
+Numbered (unparsed n) = (1 ≤ n) × (n ≤ 12)
 
 next-numbered :
     {A B : Type 0} (p : Parsed A) (more : A → List ℕ → Parsed B)
@@ -23,7 +23,7 @@ next-numbered :
     → Numbered (next p more)
 unfolding next
 next-numbered (parsed x rest) more first second = second x rest
-next-numbered (refused n) more first second = first
+next-numbered (unparsed n) more first second = first
 
 kept-numbered : {A : Type 0} (b : Bool) (n : ℕ) (x : A) (rest : List ℕ) → 1 ≤ n → n ≤ 12 → Numbered (kept b n x rest)
 unfolding kept
@@ -142,7 +142,7 @@ rejected-by l file n e = go (task-read l file) refl (task-numbered l file)
         let f : rejected 4 ≡ rejected n = rw q at e in
         let same : 4 ≡ n = cc in
         (omega arith, omega arith)
-    go (refused m) q b =
+    go (unparsed m) q b =
         let f : rejected m ≡ rejected n = rw q at e in
         let same : m ≡ n = cc in
         rw same at b

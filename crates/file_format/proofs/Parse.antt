@@ -5,7 +5,7 @@ use native.Mathlib.Omega.{arith}
 use mathlib.Core.Path.{_≡_, refl, sym, ap, _∙_}
 use mathlib.Core.Bool.{Bool, true, false}
 use mathlib.Core.List.{List, [], _∷_, _++_}
-use Rattle.file_format.specs.Parse.{Parsed, parsed, refused, next, kept, byte-read, word-read, field-read, fields-read, table-read}
+use Rattle.file_format.specs.Parse.{Parsed, parsed, unparsed, next, kept, byte-read, word-read, field-read, fields-read, table-read}
 
 -- each is a byte
 abbrev pub Bytes : List ℕ → Type 0
@@ -27,7 +27,7 @@ module _ {A : Type 0} where
   pub parsed-rest : {x y : A} {a b : List ℕ} → parsed x a ≡ parsed y b → a ≡ b
   parsed-rest e = cc
 
-  pub refused-parsed : {n : ℕ} {x : A} {a : List ℕ} → refused n ≡ parsed x a → ⊥
+  pub refused-parsed : {n : ℕ} {x : A} {a : List ℕ} → unparsed n ≡ parsed x a → ⊥
   refused-parsed e = let z : _≡_ {A = ℕ} 0 1 = cc in omega arith
 
   -- a value that was kept
@@ -57,19 +57,19 @@ module _ {A B : Type 0} where
   pub next-parsed : (o : Parsed A) (more : A → List ℕ → Parsed B) {y : B} {rest : List ℕ} → next o more ≡ parsed y rest → Steps o more y rest
   unfolding next
   next-parsed (parsed x mid) more e = record { value = x; mid = mid; first = refl; second = e }
-  next-parsed (refused n) more e = absurd (refused-parsed e)
+  next-parsed (unparsed n) more e = absurd (refused-parsed e)
 
   pub next-to : {o : Parsed A} {x : A} {mid : List ℕ} (more : A → List ℕ → Parsed B) → o ≡ parsed x mid → next o more ≡ more x mid
   unfolding next
   next-to more e = rw e
 
-  pub next-refused : {o : Parsed A} {n : ℕ} (more : A → List ℕ → Parsed B) → o ≡ refused n → next o more ≡ refused n
+  pub next-refused : {o : Parsed A} {n : ℕ} (more : A → List ℕ → Parsed B) → o ≡ unparsed n → next o more ≡ unparsed n
   unfolding next
   next-refused more e = rw e
 
 -- What a parse that succeeds on front ++ more does on front alone: it is refused by 1, or it leaves what it left without more.
 pub data Cut {A : Type 0} (p : List ℕ → Parsed A) (front more : List ℕ) (x : A) (rest : List ℕ) : Type 0 where
-  short : p front ≡ refused 1 → Cut p front more x rest
+  short : p front ≡ unparsed 1 → Cut p front more x rest
   whole : (mid : List ℕ) → p front ≡ parsed x mid → rest ≡ mid ++ more → Cut p front more x rest
 
 abbrev pub Stable : {A : Type 0} → (List ℕ → Parsed A) → Type 0

@@ -9,8 +9,8 @@ use lib.ListN.{length}
 use Rattle.task.specs.Table.{Task}
 use Rattle.task.specs.Rules.{Checked, HasRoom}
 use Rattle.file_format.specs.Bytes.{file-of}
-use Rattle.file_format.specs.Parse.{Parsed, parsed, refused}
-use Rattle.file_format.specs.Reading.{Lengths, task-read, Outcome, accepted, rejected, at-end, reading}
+use Rattle.file_format.specs.Parse.{Parsed, parsed, unparsed}
+use Rattle.file_format.specs.Reading.{Lengths, task-read, Verdict, accepted, rejected, at-end, reading}
 use Rattle.file_format.proofs.Parse.{Bytes, parsed-value, parsed-rest, Cut, short, whole}
 use Rattle.file_format.proofs.Whole.{task-reads, Task-read, task-parsed, task-stable}
 
@@ -23,7 +23,7 @@ accepted-read : (p : Parsed Task) {t : Task} → at-end p ≡ accepted t → p �
 unfolding at-end
 accepted-read (parsed u []) e = cc
 accepted-read (parsed u (x ∷ rest)) e = absurd (let z : _≡_ {A = ℕ} 0 1 = cc in omega arith)
-accepted-read (refused n) e = absurd (let z : _≡_ {A = ℕ} 0 1 = cc in omega arith)
+accepted-read (unparsed n) e = absurd (let z : _≡_ {A = ℕ} 0 1 = cc in omega arith)
 
 -- what an accepted file is
 pub record Accepted (l : Lengths) (file : List ℕ) (t : Task) : Type 0 where

@@ -16,7 +16,7 @@ use Rattle.task.specs.Table.{Row, Operator}
 use Rattle.task.specs.Check.{twin-kept, formula-kept, effect-kept, operator-kept}
 use Rattle.task.specs.Words.{joined}
 use Rattle.file_format.specs.Bytes.{number, word-bytes, field-bytes, present, map-of, head-fields, head-bytes, row-bytes, operator-fields, operator-bytes}
-use Rattle.file_format.specs.Parse.{Parsed, parsed, refused, next, kept, byte-read, word-read, fields-read, mapped-read}
+use Rattle.file_format.specs.Parse.{Parsed, parsed, unparsed, next, kept, byte-read, word-read, fields-read, mapped-read}
 use Rattle.file_format.specs.Reading.{head-from, head-clear, head-read, row-from, row-clear, operator-from, operator-clear, twin-read, row-read, formula-read, effect-read, operator-fields-read, operator-read}
 use Rattle.file_format.proofs.Parse.{Bytes, bytes-behind, parsed-value, parsed-rest, refused-parsed, Kept, kept-parsed, kept-true, Steps, next-parsed, next-to, Stable, pure-stable, kept-stable, byte-stable, next-stable}
 use Rattle.file_format.proofs.Fields.{byte-parsed, byte-reads, Written, word-reads, word-parsed, word-stable, present-le, Mapped, mapped, map-lt, map-above, fields-reads, Fields, fields-parsed, fields-stable}

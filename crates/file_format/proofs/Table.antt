@@ -10,7 +10,7 @@ use lib.ListN.{length, getD, take, length-append, List·getD-append}
 use lib.Seq.{take-suc, take-append-le, take-length, take-append-seam, getD-append-seam}
 use Rattle.task.specs.Words.{joined}
 use Rattle.task.proofs.Words.{joined-append}
-use Rattle.file_format.specs.Parse.{Parsed, parsed, refused, next, table-read}
+use Rattle.file_format.specs.Parse.{Parsed, parsed, unparsed, next, table-read}
 use Rattle.file_format.proofs.Parse.{Bytes, bytes-behind, parsed-value, parsed-rest, Steps, next-parsed, next-to, Stable, pure-stable, next-stable}
 use Rattle.file_format.proofs.Fields.{Written}
 

@@ -16,7 +16,7 @@ use Rattle.task.specs.Words.{joined}
 use Rattle.task.proofs.RowRules.{formula-told, formula-passes, effect-told, effect-passes, operator-told, operator-passes}
 use Rattle.task.proofs.Passed.{twin-tested}
 use Rattle.file_format.specs.Bytes.{word-bytes, row-bytes, operator-bytes, bytes-for, packed}
-use Rattle.file_format.specs.Parse.{Parsed, parsed, refused, next, kept, byte-read, word-read, table-read}
+use Rattle.file_format.specs.Parse.{Parsed, parsed, unparsed, next, kept, byte-read, word-read, table-read}
 use Rattle.file_format.specs.Reading.{initial-read, bit-of, spare-clear, twin-read, row-read, row-clear, row-from, formula-read, effect-read, operator-fields-read, operator-clear, operator-from, operator-read}
 use Rattle.file_format.proofs.Parse.{Bytes, bytes-behind, bytes-front, Kept, kept-parsed, kept-true, Steps, next-parsed, next-to, Stable, kept-stable, byte-stable, next-stable}
 use Rattle.file_format.proofs.Fields.{byte-parsed, byte-reads, Written, Word, word-reads, word-parsed, word-stable}

@@ -14,7 +14,7 @@ use Rattle.task.specs.Words.{joined, head-of}
 use Rattle.task.proofs.RowRules.{formula-told, formula-passes, effect-told, effect-passes, operator-told, operator-passes}
 use Rattle.task.proofs.Passed.{twin-tested, counts-tested, goal-tested, room-tested}
 use Rattle.file_format.specs.Bytes.{word-bytes, head-bytes, row-bytes, operator-bytes, packed, file-of}
-use Rattle.file_format.specs.Parse.{Parsed, parsed, refused, next, kept, table-read}
+use Rattle.file_format.specs.Parse.{Parsed, parsed, unparsed, next, kept, table-read}
 use Rattle.file_format.specs.Reading.{Lengths, room, head-read, head-clear, head-from, head-kept, initial-read, twin-read, formula-read, effect-read, operator-read, tables-read, task-read}
 use Rattle.file_format.proofs.Parse.{Bytes, bytes-behind, parsed-value, parsed-rest, Kept, kept-parsed, kept-true, Steps, next-parsed, next-to, Stable, pure-stable, kept-stable, next-stable}
 use Rattle.file_format.proofs.Table.{Table}

@@ -6,21 +6,21 @@ use lib.Dec.{ltb}
 
 pub data Parsed (A : Type 0) : Type 0 where
   parsed : A → List ℕ → Parsed A
-  refused : ℕ → Parsed A
+  unparsed : ℕ → Parsed A
 
 -- and then, from the bytes behind it; the first refusal stands
 unfoldable pub next : {A B : Type 0} → Parsed A → (A → List ℕ → Parsed B) → Parsed B
 next (parsed x rest) more = more x rest
-next (refused n) more = refused n
+next (unparsed n) more = unparsed n
 
 -- the value, unless its rule is broken: then the rule's number
 unfoldable pub kept : {A : Type 0} → Bool → ℕ → A → List ℕ → Parsed A
 kept true n x rest = parsed x rest
-kept false n x rest = refused n
+kept false n x rest = unparsed n
 
 -- 1: the file ends inside
 unfoldable pub byte-read : List ℕ → Parsed ℕ
-byte-read [] = refused 1
+byte-read [] = unparsed 1
 byte-read (x ∷ rest) = parsed x rest
 
 -- 16 bits little-endian

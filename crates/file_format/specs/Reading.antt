@@ -12,7 +12,7 @@ pub use Rattle.task.specs.Check.{Lengths}
 unfoldable pub use Rattle.task.specs.Check.{room}
 use Rattle.task.specs.Check.{counts-kept, goal-kept, twin-kept, formula-kept, effect-kept, operator-kept}
 use Rattle.file_format.specs.Bytes.{bytes-for}
-use Rattle.file_format.specs.Parse.{Parsed, parsed, refused, next, kept, byte-read, word-read, mapped-read, table-read}
+use Rattle.file_format.specs.Parse.{Parsed, parsed, unparsed, next, kept, byte-read, word-read, mapped-read, table-read}
 
 abbrev pub head-from : ℕ → List ℕ → Head
 head-from m ws =
@@ -111,15 +111,15 @@ unfoldable pub task-read : Lengths → List ℕ → Parsed Task
 task-read l bytes = next (head-read bytes) (λ h rest. next (head-kept l h rest) tables-read)
 
 -- what reading a file comes to
-pub data Outcome : Type 0 where
-  accepted : Task → Outcome
-  rejected : ℕ → Outcome
+pub data Verdict : Type 0 where
+  accepted : Task → Verdict
+  rejected : ℕ → Verdict
 
 -- 4: bytes follow
-unfoldable pub at-end : Parsed Task → Outcome
+unfoldable pub at-end : Parsed Task → Verdict
 at-end (parsed t []) = accepted t
 at-end (parsed t (x ∷ rest)) = rejected 4
-at-end (refused n) = rejected n
+at-end (unparsed n) = rejected n
 
-unfoldable pub reading : Lengths → List ℕ → Outcome
+unfoldable pub reading : Lengths → List ℕ → Verdict
 reading l file = at-end (task-read l file)

@@ -11,33 +11,33 @@ use borrow.Author.Tests.{eq-eqb, ne-eqb}
 use Rattle.task.specs.Bounded.{upto}
 use Rattle.task.specs.Table.{Row}
 use Rattle.task.proofs.Bounded.{length-upto, getD-upto}
-use Rattle.normal_form.specs.Builder.{place, kept, same-row}
+use Rattle.normal_form.specs.Builder.{place, including, same-row}
 use Rattle.normal_form.proofs.Place.{place-first, place-none}
 
 module _ {A : Type 0} (same : A → A → Bool) (x : A) where
-  pub kept-found : (l : List A) → place same x l < length l → kept same x l ≡ l
-  unfolding place kept
+  pub kept-found : (l : List A) → place same x l < length l → including same x l ≡ l
+  unfolding place including
   kept-found [] h = absurd (not-suc-le-zero h)
   kept-found (y ∷ ys) h = go (same y x) h (kept-found ys)
     where
       go :
           (b : Bool)
           → cond b 0 (suc (place same x ys)) < suc (length ys)
-          → (place same x ys < length ys → kept same x ys ≡ ys)
-          → cond b (y ∷ ys) (y ∷ kept same x ys) ≡ y ∷ ys
+          → (place same x ys < length ys → including same x ys ≡ ys)
+          → cond b (y ∷ ys) (y ∷ including same x ys) ≡ y ∷ ys
       go true h again = refl
       go false h again = ap {B = List A} (λ l. y ∷ l) (again (omega arith))
 
-  pub kept-none : (l : List A) → length l ≤ place same x l → kept same x l ≡ l ++ (x ∷ [])
-  unfolding place kept
+  pub kept-none : (l : List A) → length l ≤ place same x l → including same x l ≡ l ++ (x ∷ [])
+  unfolding place including
   kept-none [] h = refl
   kept-none (y ∷ ys) h = go (same y x) h (kept-none ys)
     where
       go :
           (b : Bool)
           → suc (length ys) ≤ cond b 0 (suc (place same x ys))
-          → (length ys ≤ place same x ys → kept same x ys ≡ ys ++ (x ∷ []))
-          → cond b (y ∷ ys) (y ∷ kept same x ys) ≡ (y ∷ ys) ++ (x ∷ [])
+          → (length ys ≤ place same x ys → including same x ys ≡ ys ++ (x ∷ []))
+          → cond b (y ∷ ys) (y ∷ including same x ys) ≡ (y ∷ ys) ++ (x ∷ [])
       go true h again = absurd (not-suc-le-zero h)
       go false h again = ap {B = List A} (λ l. y ∷ l) (again (omega arith))
 

@@ -13,7 +13,7 @@ use Rattle.task.specs.Bounded.{upto}
 use Rattle.task.specs.Table.{Row, row-at}
 use Rattle.task.specs.Rules.{no-row}
 use Rattle.task.proofs.Bounded.{getD-upto}
-use Rattle.normal_form.specs.Builder.{St, bind, place, kept, same-row, row, twin, variable-row, twin-row}
+use Rattle.normal_form.specs.Builder.{St, bind, place, including, same-row, row, twin, variable-row, twin-row}
 use Rattle.normal_form.proofs.Growth.{steady-variable-row, eqb-itself, place-within, prefix-refl}
 use Rattle.normal_form.proofs.Place.{Placed, found, added, placed, place-has, place-none, one-more as each-more, same-row-alike}
 use Rattle.formula_builder.specs.declared.Frame.{Frame}
@@ -65,7 +65,7 @@ module _ (frame : Frame) (n w : ℕ) (table o : List ℕ) (ready : Ready frame (
       let named = ready .named .stands v r low e in
       let below = x .index .trees .within (twin-word frame v) r (omega arith) e in
       let l = take w o in
-      let same : kept eqb v l ≡ l = kept-found eqb v l (omega (arith, long, named .0)) in
+      let same : including eqb v l ≡ l = kept-found eqb v l (omega (arith, long, named .0)) in
       rw (ne-eqb r 65535 (omega (arith, below, x .within, x .limit)))
       (builds-from
       (λ j. variable-row (frame .variables + place eqb v l) (record { rows = upto n (row-at table); twins = same j }))
@@ -77,7 +77,7 @@ module _ (frame : Frame) (n w : ℕ) (table o : List ℕ) (ready : Ready frame (
     its-place : place eqb v (take w o) ≡ w
     its-place = ready .named .missing v low none
 
-    met : kept eqb v (take w o) ≡ take w o ++ (v ∷ [])
+    met : including eqb v (take w o) ≡ take w o ++ (v ∷ [])
     met = kept-none eqb v (take w o) (omega (arith, long, its-place))
 
     pub twin-full :
@@ -123,7 +123,7 @@ module _ (frame : Frame) (n w : ℕ) (table o : List ℕ) (ready : Ready frame (
             one-more o w v (omega (arith, ready .originals))
 
         -- its row stands
-        rows-put : kept same-row (variable-of (frame .variables + w)) (upto n (row-at table)) ≡ upto m (row-at after)
+        rows-put : including same-row (variable-of (frame .variables + w)) (upto n (row-at table)) ≡ upto m (row-at after)
         unfolding held variable-row row
         rows-put = ap (λ (s : St). s .rows) (put .state)
 
@@ -136,7 +136,7 @@ module _ (frame : Frame) (n w : ℕ) (table o : List ℕ) (ready : Ready frame (
             let r = variable-of (frame .variables + w) in
             sym (getD-upto m (row-at after) k no-row (put .below))
             ∙ ap (λ (l : List Row). getD l k no-row) (sym rows-put)
-            ∙ ap (λ (i : ℕ). getD (kept same-row r (upto n (row-at table))) i no-row) (sym place-put)
+            ∙ ap (λ (i : ℕ). getD (including same-row r (upto n (row-at table))) i no-row) (sym place-put)
             ∙ place-has same-row r (λ y. same-row-alike y r) no-row (upto n (row-at table))
 
         row-still : (i : ℕ) → i < m → row-at rows' i ≡ row-at after i
@@ -248,9 +248,9 @@ module _ (frame : Frame) (n w : ℕ) (table o : List ℕ) (ready : Ready frame (
               value =
                   ap (λ (x : ℕ). place same-row (variable-of (frame .variables + x)) (upto n (row-at table))) its-place ∙ place-put;
               state =
-                  let whole : kept same-row (variable-of (frame .variables + place eqb v (take w o))) (upto n (row-at table)) ≡ upto m (row-at rows') =
-                  ap (λ (x : ℕ). kept same-row (variable-of (frame .variables + x)) (upto n (row-at table))) its-place ∙ rows-put ∙ stand in
-                  let more : kept eqb v (take w o) ≡ take (w + 1) originals' = met ∙ sym twins-now in
+                  let whole : including same-row (variable-of (frame .variables + place eqb v (take w o))) (upto n (row-at table)) ≡ upto m (row-at rows') =
+                  ap (λ (x : ℕ). including same-row (variable-of (frame .variables + x)) (upto n (row-at table))) its-place ∙ rows-put ∙ stand in
+                  let more : including eqb v (take w o) ≡ take (w + 1) originals' = met ∙ sym twins-now in
                   λ j. record { rows = whole j; twins = more j };
               ready = ready-now;
               below = put .below;

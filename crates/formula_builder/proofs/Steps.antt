@@ -9,7 +9,7 @@ use lib.Dec.{eqb}
 use Rattle.task.specs.Bounded.{upto}
 use Rattle.task.specs.Table.{Row, row-at}
 use Rattle.task.proofs.Bounded.{length-upto}
-use Rattle.normal_form.specs.Builder.{St, Got, Build, give, bind, place, kept, same-row, row, Polarity, plain, negated, falsity, truth, join-kind, choice, joined, join}
+use Rattle.normal_form.specs.Builder.{St, Got, Build, give, bind, place, including, same-row, row, Polarity, plain, negated, image-of-false, image-of-true, join-kind, choice, join-as, join}
 use Rattle.normal_form.specs.Growth.{Prefix, Grows, Steady}
 use borrow.Author.Tests.{eqb-true, eqb-false, eq-eqb, ne-eqb}
 use Rattle.formula_builder.specs.declared.Frame.{Frame}
@@ -116,7 +116,7 @@ unfolding row held
 row-stands frame at table o ready r i h e =
     let l = upto (at .rows) (row-at table) in
     let its = stands-place (ready .rows .index) r i h e in
-    let found : kept same-row r l ≡ l =
+    let found : including same-row r l ≡ l =
     kept-found same-row r l (omega (arith, length-upto (at .rows) (row-at table), h, its)) in
     builds-done refl
     (record {
@@ -133,7 +133,7 @@ module _ (frame : Frame) (at : Size) (table o : List ℕ) (ready : Ready frame a
     its-place : at .rows ≡ place same-row r (upto (at .rows) (row-at table))
     its-place = missing-place (ready .rows .index) f free
 
-    added : kept same-row r (upto (at .rows) (row-at table)) ≡ upto (at .rows) (row-at table) ++ (r ∷ [])
+    added : including same-row r (upto (at .rows) (row-at table)) ≡ upto (at .rows) (row-at table) ++ (r ∷ [])
     added =
         kept-none same-row r (upto (at .rows) (row-at table)) (omega (arith, length-upto (at .rows) (row-at table), its-place))
 
@@ -157,7 +157,7 @@ module _ (frame : Frame) (at : Size) (table o : List ℕ) (ready : Ready frame a
         let long = length-appended (frame .rows) (at .rows) table r p few (x .room) f in
         let word : (v : ℕ) → getD (appended table (at .rows) r p) (twin-word frame v) 0 ≡ getD table (twin-word frame v) 0 =
         λ v. other (frame .rows) (at .rows) table r p few (x .room) f (twin-word frame v) (omega arith) (omega (arith, f .high)) in
-        let whole : kept same-row r l ≡ upto (at .rows + 1) (row-at (appended table (at .rows) r p)) =
+        let whole : including same-row r l ≡ upto (at .rows + 1) (row-at (appended table (at .rows) r p)) =
         added ∙ sym (appended-rows (frame .rows) (at .rows) table r p few (x .room) f) in
         builds-done refl
         (record {
@@ -253,31 +253,31 @@ builds-stands x ready h =
 
 -- How a join comes out.
 module _ (p : Polarity) (a b : ℕ) where
-  pub join-left-false : a ≡ falsity p → join p a b ≡ give (falsity p)
-  unfolding join choice joined
-  join-left-false e = rw (eq-eqb a (falsity p) e)
+  pub join-left-false : a ≡ image-of-false p → join p a b ≡ give (image-of-false p)
+  unfolding join choice join-as
+  join-left-false e = rw (eq-eqb a (image-of-false p) e)
 
-  pub join-right-false : (a ≡ falsity p → ⊥) → b ≡ falsity p → join p a b ≡ give (falsity p)
-  unfolding join choice joined
-  join-right-false h e = rw (ne-eqb a (falsity p) h, eq-eqb b (falsity p) e)
+  pub join-right-false : (a ≡ image-of-false p → ⊥) → b ≡ image-of-false p → join p a b ≡ give (image-of-false p)
+  unfolding join choice join-as
+  join-right-false h e = rw (ne-eqb a (image-of-false p) h, eq-eqb b (image-of-false p) e)
 
-  module _ (h : a ≡ falsity p → ⊥) (g : b ≡ falsity p → ⊥) where
-    pub join-left-true : a ≡ truth p → join p a b ≡ give b
-    unfolding join choice joined
-    join-left-true e = rw (ne-eqb a (falsity p) h, ne-eqb b (falsity p) g, eq-eqb a (truth p) e)
+  module _ (h : a ≡ image-of-false p → ⊥) (g : b ≡ image-of-false p → ⊥) where
+    pub join-left-true : a ≡ image-of-true p → join p a b ≡ give b
+    unfolding join choice join-as
+    join-left-true e = rw (ne-eqb a (image-of-false p) h, ne-eqb b (image-of-false p) g, eq-eqb a (image-of-true p) e)
 
-    pub join-right-true : (a ≡ truth p → ⊥) → b ≡ truth p → join p a b ≡ give a
-    unfolding join choice joined
+    pub join-right-true : (a ≡ image-of-true p → ⊥) → b ≡ image-of-true p → join p a b ≡ give a
+    unfolding join choice join-as
     join-right-true k e =
-        rw (ne-eqb a (falsity p) h, ne-eqb b (falsity p) g, ne-eqb a (truth p) k, eq-eqb b (truth p) e)
+        rw (ne-eqb a (image-of-false p) h, ne-eqb b (image-of-false p) g, ne-eqb a (image-of-true p) k, eq-eqb b (image-of-true p) e)
 
     pub join-fresh :
-        (a ≡ truth p → ⊥) → (b ≡ truth p → ⊥) → join p a b ≡ row (record { kind = join-kind p; a = a; b = b })
-    unfolding join choice joined
+        (a ≡ image-of-true p → ⊥) → (b ≡ image-of-true p → ⊥) → join p a b ≡ row (record { kind = join-kind p; a = a; b = b })
+    unfolding join choice join-as
     join-fresh k i =
-        rw (ne-eqb a (falsity p) h, ne-eqb b (falsity p) g, ne-eqb a (truth p) k, ne-eqb b (truth p) i)
+        rw (ne-eqb a (image-of-false p) h, ne-eqb b (image-of-false p) g, ne-eqb a (image-of-true p) k, ne-eqb b (image-of-true p) i)
 
-pub falsity-small : (p : Polarity) → falsity p < 2
+pub falsity-small : (p : Polarity) → image-of-false p < 2
 falsity-small plain = omega arith
 falsity-small negated = omega arith
 

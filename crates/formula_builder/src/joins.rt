@@ -3,7 +3,7 @@ use crate::rows::row;
 ghost use mathlib.Core.List.{List};
 ghost use mathlib.Core.Path.{_≡_};
 ghost use Prim.Native.Nat.{ℕ};
-ghost use Rattle.normal_form.specs.Builder.{join as join-built, falsity as false-row, truth as true-row, join-kind};
+ghost use Rattle.normal_form.specs.Builder.{join as join-built, image-of-false as false-row, image-of-true as true-row, join-kind};
 ghost use Rattle.formula_builder.specs.declared.Frame.{Frame};
 ghost use Rattle.formula_builder.specs.Held.{store, sized, stepped, JoinReady, Ready, Builds, side};
 

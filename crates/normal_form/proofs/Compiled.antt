@@ -25,7 +25,7 @@ use Rattle.normal_form.specs.Finished.{finished}
 use Rattle.normal_form.specs.Flat.{Flat}
 use Rattle.normal_form.specs.Positive.{Positive}
 use Rattle.normal_form.specs.Alike.{Alike}
-use Rattle.normal_form.specs.Compiled.{Room, scratch-kept, output-lengths, fits, Fits, compile-refusal, compiled-head, refused, Outcome, nothing-given, task-given, outcome-by, compiling, given}
+use Rattle.normal_form.specs.Compiled.{Room, compile-scratch-kept, output-lengths, fits, Fits, compile-refusal, compiled-head, not-compiled, CompileOutcome, nothing-given, task-given, outcome-by, compiling, given}
 use Rattle.task.specs.Words.{padded}
 use Rattle.normal_form.proofs.ShapePassed.{finished-variables, finished-rules, positive}
 use Rattle.normal_form.proofs.ShapeFinished.{finished-operators, flat}
@@ -105,7 +105,7 @@ refusal-most l =
     (unless-most (operators-kept l) 12 0 (omega arith) (omega arith))))))))
 
 -- What a compiling asks.
-pub record Compiles (l : Lent) (room : Room) : Type 0 where
+pub record Succeeds (l : Lent) (room : Room) : Type 0 where
   pub passes : refusal l ≡ 0
   pub untwinned : l .head .twins ≡ 0
   pub scratch : 2 * l .head .formulas + 2 * l .head .effects ≤ room .scratch
@@ -126,7 +126,7 @@ module _ (l : Lent) (room : Room) where
       → l .head .twins ≡ 0
       → room .scratch < 2 * l .head .formulas + 2 * l .head .effects
       → compiling l room ≡ nothing-given 14 room
-  unfolding compiling compile-refusal outcome-by scratch-kept
+  unfolding compiling compile-refusal outcome-by compile-scratch-kept
   by-scratch e w h =
       rw (e, eq-eqb (l .head .twins) 0 w, lt-leb (2 * l .head .formulas + 2 * l .head .effects) (room .scratch) h)
 
@@ -136,7 +136,7 @@ module _ (l : Lent) (room : Room) where
       → 2 * l .head .formulas + 2 * l .head .effects ≤ room .scratch
       → (Fits (finished (task-of l)) room → ⊥)
       → compiling l room ≡ nothing-given 15 room
-  unfolding compiling compile-refusal outcome-by scratch-kept
+  unfolding compiling compile-refusal outcome-by compile-scratch-kept
   by-room e w h n =
       rw (
         e,
@@ -145,8 +145,8 @@ module _ (l : Lent) (room : Room) where
         fits-not (finished (task-of l)) room n,
       )
 
-  refused-none : Compiles l room → compile-refusal l room ≡ 0
-  unfolding compile-refusal scratch-kept
+  refused-none : Succeeds l room → compile-refusal l room ≡ 0
+  unfolding compile-refusal compile-scratch-kept
   refused-none c =
       rw (
         c .passes,
@@ -155,7 +155,7 @@ module _ (l : Lent) (room : Room) where
         fits-tested (finished (task-of l)) room .1 (c .fits),
       )
 
-  pub succeeds : Compiles l room → compiling l room ≡ task-given (finished (task-of l)) room
+  pub succeeds : Succeeds l room → compiling l room ≡ task-given (finished (task-of l)) room
   unfolding compiling outcome-by
   succeeds c = rw (refused-none c)
 
@@ -164,26 +164,26 @@ module _ (l : Lent) (room : Room) where
   not-zero true n rest h e = refl
   not-zero false n rest h e = absurd (h e)
 
-  pub none-refused : compile-refusal l room ≡ 0 → Compiles l room
-  unfolding compile-refusal scratch-kept
+  pub none-refused : compile-refusal l room ≡ 0 → Succeeds l room
+  unfolding compile-refusal compile-scratch-kept
   none-refused e = tables (eqb (refusal l) 0) refl
     where
       last : ℕ
       last = unless (fits (finished (task-of l)) room) 15 0
 
       after-twins : ℕ
-      after-twins = unless (scratch-kept (l .head) room) 14 last
+      after-twins = unless (compile-scratch-kept (l .head) room) 14 last
 
       after-tables : ℕ
       after-tables = unless (eqb (l .head .twins) 0) 13 after-twins
 
-      tables : (b : Bool) → eqb (refusal l) 0 ≡ b → Compiles l room
+      tables : (b : Bool) → eqb (refusal l) 0 ≡ b → Succeeds l room
       tables false f = absurd (eqb-false (refusal l) 0 f (rw f at e))
       tables true f =
           let e1 : after-tables ≡ 0 = rw f at e in
           let w = not-zero (eqb (l .head .twins) 0) 13 after-twins (λ z. omega arith) e1 in
           let e2 : after-twins ≡ 0 = rw w at e1 in
-          let s = not-zero (scratch-kept (l .head) room) 14 last (λ z. omega arith) e2 in
+          let s = not-zero (compile-scratch-kept (l .head) room) 14 last (λ z. omega arith) e2 in
           let e3 : last ≡ 0 = rw s at e2 in
           let k = not-zero (fits (finished (task-of l)) room) 15 0 (λ z. omega arith) e3 in
           record {
@@ -194,47 +194,47 @@ module _ (l : Lent) (room : Room) where
           }
 
   -- it answers a head exactly if nothing refuses it
-  pub given-compiles : (h : Head) → compiling l room .answer ≡ compiled-head h → Compiles l room
+  pub given-compiles : (h : Head) → compiling l room .answer ≡ compiled-head h → Succeeds l room
   unfolding compiling
   given-compiles h e = go (compile-refusal l room) refl
     where
-      go : (n : ℕ) → compile-refusal l room ≡ n → Compiles l room
+      go : (n : ℕ) → compile-refusal l room ≡ n → Succeeds l room
       go zero f = none-refused f
       go (suc n) f =
-          let e1 : refused (suc n) ≡ compiled-head h = unfold outcome-by nothing-given in rw f at e in
+          let e1 : not-compiled (suc n) ≡ compiled-head h = unfold outcome-by nothing-given in rw f at e in
           let z : _≡_ {A = ℕ} 0 1 = cc in
           absurd (omega arith)
 
   -- what a refusal leaves
-  pub refused-leaves : (n : ℕ) → compiling l room .answer ≡ refused n → compiling l room ≡ nothing-given n room
+  pub refused-leaves : (n : ℕ) → compiling l room .answer ≡ not-compiled n → compiling l room ≡ nothing-given n room
   unfolding compiling outcome-by
   refused-leaves n e = go (compile-refusal l room) refl
     where
       go : (m : ℕ) → compile-refusal l room ≡ m → compiling l room ≡ nothing-given n room
       go zero f =
-          let e1 : compiled-head (head-of (finished (task-of l))) ≡ refused n = unfold task-given in rw f at e in
+          let e1 : compiled-head (head-of (finished (task-of l))) ≡ not-compiled n = unfold task-given in rw f at e in
           let z : _≡_ {A = ℕ} 0 1 = cc in
           absurd (omega arith)
       go (suc m) f =
-          let e1 : refused (suc m) ≡ refused n = unfold nothing-given in rw f at e in
+          let e1 : not-compiled (suc m) ≡ not-compiled n = unfold nothing-given in rw f at e in
           let same : suc m ≡ n = cc in
           rw (f, same)
 
-  told-number : (n : ℕ) → compiling l room ≡ nothing-given n room → compiling l room .answer ≡ refused n
+  told-number : (n : ℕ) → compiling l room ≡ nothing-given n room → compiling l room .answer ≡ not-compiled n
   unfolding nothing-given
-  told-number n e = ap (λ (o : Outcome). o .answer) e
+  told-number n e = ap (λ (o : CompileOutcome). o .answer) e
 
-  told-head : Compiles l room → compiling l room .answer ≡ compiled-head (head-of (finished (task-of l)))
+  told-head : Succeeds l room → compiling l room .answer ≡ compiled-head (head-of (finished (task-of l)))
   unfolding task-given
-  told-head c = ap (λ (o : Outcome). o .answer) (succeeds c)
+  told-head c = ap (λ (o : CompileOutcome). o .answer) (succeeds c)
 
-  other-number : (m n : ℕ) → (m ≡ n → ⊥) → compiling l room .answer ≡ refused m → compiling l room .answer ≡ refused n → ⊥
+  other-number : (m n : ℕ) → (m ≡ n → ⊥) → compiling l room .answer ≡ not-compiled m → compiling l room .answer ≡ not-compiled n → ⊥
   other-number m n differ p q =
       let same : m ≡ n = cc in
       differ same
 
   -- 15 only if the finished task does not fit
-  pub fifteen : compiling l room .answer ≡ refused 15 → Fits (finished (task-of l)) room → ⊥
+  pub fifteen : compiling l room .answer ≡ not-compiled 15 → Fits (finished (task-of l)) room → ⊥
   fifteen e k = tables (refusal l) refl
     where
       needed : ℕ

@@ -6,7 +6,7 @@ use Rattle.task.specs.Bounded.{upto}
 use Rattle.task.specs.Table.{Row, Operator, Lent, Task, formula-kind, effect-kind, row-at, operator-at, task-of}
 use Rattle.task.specs.Tree.{formula-node, formula-within, formula-of, effect-node, effect-within, effect-of}
 use Rattle.task.specs.Run.{operator-of, effect-of-operator}
-use Rattle.normal_form.specs.Builder.{give, bind, each, place, kept, same-row, row, twin, variable-row, twin-row, start, choice, joined, join, pair}
+use Rattle.normal_form.specs.Builder.{give, bind, each, place, including, same-row, row, twin, variable-row, twin-row, start, choice, join-as, join, pair}
 use Rattle.normal_form.specs.Image.{literal, image}
 use Rattle.normal_form.specs.Conditions.{guarded, condition}
 use Rattle.normal_form.specs.Operators.{deletes-of, changes-of, built-operator, parts}
@@ -23,7 +23,7 @@ operator p e c = record { precondition = p; effect = e; cost = c }
 result : Task → Task
 unfolding
     formula-kind effect-kind formula-node formula-within formula-of effect-node effect-within effect-of operator-of effect-of-operator
-    give bind each place kept same-row row twin variable-row twin-row start choice joined join pair literal image guarded condition
+    give bind each place including same-row row twin variable-row twin-row start choice join-as join pair literal image guarded condition
     deletes-of changes-of built-operator parts rule with-twin rules-of rules atom-row rule-rows write-rule write-rules assemble-operator
     assemble unassembled built assembled twin-values finished
 result t = finished t

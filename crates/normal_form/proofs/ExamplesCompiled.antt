@@ -5,16 +5,16 @@ use Rattle.task.specs.Bounded.{every}
 use Rattle.task.specs.Table.{Lent, formula-kind, effect-kind, row-at, operator-at}
 use Rattle.task.specs.Check.{counts-kept, goal-kept, room as has-room, long-enough, initial-kept, twin-kept, twins-kept, formula-words-kept, formula-kept, formulas-kept, effect-words-kept, effect-kept, effects-kept, operator-kept, operators-kept, refusal}
 use Rattle.task.specs.Words.{joined, row-words, operator-row-words, words-of, operator-words, head-of}
-use Rattle.normal_form.specs.Compiled.{Room, scratch-kept, fits, compile-refusal, compiled-head, refused, Outcome, nothing-given, task-given, outcome-by, compiling}
+use Rattle.normal_form.specs.Compiled.{Room, compile-scratch-kept, fits, compile-refusal, compiled-head, not-compiled, CompileOutcome, nothing-given, task-given, outcome-by, compiling}
 use Rattle.task.specs.Words.{padded}
 use Rattle.normal_form.proofs.Examples.{source, whole}
 
 -- the definition, computed
-outcome : Lent → Room → Outcome
+outcome : Lent → Room → CompileOutcome
 unfolding
     every formula-kind effect-kind row-at operator-at counts-kept goal-kept long-enough initial-kept twin-kept twins-kept formula-words-kept
     formula-kept formulas-kept effect-words-kept effect-kept effects-kept operator-kept operators-kept refusal joined row-words
-    operator-row-words words-of operator-words head-of scratch-kept has-room fits compile-refusal padded nothing-given
+    operator-row-words words-of operator-words head-of compile-scratch-kept has-room fits compile-refusal padded nothing-given
     task-given outcome-by compiling
 outcome l room = compiling l room
 
@@ -49,25 +49,25 @@ longer-twins = rw whole
 -- each table one short
 pub initial-short :
     compiling source (record { initial = 3; twins = 2; formulas = 21; effects = 36; operators = 3; scratch = 18 }) .answer
-    ≡ refused 15
+    ≡ not-compiled 15
 unfolding outcome
 initial-short = rw whole
 
 pub twins-short :
     compiling source (record { initial = 4; twins = 1; formulas = 21; effects = 36; operators = 3; scratch = 18 }) .answer
-    ≡ refused 15
+    ≡ not-compiled 15
 unfolding outcome
 twins-short = rw whole
 
 pub formulas-short :
     compiling source (record { initial = 4; twins = 2; formulas = 20; effects = 36; operators = 3; scratch = 18 }) .answer
-    ≡ refused 15
+    ≡ not-compiled 15
 unfolding outcome
 formulas-short = rw whole
 
 pub effects-short :
     compiling source (record { initial = 4; twins = 2; formulas = 21; effects = 35; operators = 3; scratch = 18 }) .answer
-    ≡ refused 15
+    ≡ not-compiled 15
 unfolding outcome
 effects-short = rw whole
 
@@ -75,7 +75,7 @@ effects-short = rw whole
 pub operators-short :
     compiling source (record { initial = 4; twins = 2; formulas = 3; effects = 0; operators = 2; scratch = 18 })
     ≡ record {
-      answer = refused 15;
+      answer = not-compiled 15;
       initial = 0 ∷ 0 ∷ 0 ∷ 0 ∷ [];
       twins = 0 ∷ 0 ∷ [];
       formulas = 0 ∷ 0 ∷ 0 ∷ [];
@@ -107,7 +107,7 @@ pub twinned :
     })
     nothing-lent
     .answer
-    ≡ refused 13
+    ≡ not-compiled 13
 unfolding outcome
 twinned = refl
 
@@ -124,6 +124,6 @@ pub counts-first :
     })
     nothing-lent
     .answer
-    ≡ refused 6
+    ≡ not-compiled 6
 unfolding outcome
 counts-first = refl

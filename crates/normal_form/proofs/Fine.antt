@@ -11,7 +11,7 @@ use Rattle.task.specs.Table.{Row, formula-kind}
 use Rattle.task.specs.Rules.{no-row}
 use Rattle.task.proofs.Trees.{FormulaKept, FormulasDown}
 use Rattle.task.proofs.Down.{formulas-none, formulas-more, formulas-wider}
-use Rattle.normal_form.specs.Builder.{St, kept, same-row, row, twin, start}
+use Rattle.normal_form.specs.Builder.{St, including, same-row, row, twin, start}
 pub use Rattle.normal_form.specs.Positive.{PositiveKind}
 use Rattle.normal_form.proofs.Place.{one-more, Placed, found, added, placed, place-below, place-has, same-row-alike}
 
@@ -74,7 +74,7 @@ pub fine-row :
 unfolding row
 fine-row n s r f rule p = go (placed same-row r (s .rows))
   where
-    go : Placed same-row r (s .rows) → Fine n (record { rows = kept same-row r (s .rows); twins = s .twins })
+    go : Placed same-row r (s .rows) → Fine n (record { rows = including same-row r (s .rows); twins = s .twins })
     go (found h k) = rw k f
     go (added h k e) = rw k (fine-more n s r f rule p)
 
@@ -113,6 +113,6 @@ pub fine-twin : (n : ℕ) (s : St) (v : ℕ) → Fine n s → v < n → Fine n (
 unfolding twin
 fine-twin n s v f h = go (placed eqb v (s .twins))
   where
-    go : Placed eqb v (s .twins) → Fine n (record { rows = s .rows; twins = kept eqb v (s .twins) })
+    go : Placed eqb v (s .twins) → Fine n (record { rows = s .rows; twins = including eqb v (s .twins) })
     go (found b k) = rw k f
     go (added b k e) = rw k (fine-more-twins n s v f h (λ j l. eqb-false (getD (s .twins) j 0) v (e 0 j l)))

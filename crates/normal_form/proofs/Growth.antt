@@ -8,7 +8,7 @@ use lib.ListN.{length, getD, length-append, List·getD-append}
 use lib.Dec.{eqb}
 use borrow.Author.Tests.{eq-eqb}
 use Rattle.task.specs.Table.{Row}
-use Rattle.normal_form.specs.Builder.{St, Got, Build, give, bind, each, place, kept, same-row, row, twin, variable-row, twin-row, Polarity, Choice, zeroth, left, right, fresh, choice, joined, join, pair}
+use Rattle.normal_form.specs.Builder.{St, Got, Build, give, bind, each, place, including, same-row, row, twin, variable-row, twin-row, Polarity, Choice, absorbed, only-left, only-right, own-row, choice, join-as, join, pair}
 use Rattle.normal_form.specs.Growth.{Prefix, Grows, Steady}
 
 module _ {A : Type 0} where
@@ -39,47 +39,47 @@ grows-trans g h = record { rows = prefix-trans (g .rows) (h .rows); twins = pref
 
 -- Find or append, with a test under which each is the same as itself.
 module _ {A : Type 0} (same : A → A → Bool) (itself : (x : A) → same x x ≡ true) (x : A) where
-  pub kept-prefix : (l : List A) → Prefix l (kept same x l)
-  unfolding kept
+  pub kept-prefix : (l : List A) → Prefix l (including same x l)
+  unfolding including
   kept-prefix [] = record { rest = x ∷ []; whole = refl }
   kept-prefix (y ∷ ys) = go (same y x) (kept-prefix ys)
     where
-      go : (b : Bool) → Prefix ys (kept same x ys) → Prefix (y ∷ ys) (cond b (y ∷ ys) (y ∷ kept same x ys))
+      go : (b : Bool) → Prefix ys (including same x ys) → Prefix (y ∷ ys) (cond b (y ∷ ys) (y ∷ including same x ys))
       go true p = prefix-refl (y ∷ ys)
       go false p = record { rest = p .rest; whole = ap {B = List A} (λ r. y ∷ r) (p .whole) }
 
   -- in a list that goes on from there x stands at the same place, and nothing is added
-  pub place-again : (l rest : List A) → place same x (kept same x l ++ rest) ≡ place same x l
-  unfolding kept place
+  pub place-again : (l rest : List A) → place same x (including same x l ++ rest) ≡ place same x l
+  unfolding including place
   place-again [] rest = rw (itself x)
   place-again (y ∷ ys) rest = go (same y x) refl (place-again ys rest)
     where
       go :
           (b : Bool)
           → same y x ≡ b
-          → place same x (kept same x ys ++ rest) ≡ place same x ys
-          → place same x (cond b (y ∷ ys) (y ∷ kept same x ys) ++ rest) ≡ cond b 0 (suc (place same x ys))
+          → place same x (including same x ys ++ rest) ≡ place same x ys
+          → place same x (cond b (y ∷ ys) (y ∷ including same x ys) ++ rest) ≡ cond b 0 (suc (place same x ys))
       go true e h = rw e
       go false e h = rw (e, h)
 
-  pub kept-again : (l rest : List A) → kept same x (kept same x l ++ rest) ≡ kept same x l ++ rest
-  unfolding kept
+  pub kept-again : (l rest : List A) → including same x (including same x l ++ rest) ≡ including same x l ++ rest
+  unfolding including
   kept-again [] rest = rw (itself x)
   kept-again (y ∷ ys) rest = go (same y x) refl (kept-again ys rest)
     where
       go :
           (b : Bool)
           → same y x ≡ b
-          → kept same x (kept same x ys ++ rest) ≡ kept same x ys ++ rest
-          → kept same x (cond b (y ∷ ys) (y ∷ kept same x ys) ++ rest) ≡ cond b (y ∷ ys) (y ∷ kept same x ys) ++ rest
+          → including same x (including same x ys ++ rest) ≡ including same x ys ++ rest
+          → including same x (cond b (y ∷ ys) (y ∷ including same x ys) ++ rest) ≡ cond b (y ∷ ys) (y ∷ including same x ys) ++ rest
       go true e h = rw e
       go false e h = rw (e, h)
 
   -- the same, of a list that has it as its prefix
-  pub place-within : (l : List A) {m : List A} → Prefix (kept same x l) m → place same x m ≡ place same x l
+  pub place-within : (l : List A) {m : List A} → Prefix (including same x l) m → place same x m ≡ place same x l
   place-within l p = rw (p .whole) (place-again l (p .rest))
 
-  pub kept-within : (l : List A) {m : List A} → Prefix (kept same x l) m → kept same x m ≡ m
+  pub kept-within : (l : List A) {m : List A} → Prefix (including same x l) m → including same x m ≡ m
   kept-within l p = rw (p .whole) (kept-again l (p .rest))
 
 pub same-row-itself : (r : Row) → same-row r r ≡ true
@@ -110,7 +110,7 @@ steady-row r =
     record {
       grow = λ s. record { rows = kept-prefix same-row same-row-itself r (s .rows); twins = prefix-refl (s .twins) };
       again = λ s t g.
-          let p : Prefix (kept same-row r (s .rows)) (t .rows) = g .rows in
+          let p : Prefix (including same-row r (s .rows)) (t .rows) = g .rows in
           rw (place-within same-row same-row-itself r (s .rows) p, kept-within same-row same-row-itself r (s .rows) p);
     }
 
@@ -120,7 +120,7 @@ steady-twin v =
     record {
       grow = λ s. record { rows = prefix-refl (s .rows); twins = kept-prefix eqb eqb-itself v (s .twins) };
       again = λ s t g.
-          let p : Prefix (kept eqb v (s .twins)) (t .twins) = g .twins in
+          let p : Prefix (including eqb v (s .twins)) (t .twins) = g .twins in
           rw (place-within eqb eqb-itself v (s .twins) p, kept-within eqb eqb-itself v (s .twins) p);
     }
 
@@ -132,12 +132,12 @@ pub steady-twin-row : (n v : ℕ) → Steady (twin-row n v)
 unfolding twin-row
 steady-twin-row n v = steady-bind (steady-twin v) (λ k. steady-variable-row (n + k))
 
-pub steady-joined : (p : Polarity) (c : Choice) (a b : ℕ) → Steady (joined p c a b)
-unfolding joined
-steady-joined p zeroth a b = steady-give _
-steady-joined p left a b = steady-give a
-steady-joined p right a b = steady-give b
-steady-joined p fresh a b = steady-row _
+pub steady-joined : (p : Polarity) (c : Choice) (a b : ℕ) → Steady (join-as p c a b)
+unfolding join-as
+steady-joined p absorbed a b = steady-give _
+steady-joined p only-left a b = steady-give a
+steady-joined p only-right a b = steady-give b
+steady-joined p own-row a b = steady-row _
 
 pub steady-join : (p : Polarity) (a b : ℕ) → Steady (join p a b)
 unfolding join

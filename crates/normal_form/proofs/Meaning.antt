@@ -13,7 +13,7 @@ use Rattle.task.specs.Semantics.{Formula, holds}
 use Rattle.task.specs.Tree.{formula-node, formula-of}
 use Rattle.task.specs.Corresponding.{Corresponding}
 use Rattle.task.proofs.Trees.{FormulaKept, FormulasDown, formula-unfolds, formula-grows}
-use Rattle.normal_form.specs.Builder.{St, Got, Build, give, bind, row, Polarity, plain, negated, falsity, truth, join-kind, Choice, zeroth, left, right, fresh, choice, joined, join, pair}
+use Rattle.normal_form.specs.Builder.{St, Got, Build, give, bind, row, Polarity, plain, negated, image-of-false, image-of-true, join-kind, Choice, absorbed, only-left, only-right, own-row, choice, join-as, join, pair}
 use Rattle.normal_form.specs.Growth.{Prefix, Grows, Steady}
 pub use Rattle.normal_form.proofs.Growth.{longer, prefix-at}
 use Rattle.normal_form.proofs.Growth.{prefix-trans, steady-row}
@@ -125,11 +125,11 @@ means-one {n} {s} f =
           (omega (arith, f .two)) (f .row-true));
     }
 
-pub means-falsity : {n : ℕ} {s : St} (p : Polarity) → Fine n s → Means n (λ source. sense p false) s (falsity p)
+pub means-falsity : {n : ℕ} {s : St} (p : Polarity) → Fine n s → Means n (λ source. sense p false) s (image-of-false p)
 means-falsity plain f = means-zero f
 means-falsity negated f = means-one f
 
-pub means-truth : {n : ℕ} {s : St} (p : Polarity) → Fine n s → Means n (λ source. sense p true) s (truth p)
+pub means-truth : {n : ℕ} {s : St} (p : Polarity) → Fine n s → Means n (λ source. sense p true) s (image-of-true p)
 means-truth plain f = means-one f
 means-truth negated f = means-zero f
 
@@ -146,39 +146,39 @@ means-alike {n} {b} {c} {s} m k e w =
 
 -- Why a join comes out as it does.
 data Folded (p : Polarity) (a b : ℕ) : Choice → Type 0 where
-  left-false : a ≡ falsity p → Folded p a b zeroth
-  right-false : b ≡ falsity p → Folded p a b zeroth
-  left-true : a ≡ truth p → Folded p a b right
-  right-true : b ≡ truth p → Folded p a b left
-  neither : Folded p a b fresh
+  left-false : a ≡ image-of-false p → Folded p a b absorbed
+  right-false : b ≡ image-of-false p → Folded p a b absorbed
+  left-true : a ≡ image-of-true p → Folded p a b only-right
+  right-true : b ≡ image-of-true p → Folded p a b only-left
+  neither : Folded p a b own-row
 
 folded : (p : Polarity) (a b : ℕ) → Folded p a b (choice p a b)
 unfolding choice
-folded p a b = first (eqb a (falsity p)) refl
+folded p a b = first (eqb a (image-of-false p)) refl
   where
-    fourth : (t : Bool) → eqb b (truth p) ≡ t → Folded p a b (cond t left fresh)
-    fourth true e = right-true (eqb-true b (truth p) e)
+    fourth : (t : Bool) → eqb b (image-of-true p) ≡ t → Folded p a b (cond t only-left own-row)
+    fourth true e = right-true (eqb-true b (image-of-true p) e)
     fourth false e = neither
 
-    third : (t : Bool) → eqb a (truth p) ≡ t → Folded p a b (cond t right (cond (eqb b (truth p)) left fresh))
-    third true e = left-true (eqb-true a (truth p) e)
-    third false e = fourth (eqb b (truth p)) refl
+    third : (t : Bool) → eqb a (image-of-true p) ≡ t → Folded p a b (cond t only-right (cond (eqb b (image-of-true p)) only-left own-row))
+    third true e = left-true (eqb-true a (image-of-true p) e)
+    third false e = fourth (eqb b (image-of-true p)) refl
 
     second :
         (t : Bool)
-        → eqb b (falsity p) ≡ t
-        → Folded p a b (cond t zeroth (cond (eqb a (truth p)) right (cond (eqb b (truth p)) left fresh)))
-    second true e = right-false (eqb-true b (falsity p) e)
-    second false e = third (eqb a (truth p)) refl
+        → eqb b (image-of-false p) ≡ t
+        → Folded p a b (cond t absorbed (cond (eqb a (image-of-true p)) only-right (cond (eqb b (image-of-true p)) only-left own-row)))
+    second true e = right-false (eqb-true b (image-of-false p) e)
+    second false e = third (eqb a (image-of-true p)) refl
 
     first :
         (t : Bool)
-        → eqb a (falsity p) ≡ t
+        → eqb a (image-of-false p) ≡ t
         → Folded p a b
-        (cond t zeroth
-        (cond (eqb b (falsity p)) zeroth (cond (eqb a (truth p)) right (cond (eqb b (truth p)) left fresh))))
-    first true e = left-false (eqb-true a (falsity p) e)
-    first false e = second (eqb b (falsity p)) refl
+        (cond t absorbed
+        (cond (eqb b (image-of-false p)) absorbed (cond (eqb a (image-of-true p)) only-right (cond (eqb b (image-of-true p)) only-left own-row))))
+    first true e = left-false (eqb-true a (image-of-false p) e)
+    first false e = second (eqb b (image-of-false p)) refl
 
 meet-false-left : (p : Polarity) (x y : Bool) → x ≡ sense p false → sense p false ≡ meet p x y
 meet-false-left plain x y e = rw e
@@ -243,23 +243,23 @@ module _ {n : ℕ} {x y : List ℕ → Bool} (p : Polarity) (s : St) (a b : ℕ)
             };
       }
 
-  good-joined : (c : Choice) → Folded p a b c → Good n (Means n (λ source. meet p (x source) (y source))) (joined p c a b s)
-  unfolding joined
-  good-joined zeroth (left-false e) =
-      good-give (falsity p) s f
+  good-joined : (c : Choice) → Folded p a b c → Good n (Means n (λ source. meet p (x source) (y source))) (join-as p c a b s)
+  unfolding join-as
+  good-joined absorbed (left-false e) =
+      good-give (image-of-false p) s f
       (means-as _ (means-falsity p f)
       (λ w. meet-false-left p (x (w .source)) (y (w .source)) (means-alike l (means-falsity p f) e w)))
-  good-joined zeroth (right-false e) =
-      good-give (falsity p) s f
+  good-joined absorbed (right-false e) =
+      good-give (image-of-false p) s f
       (means-as _ (means-falsity p f)
       (λ w. meet-false-right p (x (w .source)) (y (w .source)) (means-alike r (means-falsity p f) e w)))
-  good-joined right (left-true e) =
+  good-joined only-right (left-true e) =
       good-give b s f
       (means-as _ r (λ w. meet-true-left p (x (w .source)) (y (w .source)) (means-alike l (means-truth p f) e w)))
-  good-joined left (right-true e) =
+  good-joined only-left (right-true e) =
       good-give a s f
       (means-as _ l (λ w. meet-true-right p (x (w .source)) (y (w .source)) (means-alike r (means-truth p f) e w)))
-  good-joined fresh neither = good-fresh
+  good-joined own-row neither = good-fresh
 
   pub good-join : Good n (Means n (λ source. meet p (x source) (y source))) (join p a b s)
   unfolding join

@@ -6,7 +6,7 @@ use mathlib.Core.List.{List}
 use lib.Dec.{eqb}
 use borrow.Author.Tests.{eqb-true}
 use Rattle.task.specs.Semantics.{Formula, holds, Atom, sets, clears, Effect, empty, atomic, both, under, same-atom, effcond}
-use Rattle.normal_form.specs.Builder.{St, give, bind, join, Polarity, plain, negated, opposite, falsity, truth}
+use Rattle.normal_form.specs.Builder.{St, give, bind, join, Polarity, plain, negated, opposite, image-of-false, image-of-true}
 use Rattle.normal_form.specs.Image.{image}
 use Rattle.normal_form.specs.Conditions.{guarded, condition}
 use Rattle.normal_form.specs.Operators.{Changes, deletes-of, changes-of}
@@ -25,9 +25,9 @@ EffectOver n (under f e) = Over n f × EffectOver n e
 good-atomic :
     {n : ℕ} (p : Polarity) (b : Bool) (s : St)
     → Fine n s
-    → Good n (Means n (λ source. sense p b)) (give (cond b (truth p) (falsity p)) s)
-good-atomic p true s fine = good-give (truth p) s fine (means-truth p fine)
-good-atomic p false s fine = good-give (falsity p) s fine (means-falsity p fine)
+    → Good n (Means n (λ source. sense p b)) (give (cond b (image-of-true p) (image-of-false p)) s)
+good-atomic p true s fine = good-give (image-of-true p) s fine (means-truth p fine)
+good-atomic p false s fine = good-give (image-of-false p) s fine (means-falsity p fine)
 
 sense-none : (p : Polarity) (x y : Bool) → sense p y ≡ sense p false → sense p y ≡ sense p (x && y)
 sense-none p true y e = refl
@@ -40,11 +40,11 @@ good-guarded :
     → Means n (λ source. sense p (x source)) s c
     → Good n (Means n (λ source. sense p (holds source f && x source))) (guarded n p f c s)
 unfolding guarded
-good-guarded {n} x p f c s o fine m = go (eqb c (falsity p)) refl
+good-guarded {n} x p f c s o fine m = go (eqb c (image-of-false p)) refl
   where
     go :
         (b : Bool)
-        → eqb c (falsity p) ≡ b
+        → eqb c (image-of-false p) ≡ b
         → Good n (Means n (λ source. sense p (holds source f && x source)))
         (cond b (give c) (bind (image n p f) (λ a. join p a c)) s)
     go true e =
@@ -52,7 +52,7 @@ good-guarded {n} x p f c s o fine m = go (eqb c (falsity p)) refl
         (means-as (λ source. sense p (holds source f && x source)) m
         (λ w.
         sense-none p (holds (w .source) f) (x (w .source))
-        (means-alike m (means-falsity p fine) (eqb-true c (falsity p) e) w)))
+        (means-alike m (means-falsity p fine) (eqb-true c (image-of-false p) e) w)))
     go false e =
         good-bind {Q = Means n (λ source. sense p (holds source f && x source))} (image n p f) (λ a. join p a c) s
         (good-image p f s o fine)
@@ -68,7 +68,7 @@ pub good-condition :
     → Fine n s
     → Good n (Means n (λ source. sense p (effcond source l e))) (condition n p l e s)
 unfolding condition effcond
-good-condition p l empty s o fine = good-give (falsity p) s fine (means-falsity p fine)
+good-condition p l empty s o fine = good-give (image-of-false p) s fine (means-falsity p fine)
 good-condition p l (atomic m) s o fine = good-atomic p (same-atom l m) s fine
 good-condition {n} p l (both e f) s o fine =
     good-as (λ source. sense p (effcond source l e || effcond source l f))

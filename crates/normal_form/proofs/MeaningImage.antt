@@ -10,7 +10,7 @@ use borrow.Author.Tests.{eqb-true}
 use Rattle.task.specs.Table.{Row, formula-kind}
 use Rattle.task.specs.Semantics.{Formula, falsum, verum, variable, negation, conjunction, disjunction, implication, equivalence, holds}
 use Rattle.task.specs.Tree.{formula-node}
-use Rattle.normal_form.specs.Builder.{St, Got, bind, place, row, twin, variable-row, twin-row, Polarity, plain, negated, opposite, falsity, truth, pair}
+use Rattle.normal_form.specs.Builder.{St, Got, bind, place, row, twin, variable-row, twin-row, Polarity, plain, negated, opposite, image-of-false, image-of-true, pair}
 use Rattle.normal_form.specs.Image.{literal, image}
 use Rattle.normal_form.proofs.Growth.{steady-row, steady-pair}
 use Rattle.normal_form.proofs.Steady.{steady-image}
@@ -129,8 +129,8 @@ pub good-image :
     → Fine n s
     → Good n (Means n (λ source. sense p (holds source f))) (image n p f s)
 unfolding image holds
-good-image p falsum s o fine = good-give (falsity p) s fine (means-falsity p fine)
-good-image p verum s o fine = good-give (truth p) s fine (means-truth p fine)
+good-image p falsum s o fine = good-give (image-of-false p) s fine (means-falsity p fine)
+good-image p verum s o fine = good-give (image-of-true p) s fine (means-truth p fine)
 good-image p (variable v) s o fine = good-literal p s v fine o
 good-image {n} p (negation f) s o fine =
     good-as (λ source. sense p (not (holds source f))) (good-image (opposite p) f s o fine)

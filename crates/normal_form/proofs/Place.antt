@@ -12,7 +12,7 @@ use lib.Dec.{eqb}
 use borrow.Author.Tests.{eqb-true, eq-eqb}
 use Rattle.task.specs.Table.{Row}
 use Rattle.task.proofs.Bounded.{and-left, and-right}
-use Rattle.normal_form.specs.Builder.{place, kept, same-row}
+use Rattle.normal_form.specs.Builder.{place, including, same-row}
 
 -- what each element keeps, one more keeps too
 pub one-more :
@@ -32,16 +32,16 @@ one-more P d l x each last i h = go (decLt i (length l))
 
 -- The two ways that finding or appending x comes out.
 pub data Placed {A : Type 0} (same : A → A → Bool) (x : A) (l : List A) : Type 0 where
-  found : place same x l < length l → kept same x l ≡ l → Placed same x l
+  found : place same x l < length l → including same x l ≡ l → Placed same x l
   added :
       place same x l ≡ length l
-      → kept same x l ≡ l ++ (x ∷ [])
+      → including same x l ≡ l ++ (x ∷ [])
       → ((d : A) (j : ℕ) → j < length l → same (getD l j d) x ≡ false)
       → Placed same x l
 
 module _ {A : Type 0} (same : A → A → Bool) (x : A) where
   pub placed : (l : List A) → Placed same x l
-  unfolding place kept
+  unfolding place including
   placed [] = added refl refl (λ d j h. absurd (not-suc-le-zero h))
   placed (y ∷ ys) = go (same y x) refl (placed ys)
     where
@@ -56,24 +56,24 @@ module _ {A : Type 0} (same : A → A → Bool) (x : A) where
       go false e (found h k) = found (rw e (omega arith)) (rw (e, k))
       go false e (added h k f) = added (rw (e, h)) (rw (e, k)) (none e f)
 
-  pub place-below : (l : List A) → place same x l < length (kept same x l)
+  pub place-below : (l : List A) → place same x l < length (including same x l)
   place-below l = go (placed l)
     where
-      go : Placed same x l → place same x l < length (kept same x l)
+      go : Placed same x l → place same x l < length (including same x l)
       go (found h k) = rw k h
       go (added h k f) = rw (k, h) (omega (arith, length-append l (x ∷ [])))
 
   -- with a test that only the same pass
-  pub place-has : ((y : A) → same y x ≡ true → y ≡ x) → (d : A) (l : List A) → getD (kept same x l) (place same x l) d ≡ x
-  unfolding place kept
+  pub place-has : ((y : A) → same y x ≡ true → y ≡ x) → (d : A) (l : List A) → getD (including same x l) (place same x l) d ≡ x
+  unfolding place including
   place-has alike d [] = refl
   place-has alike d (y ∷ ys) = go (same y x) refl (place-has alike d ys)
     where
       go :
           (b : Bool)
           → same y x ≡ b
-          → getD (kept same x ys) (place same x ys) d ≡ x
-          → getD (cond b (y ∷ ys) (y ∷ kept same x ys)) (cond b 0 (suc (place same x ys))) d ≡ x
+          → getD (including same x ys) (place same x ys) d ≡ x
+          → getD (cond b (y ∷ ys) (y ∷ including same x ys)) (cond b 0 (suc (place same x ys))) d ≡ x
       go true e h = alike y e
       go false e h = h
 

@@ -6,7 +6,7 @@ use lib.Dec.{eqb}
 use Rattle.task.specs.Table.{Task}
 use Rattle.task.specs.Semantics.{Formula, falsum, verum, variable, negation, conjunction, disjunction, implication, equivalence, Atom, Effect, empty, atomic, both, under, sets, clears}
 use Rattle.task.specs.Run.{effect-of-operator}
-use Rattle.normal_form.specs.Builder.{Polarity, plain, negated, opposite, falsity}
+use Rattle.normal_form.specs.Builder.{Polarity, plain, negated, opposite, image-of-false}
 use Rattle.normal_form.specs.Growth.{Steady}
 use Rattle.normal_form.specs.Image.{literal, image}
 use Rattle.normal_form.specs.Conditions.{guarded, condition}
@@ -34,7 +34,7 @@ steady-image n p (equivalence f g) =
 pub steady-guarded : (n : ℕ) (p : Polarity) (f : Formula) (c : ℕ) → Steady (guarded n p f c)
 unfolding guarded
 steady-guarded n p f c =
-    steady-cond (eqb c (falsity p)) (steady-give c) (steady-bind (steady-image n p f) (λ a. steady-join p a c))
+    steady-cond (eqb c (image-of-false p)) (steady-give c) (steady-bind (steady-image n p f) (λ a. steady-join p a c))
 
 pub steady-condition : (n : ℕ) (p : Polarity) (l : Atom) (e : Effect) → Steady (condition n p l e)
 unfolding condition

@@ -39,9 +39,9 @@ unfoldable pub place : {A : Type 0} → (A → A → Bool) → A → List A → 
 place same x [] = 0
 place same x (y ∷ ys) = cond (same y x) 0 (suc (place same x ys))
 
-unfoldable pub kept : {A : Type 0} → (A → A → Bool) → A → List A → List A
-kept same x [] = x ∷ []
-kept same x (y ∷ ys) = cond (same y x) (y ∷ ys) (y ∷ kept same x ys)
+unfoldable pub including : {A : Type 0} → (A → A → Bool) → A → List A → List A
+including same x [] = x ∷ []
+including same x (y ∷ ys) = cond (same y x) (y ∷ ys) (y ∷ including same x ys)
 
 -- All three words: "0 and 1" is not "0 or 1", and "2 and 3" is not "3 and 2".
 unfoldable pub same-row : Row → Row → Bool
@@ -52,13 +52,13 @@ unfoldable pub row : Row → Build ℕ
 row r s =
     record {
       value = place same-row r (s .rows);
-      st = record { rows = kept same-row r (s .rows); twins = s .twins };
+      st = record { rows = including same-row r (s .rows); twins = s .twins };
     }
 
 -- the place of v's twin among the twins: the next when first met
 unfoldable pub twin : ℕ → Build ℕ
 twin v s =
-    record { value = place eqb v (s .twins); st = record { rows = s .rows; twins = kept eqb v (s .twins) } }
+    record { value = place eqb v (s .twins); st = record { rows = s .rows; twins = including eqb v (s .twins) } }
 
 unfoldable pub variable-row : ℕ → Build ℕ
 variable-row v = row (record { kind = 2; a = v; b = 0 })
@@ -79,40 +79,41 @@ abbrev pub opposite : Polarity → Polarity
 opposite plain = negated
 opposite negated = plain
 
--- the rows of false and of true; negated, of true and of false
-abbrev pub falsity : Polarity → ℕ
-falsity plain = 0
-falsity negated = 1
+-- the row of the image of false, and of true: the negated image of false is true, row 1
+abbrev pub image-of-false : Polarity → ℕ
+image-of-false plain = 0
+image-of-false negated = 1
 
-abbrev pub truth : Polarity → ℕ
-truth plain = 1
-truth negated = 0
+abbrev pub image-of-true : Polarity → ℕ
+image-of-true plain = 1
+image-of-true negated = 0
 
 -- "and"; negated, "or"
 abbrev pub join-kind : Polarity → ℕ
 join-kind plain = 4
 join-kind negated = 5
 
--- How a join of rows a and b comes out, whatever the state: false (of "or": true), a, b, or a row of its own.
+-- How a join of rows a and b comes out, whatever the state: absorbed by one of them ("and" by false, "or" by true), a alone, b alone, or a row of its
+-- own.
 pub data Choice : Type 0 where
-  zeroth left right fresh : Choice
+  absorbed only-left only-right own-row : Choice
 
 -- false and f, f and false give false; true and f, f and true give f; dually for or. Nothing else folds: "v and v" is a row.
 -- Were "true and f" folded to true, it would hold in states where f does not.
 unfoldable pub choice : Polarity → ℕ → ℕ → Choice
 choice p a b =
-    cond (eqb a (falsity p)) zeroth
-    (cond (eqb b (falsity p)) zeroth (cond (eqb a (truth p)) right (cond (eqb b (truth p)) left fresh)))
+    cond (eqb a (image-of-false p)) absorbed
+    (cond (eqb b (image-of-false p)) absorbed (cond (eqb a (image-of-true p)) only-right (cond (eqb b (image-of-true p)) only-left own-row)))
 
-unfoldable pub joined : Polarity → Choice → ℕ → ℕ → Build ℕ
-joined p zeroth a b = give (falsity p)
-joined p left a b = give a
-joined p right a b = give b
-joined p fresh a b = row (record { kind = join-kind p; a = a; b = b })
+unfoldable pub join-as : Polarity → Choice → ℕ → ℕ → Build ℕ
+join-as p absorbed a b = give (image-of-false p)
+join-as p only-left a b = give a
+join-as p only-right a b = give b
+join-as p own-row a b = row (record { kind = join-kind p; a = a; b = b })
 
 -- a and b; negated, a or b
 unfoldable pub join : Polarity → ℕ → ℕ → Build ℕ
-join p a b = joined p (choice p a b) a b
+join p a b = join-as p (choice p a b) a b
 
 -- A joined pair is built left, right, then the join. Both sides are built even if the left one folds the join away:
 -- "false and not v0" answers row 0, and v0 has its twin.

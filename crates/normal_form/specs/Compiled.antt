@@ -21,8 +21,8 @@ pub record Room : Type 0 where
   pub scratch : ℕ
 
 -- 14: measured by the source's counts
-unfoldable pub scratch-kept : Head → Room → Bool
-scratch-kept h room = leb (2 * h .formulas + 2 * h .effects) (room .scratch)
+unfoldable pub compile-scratch-kept : Head → Room → Bool
+compile-scratch-kept h room = leb (2 * h .formulas + 2 * h .effects) (room .scratch)
 
 -- the output tables
 abbrev pub output-lengths : Room → Lengths
@@ -50,14 +50,14 @@ unfoldable pub compile-refusal : Lent → Room → ℕ
 compile-refusal l room =
     unless (eqb (refusal l) 0) (refusal l)
     (unless (eqb (l .head .twins) 0) 13
-    (unless (scratch-kept (l .head) room) 14 (unless (fits (finished (task-of l)) room) 15 0)))
+    (unless (compile-scratch-kept (l .head) room) 14 (unless (fits (finished (task-of l)) room) 15 0)))
 
 pub data Answer : Type 0 where
   compiled-head : Head → Answer
-  refused : ℕ → Answer
+  not-compiled : ℕ → Answer
 
 -- What a compiling leaves: its answer, the output tables and scratch.
-pub record Outcome : Type 0 where
+pub record CompileOutcome : Type 0 where
   pub answer : Answer
   pub initial : List ℕ
   pub twins : List ℕ
@@ -67,10 +67,10 @@ pub record Outcome : Type 0 where
   pub scratch : List ℕ
 
 -- after a refusal every output is all 0
-unfoldable pub nothing-given : ℕ → Room → Outcome
+unfoldable pub nothing-given : ℕ → Room → CompileOutcome
 nothing-given number room =
     record {
-      answer = refused number;
+      answer = not-compiled number;
       initial = replicate (room .initial) 0;
       twins = replicate (room .twins) 0;
       formulas = replicate (room .formulas) 0;
@@ -80,7 +80,7 @@ nothing-given number room =
     }
 
 -- after success the task's words; scratch always ends as 0
-unfoldable pub task-given : Task → Room → Outcome
+unfoldable pub task-given : Task → Room → CompileOutcome
 task-given t room =
     record {
       answer = compiled-head (head-of t);
@@ -92,16 +92,16 @@ task-given t room =
       scratch = replicate (room .scratch) 0;
     }
 
-unfoldable pub outcome-by : ℕ → Task → Room → Outcome
+unfoldable pub outcome-by : ℕ → Task → Room → CompileOutcome
 outcome-by zero t room = task-given t room
 outcome-by (suc n) t room = nothing-given (suc n) room
 
 -- THE outcome of a compiling
-unfoldable pub compiling : Lent → Room → Outcome
+unfoldable pub compiling : Lent → Room → CompileOutcome
 compiling l room = outcome-by (compile-refusal l room) (finished (task-of l)) room
 
 -- the head that was answered and the output tables, as they are lent to the next call
-abbrev pub given : Head → Outcome → Lent
+abbrev pub given : Head → CompileOutcome → Lent
 given h o =
     record {
       head = h;

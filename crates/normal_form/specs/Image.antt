@@ -2,7 +2,7 @@
 -- the code work and changes no result, since building again in a grown state finds every row.
 use Prim.Native.Nat.{ℕ}
 use Rattle.task.specs.Semantics.{Formula, falsum, verum, variable, negation, conjunction, disjunction, implication, equivalence}
-use Rattle.normal_form.specs.Builder.{Build, give, pair, variable-row, twin-row, Polarity, plain, negated, opposite, falsity, truth}
+use Rattle.normal_form.specs.Builder.{Build, give, pair, variable-row, twin-row, Polarity, plain, negated, opposite, image-of-false, image-of-true}
 
 -- The image of a variable is that variable; its negated image is its twin. Were both the twin, v0 = 1 would read as false.
 unfoldable pub literal : ℕ → Polarity → ℕ → Build ℕ
@@ -14,8 +14,8 @@ literal n negated v = twin-row n v
 -- "a equivalent to b" is (a and b) or (not a and not b), negated (a and not b) or (not a and b): with only the first half,
 -- v0 = v1 = 0 would not make them equivalent.
 unfoldable pub image : ℕ → Polarity → Formula → Build ℕ
-image n p falsum = give (falsity p)
-image n p verum = give (truth p)
+image n p falsum = give (image-of-false p)
+image n p verum = give (image-of-true p)
 image n p (variable v) = literal n p v
 image n p (negation f) = image n (opposite p) f
 image n p (conjunction f g) = pair p (image n p f) (image n p g)

@@ -9,7 +9,7 @@ unfoldable pub use Rattle.task.specs.Check.{sequence-kept}
 use Rattle.task.specs.Check.{unless}
 use Rattle.task.specs.Run.{Run, Stop, ended, stopped, plain-run}
 use Rattle.stepper.specs.Stepped.{first-of}
-unfoldable pub use Rattle.stepper.specs.Stepped.{state-kept, scratch-kept, early-refusal, step-refused, step-told, step-by, stepped}
+unfoldable pub use Rattle.stepper.specs.Stepped.{state-kept, step-scratch-kept, early-refusal, step-refused, step-told, step-by, stepped}
 pub use Rattle.stepper.specs.Stepped.{Stepped, cleared, StepGives}
 use Rattle.plan.specs.declared.outcome.RunOutcome.{RunOutcome}
 use Rattle.plan.specs.declared.outcome.End.{End}

@@ -16,7 +16,7 @@ use Rattle.task.specs.Words.{padded}
 use Rattle.printing.specs.declared.PrintAnswer.{PrintAnswer}
 use Rattle.printing.specs.declared.PrintAnswer.the-variants.{Printed, Refused}
 use Rattle.printing.specs.Lines.{lines}
-use Rattle.printing.specs.Printing.{Outcome, Gives, refused, placed, printing}
+use Rattle.printing.specs.Printing.{PrintOutcome, PrintGives, not-printed, placed, printing}
 use Rattle.printing.specs.Put.{Put}
 use Rattle.printing.proofs.Puts.{put-length}
 
@@ -67,17 +67,17 @@ module _ (text : List ℕ) (n : ℕ) where
       (λ (b : Bool).
       cond b
       (record { answer = Printed (length text); out = padded n text })
-      (refused 20 n))
+      (not-printed 20 n))
       (le-leb (length text) n h)
 
-  placed-over : n < length text → placed text n ≡ refused 20 n
+  placed-over : n < length text → placed text n ≡ not-printed 20 n
   unfolding placed
   placed-over h =
       ap
       (λ (b : Bool).
       cond b
       (record { answer = Printed (length text); out = padded n text })
-      (refused 20 n))
+      (not-printed 20 n))
       (lt-leb (length text) n h)
 
   module _ {most last : ℕ} {out : List ℕ} (p : Put (replicate n 0) 0 text most out last) where
@@ -87,7 +87,7 @@ module _ (text : List ℕ) (n : ℕ) where
     whole : last ≡ length text
     whole = p .counted ∙ zero-add (length text)
 
-    pub settled-whole : last ≤ length out → Gives (placed text n) (Printed last) out
+    pub settled-whole : last ≤ length out → PrintGives (placed text n) (Printed last) out
     unfolding padded
     settled-whole h =
         let fits : length text ≤ n = omega (arith, same-length, whole) in
@@ -102,23 +102,23 @@ module _ (text : List ℕ) (n : ℕ) where
               ∙ ap (λ (r : List ℕ). text ++ r) (drop-zeros (length text) n);
         })
 
-    pub settled-over : length out < last → {after : List ℕ} → after ≡ replicate (length out) 0 → Gives (placed text n) (Refused 20) after
-    unfolding refused
+    pub settled-over : length out < last → {after : List ℕ} → after ≡ replicate (length out) 0 → PrintGives (placed text n) (Refused 20) after
+    unfolding not-printed
     settled-over h e =
         let over : n < length text = omega (arith, same-length, whole) in
         rw (placed-over over)
         (record { answered = refl; left = e ∙ ap (λ (j : ℕ). replicate {A = ℕ} j 0) same-length })
 
 module _ (l : Lent) (n : ℕ) where
-  stopped : (refusal l ≡ 0 → ⊥) → printing l n ≡ refused (refusal l) n
+  stopped : (refusal l ≡ 0 → ⊥) → printing l n ≡ not-printed (refusal l) n
   unfolding printing
   stopped h =
-      ap (λ (b : Bool). cond b (placed (lines (task-of l)) n) (refused (refusal l) n)) (ne-eqb (refusal l) 0 h)
+      ap (λ (b : Bool). cond b (placed (lines (task-of l)) n) (not-printed (refusal l) n)) (ne-eqb (refusal l) 0 h)
 
   pub passes : refusal l ≡ 0 → printing l n ≡ placed (lines (task-of l)) n
   unfolding printing
   passes e =
-      ap (λ (b : Bool). cond b (placed (lines (task-of l)) n) (refused (refusal l) n)) (eq-eqb (refusal l) 0 e)
+      ap (λ (b : Bool). cond b (placed (lines (task-of l)) n) (not-printed (refusal l) n)) (eq-eqb (refusal l) 0 e)
 
   module _ {out : List ℕ} where
     pub printing-refused :
@@ -126,14 +126,14 @@ module _ (l : Lent) (n : ℕ) where
         → number ≡ refusal l
         → (number ≡ 0 → ⊥)
         → out ≡ replicate n 0
-        → Gives (printing l n) (Refused number) out
-    unfolding refused
+        → PrintGives (printing l n) (Refused number) out
+    unfolding not-printed
     printing-refused number e h z =
         rw (stopped (λ k. h (e ∙ k))) (record { answered = ap Refused e; left = z })
 
     pub printing-passed :
         (answer : PrintAnswer)
         → refusal l ≡ 0
-        → Gives (placed (lines (task-of l)) n) answer out
-        → Gives (printing l n) answer out
+        → PrintGives (placed (lines (task-of l)) n) answer out
+        → PrintGives (printing l n) answer out
     printing-passed answer e g = rw (passes e) g

@@ -7,7 +7,7 @@ use lib.ListN.{replicate}
 use Rattle.task.specs.Table.{Lent, task-of}
 use Rattle.task.proofs.Kept.{kept-rules}
 use Rattle.task.proofs.Passed.{passed, counts-tested}
-use Rattle.file_format.specs.Reading.{Lengths, Outcome, rejected, reading}
+use Rattle.file_format.specs.Reading.{Lengths, Verdict, rejected, reading}
 use Rattle.entry_tables.proofs.Reading.{ReadAs, same-reading}
 use Rattle.layouts.specs.Layout.{tables-bytes, laid}
 use Rattle.layouts.specs.Giving.{Lays, flat-bytes, LayIn}
@@ -46,8 +46,8 @@ read-refused m file n e q c = rw e (record { told = q; held = c })
 pub read-settled : (m : Lengths) (file : List ℕ) (n : ℕ) {r : ℕ} {out : List ℕ} → (r ≡ 5 → ⊥) → Lays (read-entry-by (reading m file) n) r out → Lays (read-entry file n) r out
 unfolding read-entry read-entry-by
 read-settled m file n {r} {out} d g =
-    subst (λ (x : Outcome). Lays (read-entry-by x n) r out)
-    (same-reading m file (λ e. d (g .told ∙ ap (λ (x : Outcome). read-entry-by x n .number) e)))
+    subst (λ (x : Verdict). Lays (read-entry-by x n) r out)
+    (same-reading m file (λ e. d (g .told ∙ ap (λ (x : Verdict). read-entry-by x n .number) e)))
     g
 
 -- the length of what is read into, as a call before left it

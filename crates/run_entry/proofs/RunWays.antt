@@ -14,9 +14,9 @@ use Rattle.task.proofs.Bounded.{and-left, and-right}
 use Rattle.task.proofs.Held.{length-initial}
 use Rattle.task.proofs.Kept.{kept-rules}
 use Rattle.task.proofs.Passed.{passed, counts-tested}
-use Rattle.file_format.specs.Reading.{Lengths, Outcome, accepted, rejected, reading}
+use Rattle.file_format.specs.Reading.{Lengths, Verdict, accepted, rejected, reading}
 use Rattle.plan.specs.declared.outcome.RunOutcome.{RunOutcome}
-use Rattle.plan.specs.Outcome.{state-kept, scratch-kept, sequence-kept, early-refusal, run-refusal, end-of, run-answer, run-told, run-by, ran, RunGives}
+use Rattle.plan.specs.Outcome.{state-kept, step-scratch-kept, sequence-kept, early-refusal, run-refusal, end-of, run-answer, run-told, run-by, ran, RunGives}
 use Rattle.task.specs.Words.{padded}
 use Rattle.layouts.specs.Layout.{low-bytes, numbers-of, run-number, flag, stop-number, run-bytes}
 use Rattle.layouts.specs.Giving.{stop-of, plan-of, outcome-bytes, ResultGives}
@@ -60,7 +60,7 @@ pub result-room : {l : Lent} {s q numbers scratch : List ℕ} {r : ℕ} → RunI
 result-room {l} {s} {q} {numbers} {scratch} {r} i = free-of (l .head .variables) s q r (i .run .free) .room
 
 not-refused : (l : Lent) (s q numbers scratch : List ℕ) (r : ℕ) → RunIn l s q numbers scratch r → run-refusal l s (numbers-of q) scratch ≡ 0
-unfolding run-refusal early-refusal state-kept scratch-kept sequence-kept
+unfolding run-refusal early-refusal state-kept step-scratch-kept sequence-kept
 not-refused l s q numbers scratch r i =
     let f = free-of (l .head .variables) s q r (i .run .free) in
     let room : leb (l .head .formulas + l .head .effects) (length scratch) ≡ true =
@@ -175,8 +175,8 @@ module _ (m : Lengths) (file s q : List ℕ) (n : ℕ) {r : ℕ} {s′ result : 
   pub run-settled : (r ≡ 5 → ⊥) → RunEntryGives (run-entry file s q n) r s′ result
   unfolding run-entry run-entry-by
   run-settled d =
-      subst (λ (x : Outcome). RunEntryGives (run-entry-by x s q n) r s′ result)
-      (same-reading m file (λ e. d (g .told ∙ ap (λ (x : Outcome). run-entry-by x s q n .number) e)))
+      subst (λ (x : Verdict). RunEntryGives (run-entry-by x s q n) r s′ result)
+      (same-reading m file (λ e. d (g .told ∙ ap (λ (x : Verdict). run-entry-by x s q n .number) e)))
       g
 
   -- .. and after 5 the state is as it was: nothing ran
@@ -190,7 +190,7 @@ module _ (m : Lengths) (file s q : List ℕ) (n : ℕ) {r : ℕ} {s′ result : 
           (unfold plain-run in stop-not-five t (record { state = s; steps = 0; cost = 0 }) (numbers-of q) (sym (h .told) ∙ five))
       by-number t (suc k) h = h .left
 
-      go : (x : Outcome) → reading m file ≡ x → s′ ≡ s
+      go : (x : Verdict) → reading m file ≡ x → s′ ≡ s
       go (accepted t) e = by-number t (run-number (length (t .initial)) s q n) (rw e at g)
       go (rejected k) e =
           let h : RunEntryGives (run-entry-by (rejected k) s q n) r s′ result = rw e at g in

@@ -4,7 +4,7 @@ use mathlib.Core.List.{List}
 use lib.ListN.{length}
 use Rattle.task.specs.Table.{Task}
 use Rattle.task.specs.Run.{plain-run}
-use Rattle.file_format.specs.Reading.{Outcome, accepted, rejected, reading}
+use Rattle.file_format.specs.Reading.{Verdict, accepted, rejected, reading}
 use Rattle.task.specs.Words.{padded}
 use Rattle.entry_tables.specs.Own.{own}
 use Rattle.layouts.specs.Layout.{numbers-of, run-number, stop-number, run-bytes, zeros}
@@ -21,7 +21,7 @@ run-given zero t state sequence r =
     record { number = stop-number (run .stop); state = run .state; result = padded r (run-bytes run) }
 run-given (suc k) t state sequence r = record { number = suc k; state = state; result = zeros r }
 
-unfoldable pub run-entry-by : Outcome → (state sequence : List ℕ) → ℕ → RunEntry
+unfoldable pub run-entry-by : Verdict → (state sequence : List ℕ) → ℕ → RunEntry
 run-entry-by (accepted t) state sequence r = run-given (run-number (length (t .initial)) state sequence r) t state sequence r
 run-entry-by (rejected k) state sequence r = record { number = k; state = state; result = zeros r }
 

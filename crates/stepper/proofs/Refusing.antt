@@ -14,7 +14,7 @@ use Rattle.task.proofs.Bounded.{and-left, and-right, every-at}
 use Rattle.task.proofs.Held.{length-initial, length-formulas, length-effects, length-operators, formula-held, effect-held, operator-held, goal-held}
 use Rattle.task.proofs.Kept.{kept-rules}
 use Rattle.steps.specs.Steps.{TablesReady, Ready}
-use Rattle.stepper.specs.Stepped.{state-kept, scratch-kept, first-of, early-refusal}
+use Rattle.stepper.specs.Stepped.{state-kept, step-scratch-kept, first-of, early-refusal}
 
 pub first : (n rest : ℕ) → (n ≡ 0 → ⊥) → n ≡ first-of n rest
 first zero rest d = absurd (d refl)
@@ -41,7 +41,7 @@ module _ (l : Lent) (s scratch : List ℕ) (n : ℕ) (checked : n ≡ refusal l)
   pub refused-tables : (n ≡ 0 → ⊥) → n ≡ early-refusal l s scratch
   unfolding early-refusal
   refused-tables d = rw (← checked)
-      (first n (unless (state-kept (l .head .variables) s) 16 (unless (scratch-kept (l .head) scratch) 14 0)) d)
+      (first n (unless (state-kept (l .head .variables) s) 16 (unless (step-scratch-kept (l .head) scratch) 14 0)) d)
 
   module _ (passed : n ≡ 0) where
     none : refusal l ≡ 0
@@ -57,7 +57,7 @@ module _ (l : Lent) (s scratch : List ℕ) (n : ℕ) (checked : n ≡ refusal l)
       refused-bits e = rw (none, eq-eqb (length s) (l .head .variables) size, ← bits, e)
 
       pub refused-room : told ≡ true → length scratch < l .head .formulas + l .head .effects → 14 ≡ early-refusal l s scratch
-      unfolding early-refusal state-kept scratch-kept
+      unfolding early-refusal state-kept step-scratch-kept
       refused-room e h =
           rw (
             none,
@@ -68,7 +68,7 @@ module _ (l : Lent) (s scratch : List ℕ) (n : ℕ) (checked : n ≡ refusal l)
           )
 
       pub not-refused : told ≡ true → l .head .formulas + l .head .effects ≤ length scratch → 0 ≡ early-refusal l s scratch
-      unfolding early-refusal state-kept scratch-kept
+      unfolding early-refusal state-kept step-scratch-kept
       not-refused e h =
           rw (
             none,
@@ -102,17 +102,17 @@ module _ (l : Lent) (passed : refusal l ≡ 0) where
 
 module _ (l : Lent) (s scratch : List ℕ) (passed : early-refusal l s scratch ≡ 0) where
   later : ℕ
-  later = unless (state-kept (l .head .variables) s) 16 (unless (scratch-kept (l .head) scratch) 14 0)
+  later = unless (state-kept (l .head .variables) s) 16 (unless (step-scratch-kept (l .head) scratch) 14 0)
 
   tables-passed : refusal l ≡ 0
   unfolding early-refusal later
   tables-passed = first-none (refusal l) later passed
 
   pub ready : Ready (l .head) (l .formulas) (l .effects) (l .operators) s scratch
-  unfolding early-refusal later state-kept scratch-kept
+  unfolding early-refusal later state-kept step-scratch-kept
   ready =
       let rest = rest-none (refusal l) later passed in
-      let room = unless (scratch-kept (l .head) scratch) 14 0 in
+      let room = unless (step-scratch-kept (l .head) scratch) 14 0 in
       let size = eqb (length s) (l .head .variables) in
       let bits = every (length s) (λ v. leb (getD s v 0) 1) in
       let both : (size && bits) ≡ true = unless-kept (state-kept (l .head .variables) s) 16 room (omega arith) rest in
@@ -128,6 +128,6 @@ module _ (l : Lent) (s scratch : List ℕ) (passed : early-refusal l s scratch �
             };
         room =
             leb-true (l .head .formulas + l .head .effects) (length scratch)
-            (unless-kept (scratch-kept (l .head) scratch) 14 0 (omega arith)
+            (unless-kept (step-scratch-kept (l .head) scratch) 14 0 (omega arith)
             (unless-rest (state-kept (l .head .variables) s) 16 room (omega arith) rest));
       }

@@ -14,8 +14,8 @@ use Rattle.task.specs.Run.{Run, Stop, ended, stopped, plain-run}
 use Rattle.stepper.specs.declared.StepOutcome.{StepOutcome}
 
 -- 14: F + E bytes, of any content. One byte fewer is refused even if the operator's own rows would fit.
-unfoldable pub scratch-kept : Head → List ℕ → Bool
-scratch-kept h scratch = leb (h .formulas + h .effects) (length scratch)
+unfoldable pub step-scratch-kept : Head → List ℕ → Bool
+step-scratch-kept h scratch = leb (h .formulas + h .effects) (length scratch)
 
 -- the first number, unless it is 0
 abbrev pub first-of : ℕ → ℕ → ℕ
@@ -25,7 +25,7 @@ first-of (suc n) rest = suc n
 -- what refuses a step before its operator is looked at: the tables' own, 16, 14. A wrong state with too short a scratch is 16.
 unfoldable pub early-refusal : Lent → (state scratch : List ℕ) → ℕ
 early-refusal l s scratch =
-    first-of (refusal l) (unless (state-kept (l .head .variables) s) 16 (unless (scratch-kept (l .head) scratch) 14 0))
+    first-of (refusal l) (unless (state-kept (l .head .variables) s) 16 (unless (step-scratch-kept (l .head) scratch) 14 0))
 
 -- What a call of `step` leaves.
 pub record Stepped : Type 0 where

@@ -9,14 +9,14 @@ use Rattle.task.specs.Table.{Row, Operator, Task}
 use Rattle.task.specs.Words.{words-of, operator-words}
 use Rattle.task_file.specs.declared.Place.{Place}
 use Rattle.task_file.specs.declared.Place.the-variants.{At, Nowhere}
-use Rattle.file_format.specs.Parse.{Parsed, parsed, refused, next, table-read}
+use Rattle.file_format.specs.Parse.{Parsed, parsed, unparsed, next, table-read}
 use Rattle.file_format.specs.Reading.{initial-read, twin-read, formula-read, effect-read, operator-read, tables-read}
 use Rattle.task_file.specs.Tables.{words-read}
 use Rattle.task_file.specs.Answers.{ReadPart, place-told}
 use Rattle.task_file.specs.Filling.{RowTables, rows-behind, AllTables, all-behind, all-words, part-told, RowsFilled, AllFilled}
 
 -- what a part's answer says of its outcome
-part-lost : {n k : ℕ} {file : List ℕ} {o : Parsed (List ℕ)} {r : Place} {b a : List ℕ} → ReadPart n file o r b a → r ≡ Nowhere k → o ≡ refused k
+part-lost : {n k : ℕ} {file : List ℕ} {o : Parsed (List ℕ)} {r : Place} {b a : List ℕ} → ReadPart n file o r b a → r ≡ Nowhere k → o ≡ unparsed k
 part-lost {n} {k} {file} {o} {r} {b} {a} p e = sym (p .told) ∙ ap (place-told file (take n a)) e
 
 part-there : {n at : ℕ} {file : List ℕ} {o : Parsed (List ℕ)} {r : Place} {b a : List ℕ} → ReadPart n file o r b a → r ≡ At at → o ≡ parsed (take n a) (drop at file)
@@ -152,26 +152,26 @@ module _ (W : List ℕ → Parsed (List ℕ)) (F E : List ℕ → Parsed (List R
 
   nests : (oi : Parsed (List ℕ)) → words-nest oi ≡ next (task-nest oi) (λ t. parsed (all-words t))
   unfolding words-nest task-nest next
-  nests (refused n) = refl
+  nests (unparsed n) = refl
   nests (parsed i rest) = go1 (W rest) refl
     where
       Goal : Type 0
       Goal = words-nest (parsed i rest) ≡ next (task-nest (parsed i rest)) (λ t. parsed (all-words t))
 
       go4 : (w r1 : List ℕ) → W rest ≡ parsed w r1 → (f : List Row) (r2 : List ℕ) → F r1 ≡ parsed f r2 → (e : List Row) (r3 : List ℕ) → E r2 ≡ parsed e r3 → (o : Parsed (List Operator)) → O r3 ≡ o → Goal
-      go4 w r1 e1 f r2 e2 e r3 e3 (refused n) e4 = rw (e1, e2, e3, e4)
+      go4 w r1 e1 f r2 e2 e r3 e3 (unparsed n) e4 = rw (e1, e2, e3, e4)
       go4 w r1 e1 f r2 e2 e r3 e3 (parsed o r4) e4 = rw (e1, e2, e3, e4)
 
       go3 : (w r1 : List ℕ) → W rest ≡ parsed w r1 → (f : List Row) (r2 : List ℕ) → F r1 ≡ parsed f r2 → (o : Parsed (List Row)) → E r2 ≡ o → Goal
-      go3 w r1 e1 f r2 e2 (refused n) e3 = rw (e1, e2, e3)
+      go3 w r1 e1 f r2 e2 (unparsed n) e3 = rw (e1, e2, e3)
       go3 w r1 e1 f r2 e2 (parsed e r3) e3 = go4 w r1 e1 f r2 e2 e r3 e3 (O r3) refl
 
       go2 : (w r1 : List ℕ) → W rest ≡ parsed w r1 → (o : Parsed (List Row)) → F r1 ≡ o → Goal
-      go2 w r1 e1 (refused n) e2 = rw (e1, e2)
+      go2 w r1 e1 (unparsed n) e2 = rw (e1, e2)
       go2 w r1 e1 (parsed f r2) e2 = go3 w r1 e1 f r2 e2 (E r2) refl
 
       go1 : (o : Parsed (List ℕ)) → W rest ≡ o → Goal
-      go1 (refused n) e1 = rw e1
+      go1 (unparsed n) e1 = rw e1
       go1 (parsed w r1) e1 = go2 w r1 e1 (F r1) refl
 
 pub all-read : (h : Head) (bytes : List ℕ) → all-behind h bytes ≡ next (tables-read h bytes) (λ t. parsed (all-words t))

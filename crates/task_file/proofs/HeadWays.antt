@@ -9,7 +9,7 @@ use lib.Dec.{ltb, leb}
 use borrow.Author.Tests.{le-ltb, lt-ltb, le-leb}
 use Rattle.task.specs.declared.Head.{Head}
 use Rattle.task.specs.Check.{counts-kept, goal-kept}
-use Rattle.file_format.specs.Parse.{Parsed, parsed, refused, next, kept, byte-read, field-read, fields-read, mapped-read}
+use Rattle.file_format.specs.Parse.{Parsed, parsed, unparsed, next, kept, byte-read, field-read, fields-read, mapped-read}
 use Rattle.file_format.specs.Reading.{Lengths, room, head-clear, head-from, head-read, head-kept}
 use Rattle.task_file.proofs.Places.{byte-ends, byte-here}
 
@@ -27,19 +27,19 @@ fields-split k m bytes = go1 (field-read (m % 2) bytes) refl
         ≡ next (fields-read 3 m bytes) (λ ws rest. next (fields-read k (m / 2 / 2 / 2) rest) (λ vs. parsed (ws ++ vs)))
 
     go4 : (a : ℕ) (r1 : List ℕ) → field-read (m % 2) bytes ≡ parsed a r1 → (b : ℕ) (r2 : List ℕ) → field-read (m / 2 % 2) r1 ≡ parsed b r2 → (c : ℕ) (r3 : List ℕ) → field-read (m / 2 / 2 % 2) r2 ≡ parsed c r3 → (o : Parsed (List ℕ)) → fields-read k (m / 2 / 2 / 2) r3 ≡ o → Goal
-    go4 a r1 e1 b r2 e2 c r3 e3 (refused n) e = rw (e1, e2, e3, e)
+    go4 a r1 e1 b r2 e2 c r3 e3 (unparsed n) e = rw (e1, e2, e3, e)
     go4 a r1 e1 b r2 e2 c r3 e3 (parsed ws r4) e = rw (e1, e2, e3, e)
 
     go3 : (a : ℕ) (r1 : List ℕ) → field-read (m % 2) bytes ≡ parsed a r1 → (b : ℕ) (r2 : List ℕ) → field-read (m / 2 % 2) r1 ≡ parsed b r2 → (o : Parsed ℕ) → field-read (m / 2 / 2 % 2) r2 ≡ o → Goal
-    go3 a r1 e1 b r2 e2 (refused n) e = rw (e1, e2, e)
+    go3 a r1 e1 b r2 e2 (unparsed n) e = rw (e1, e2, e)
     go3 a r1 e1 b r2 e2 (parsed c r3) e = go4 a r1 e1 b r2 e2 c r3 e (fields-read k (m / 2 / 2 / 2) r3) refl
 
     go2 : (a : ℕ) (r1 : List ℕ) → field-read (m % 2) bytes ≡ parsed a r1 → (o : Parsed ℕ) → field-read (m / 2 % 2) r1 ≡ o → Goal
-    go2 a r1 e1 (refused n) e = rw (e1, e)
+    go2 a r1 e1 (unparsed n) e = rw (e1, e)
     go2 a r1 e1 (parsed b r2) e = go3 a r1 e1 b r2 e (field-read (m / 2 / 2 % 2) r2) refl
 
     go1 : (o : Parsed ℕ) → field-read (m % 2) bytes ≡ o → Goal
-    go1 (refused n) e = rw e
+    go1 (unparsed n) e = rw e
     go1 (parsed a r1) e = go2 a r1 e (field-read (m / 2 % 2) r1) refl
 
 six-split : (m : ℕ) (bytes : List ℕ) → fields-read 6 m bytes ≡ next (fields-read 3 m bytes) (λ ws rest. next (fields-read 3 (m / 8) rest) (λ vs. parsed (ws ++ vs)))
@@ -47,24 +47,24 @@ six-split m bytes =
     let e : m / 2 / 2 / 2 ≡ m / 8 = omega arith in
     rw e at (fields-split 3 m bytes)
 
-pub head-ends : (file : List ℕ) → length file ≡ 0 → head-read file ≡ refused 1
+pub head-ends : (file : List ℕ) → length file ≡ 0 → head-read file ≡ unparsed 1
 unfolding head-read mapped-read next
 head-ends file e =
     let h : length file ≤ 0 = omega arith in
     rw (byte-ends file 0 h)
 
 module _ (file : List ℕ) (some : 0 < length file) where
-  pub head-unclear : 64 ≤ getD file 0 0 → head-read file ≡ refused 2
+  pub head-unclear : 64 ≤ getD file 0 0 → head-read file ≡ unparsed 2
   unfolding head-read mapped-read next kept
   head-unclear h = rw (byte-here file 0 some, le-ltb (getD file 0 0) 64 h)
 
   module _ (clear : getD file 0 0 < 64) where
-    pub lower-refused : {n : ℕ} → fields-read 3 (getD file 0 0) (drop 1 file) ≡ refused n → head-read file ≡ refused n
+    pub lower-refused : {n : ℕ} → fields-read 3 (getD file 0 0) (drop 1 file) ≡ unparsed n → head-read file ≡ unparsed n
     unfolding head-read mapped-read next kept
     lower-refused e = rw (byte-here file 0 some, lt-ltb (getD file 0 0) 64 clear, six-split (getD file 0 0) (drop 1 file), e)
 
     module _ {a b c : ℕ} {rest : List ℕ} (lower : fields-read 3 (getD file 0 0) (drop 1 file) ≡ parsed (a ∷ b ∷ c ∷ []) rest) where
-      pub upper-refused : {n : ℕ} → fields-read 3 (getD file 0 0 / 8) rest ≡ refused n → head-read file ≡ refused n
+      pub upper-refused : {n : ℕ} → fields-read 3 (getD file 0 0 / 8) rest ≡ unparsed n → head-read file ≡ unparsed n
       unfolding head-read mapped-read next kept
       upper-refused e = rw (byte-here file 0 some, lt-ltb (getD file 0 0) 64 clear, six-split (getD file 0 0) (drop 1 file), lower, e)
 
@@ -77,20 +77,20 @@ module _ (file : List ℕ) (some : 0 < length file) where
 
 -- the head's own numbers
 module _ (l : Lengths) (file : List ℕ) where
-  pub no-head : {n : ℕ} → head-read file ≡ refused n → next (head-read file) (head-kept l) ≡ refused n
+  pub no-head : {n : ℕ} → head-read file ≡ unparsed n → next (head-read file) (head-kept l) ≡ unparsed n
   unfolding next
   no-head e = rw e
 
   module _ {h : Head} {rest : List ℕ} (there : head-read file ≡ parsed h rest) where
-    pub six : counts-kept h ≡ false → next (head-read file) (head-kept l) ≡ refused 6
+    pub six : counts-kept h ≡ false → next (head-read file) (head-kept l) ≡ unparsed 6
     unfolding next head-kept kept
     six e = rw (there, e)
 
-    pub seven : counts-kept h ≡ true → goal-kept h ≡ false → next (head-read file) (head-kept l) ≡ refused 7
+    pub seven : counts-kept h ≡ true → goal-kept h ≡ false → next (head-read file) (head-kept l) ≡ unparsed 7
     unfolding next head-kept kept
     seven e f = rw (there, e, f)
 
-    pub five : counts-kept h ≡ true → goal-kept h ≡ true → room l h ≡ false → next (head-read file) (head-kept l) ≡ refused 5
+    pub five : counts-kept h ≡ true → goal-kept h ≡ true → room l h ≡ false → next (head-read file) (head-kept l) ≡ unparsed 5
     unfolding next head-kept kept
     five e f g = rw (there, e, f, g)
 

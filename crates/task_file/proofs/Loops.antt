@@ -13,7 +13,7 @@ use Rattle.task.specs.declared.Table.{Table}
 use Rattle.task.specs.declared.Table.the-variants.{Formulas, Effects, Operators}
 use Rattle.task.specs.Words.{joined, row-words, operator-row-words, words-of, operator-words}
 use Rattle.task.proofs.Words.{joined-append}
-use Rattle.file_format.specs.Parse.{Parsed, parsed, refused, next, table-read}
+use Rattle.file_format.specs.Parse.{Parsed, parsed, unparsed, next, table-read}
 use Rattle.file_format.specs.Reading.{row-read, operator-fields-read, formula-read, effect-read, operator-read}
 use Rattle.task_file.specs.Tables.{kept-words-read, words-read}
 use Rattle.task_file.specs.declared.Place.{Place}
@@ -26,24 +26,24 @@ module _ (p : ℕ → Parsed (List ℕ)) (q : ℕ → List ℕ → List ℕ → 
   unfolding next
   one-more i e f = rw (add-one i, step i, e, f)
 
-  still-refused : (i : ℕ) {n : ℕ} → p i ≡ refused n → p (suc i) ≡ refused n
+  still-refused : (i : ℕ) {n : ℕ} → p i ≡ unparsed n → p (suc i) ≡ unparsed n
   unfolding next
   still-refused i e = rw (step i, e)
 
-  from-there : (i : ℕ) {n : ℕ} → p i ≡ refused n → (count : ℕ) → i ≤ count → p count ≡ refused n
+  from-there : (i : ℕ) {n : ℕ} → p i ≡ unparsed n → (count : ℕ) → i ≤ count → p count ≡ unparsed n
   from-there i e zero h = rw (← (lt-one i h)) e
     where
       lt-one : (k : ℕ) → k ≤ 0 → k ≡ 0
       lt-one k h = omega arith
   from-there i {n} e (suc count) h = go (from-there i e count) (decLt count i)
     where
-      go : (i ≤ count → p count ≡ refused n) → Dec (count < i) → p (suc count) ≡ refused n
+      go : (i ≤ count → p count ≡ unparsed n) → Dec (count < i) → p (suc count) ≡ unparsed n
       go ih (yes l) =
           let same : i ≡ suc count = omega arith in
           rw (← same) e
       go ih (no m) = still-refused count (ih (omega arith))
 
-  pub stopped : (i : ℕ) {ws rest : List ℕ} {n : ℕ} → p i ≡ parsed ws rest → q i ws rest ≡ refused n → (count : ℕ) → i < count → p count ≡ refused n
+  pub stopped : (i : ℕ) {ws rest : List ℕ} {n : ℕ} → p i ≡ parsed ws rest → q i ws rest ≡ unparsed n → (count : ℕ) → i < count → p count ≡ unparsed n
   unfolding next
   stopped i e f count h = from-there (suc i) (rw (step i, e, f)) count h
 
@@ -58,14 +58,14 @@ module _ {A : Type 0} (row : List ℕ → Parsed A) (words : A → List ℕ) whe
       → next (next o (λ done rest. next (row rest) (λ r. parsed (done ++ (r ∷ []))))) (λ rows. parsed (joined words rows))
       ≡ next (next o (λ rows. parsed (joined words rows))) (λ ws rest. next (next (row rest) (λ r. parsed (words r))) (λ x. parsed (ws ++ x)))
   unfolding next
-  more-words (refused n) = refl
+  more-words (unparsed n) = refl
   more-words (parsed done rest) = go (row rest)
     where
       go :
           (o : Parsed A)
           → next (next o (λ r. parsed (done ++ (r ∷ [])))) (λ rows. parsed (joined words rows))
           ≡ next (next o (λ r. parsed (words r))) (λ x. parsed (joined words done ++ x))
-      go (refused n) = refl
+      go (unparsed n) = refl
       go (parsed r rest′) = ap {B = Parsed (List ℕ)} (λ (l : List ℕ). parsed l rest′) (snoc-words done r)
 
 pub rows-step :
@@ -121,7 +121,7 @@ module _ (n : ℕ → ℕ) (p : ℕ → Parsed (List ℕ)) (q : ℕ → List ℕ
       (words : List ℕ) (i place : ℕ) {k : ℕ} {r : Place}
       → Done n p count file before words i place
       → i < count
-      → q i (take (n i) words) (drop place file) ≡ refused k
+      → q i (take (n i) words) (drop place file) ≡ unparsed k
       → r ≡ Nowhere k
       → (after : List ℕ)
       → drop (n count) after ≡ drop (n count) words
@@ -179,7 +179,7 @@ module _ (table : Table) (h : Head) (count : ℕ) (file : List ℕ) (at : ℕ) (
       (words : List ℕ) (i place : ℕ) {k : ℕ} {r : Place}
       → RowsDone words i place
       → i < count
-      → kept-words-read table h i (drop place file) ≡ refused k
+      → kept-words-read table h i (drop place file) ≡ unparsed k
       → r ≡ Nowhere k
       → ReadPart (3 * count) file (words-read table h count (drop at file)) r before words
   rows-refused words i place d l e f =

@@ -10,10 +10,10 @@ use lib.ListN.{length, getD, drop, drop-of-length-le}
 use lib.Seq.{drop-cons}
 use lib.Dec.{ltb}
 use borrow.Author.Tests.{le-ltb, lt-ltb}
-use Rattle.file_format.specs.Parse.{Parsed, parsed, refused, next, kept, byte-read, word-read, field-read, fields-read}
+use Rattle.file_format.specs.Parse.{Parsed, parsed, unparsed, next, kept, byte-read, word-read, field-read, fields-read}
 
 -- nothing stands behind the end
-pub byte-ends : (file : List ℕ) (at : ℕ) → length file ≤ at → byte-read (drop at file) ≡ refused 1
+pub byte-ends : (file : List ℕ) (at : ℕ) → length file ≤ at → byte-read (drop at file) ≡ unparsed 1
 unfolding byte-read
 byte-ends file at h = rw (drop-of-length-le file h)
 
@@ -21,11 +21,11 @@ pub byte-here : (file : List ℕ) (at : ℕ) → at < length file → byte-read 
 unfolding byte-read
 byte-here file at h = rw (add-one at, drop-cons file at 0 h)
 
-pub word-ends : (file : List ℕ) (at : ℕ) → length file ≤ at + 1 → word-read (drop at file) ≡ refused 1
+pub word-ends : (file : List ℕ) (at : ℕ) → length file ≤ at + 1 → word-read (drop at file) ≡ unparsed 1
 unfolding word-read next
 word-ends file at h = go (decLt at (length file))
   where
-    go : Dec (at < length file) → word-read (drop at file) ≡ refused 1
+    go : Dec (at < length file) → word-read (drop at file) ≡ unparsed 1
     go (yes l) = rw (byte-here file at l, byte-ends file (at + 1) h)
     go (no m) =
         let past : length file ≤ at = omega arith in
@@ -55,11 +55,11 @@ module _ (bit : ℕ) (bytes : List ℕ) (there : bit ≡ 0 → ⊥) where
       go zero e = absurd (there e)
       go (suc b) e = rw e
 
-  pub field-refused : {n : ℕ} → word-read bytes ≡ refused n → field-read bit bytes ≡ refused n
+  pub field-refused : {n : ℕ} → word-read bytes ≡ unparsed n → field-read bit bytes ≡ unparsed n
   unfolding next
   field-refused e = rw (field-present, e)
 
-  pub field-zero : {w : ℕ} {rest : List ℕ} → w ≡ 0 → word-read bytes ≡ parsed w rest → field-read bit bytes ≡ refused 3
+  pub field-zero : {w : ℕ} {rest : List ℕ} → w ≡ 0 → word-read bytes ≡ parsed w rest → field-read bit bytes ≡ unparsed 3
   unfolding next kept
   field-zero z e = rw (field-present, e, z)
 

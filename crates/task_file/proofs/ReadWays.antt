@@ -18,11 +18,11 @@ use Rattle.task_file.specs.declared.Place.{Place}
 use Rattle.task_file.specs.declared.Place.the-variants.{At, Nowhere}
 use Rattle.task_file.specs.declared.ReadAnswer.{ReadAnswer}
 use Rattle.task_file.specs.declared.ReadAnswer.the-variants.{Read, Refused}
-use Rattle.file_format.specs.Parse.{Parsed, parsed, refused, next, kept}
-use Rattle.file_format.specs.Reading.{Lengths, room, head-read, head-kept, tables-read, task-read, Outcome, accepted, rejected, at-end, reading}
+use Rattle.file_format.specs.Parse.{Parsed, parsed, unparsed, next, kept}
+use Rattle.file_format.specs.Reading.{Lengths, room, head-read, head-kept, tables-read, task-read, Verdict, accepted, rejected, at-end, reading}
 use Rattle.task_file.specs.Answers.{lengths, Cleared}
 use Rattle.task_file.specs.Filling.{RowTables, AllTables, all-behind, all-words, part-told, RowsRoom, AllRoom, AllFilled}
-use Rattle.task_file.specs.Outcome.{ReadOutcome, outcome-of, read-outcome, left, read-answer, Holds, Filled}
+use Rattle.task_file.specs.Outcome.{ReadOutcome, outcome-of, read-outcome, read-left, read-answer, Holds, Filled}
 use Rattle.task.specs.Words.{padded}
 use Rattle.file_format.proofs.Parse.{Bytes, bytes-behind, parsed-value, parsed-rest, refused-parsed, Steps, next-parsed, Kept, kept-parsed}
 use Rattle.task_file.proofs.FillWays.{all-read}
@@ -38,7 +38,7 @@ bytes-drop (suc n) [] b = b
 bytes-drop (suc n) (x ∷ file) b = bytes-drop n file (b .1)
 
 -- an accepted task is the only one, and a refusal accepts none
-no-other : {n : ℕ} {o : Outcome} (t : Task) → o ≡ rejected n → o ≡ accepted t → ⊥
+no-other : {n : ℕ} {o : Verdict} (t : Task) → o ≡ rejected n → o ≡ accepted t → ⊥
 no-other t e f = let z : _≡_ {A = ℕ} 0 1 = cc in omega arith
 
 whole-part : (n : ℕ) (xs x′ x : List ℕ) → xs ≡ take n x′ → drop n x′ ≡ drop n x → n ≤ length x′ → x′ ≡ xs ++ drop (length xs) x
@@ -46,7 +46,7 @@ whole-part n xs x′ x e d h =
     let size : length xs ≡ n = ap length e ∙ length-take-le n x′ h in
     sym (take-append-drop n x′) ∙ rw (size, e, d)
 
-same-task : {o : Outcome} (t u : Task) → o ≡ accepted t → o ≡ accepted u → t ≡ u
+same-task : {o : Verdict} (t u : Task) → o ≡ accepted t → o ≡ accepted u → t ≡ u
 same-task t u e f = cc
 
 module _ (l : Lengths) (file : List ℕ) where
@@ -55,7 +55,7 @@ module _ (l : Lengths) (file : List ℕ) where
   by-head {o} e = go (head-read file) refl ∙ ap (λ (p : Parsed Head). next p tables-read) e
     where
       go : (p : Parsed Head) → head-read file ≡ p → task-read l file ≡ next (next (head-read file) (head-kept l)) tables-read
-      go (refused n) q = rw q
+      go (unparsed n) q = rw q
       go (parsed h rest) q = rw q
 
   -- what the head's own rules say
@@ -91,7 +91,7 @@ module _ (l : Lengths) (file : List ℕ) where
             few-variables = counts-tested h .0 c .variables;
           }
 
-  reading-lost : {n : ℕ} → task-read l file ≡ refused n → reading l file ≡ rejected n
+  reading-lost : {n : ℕ} → task-read l file ≡ unparsed n → reading l file ≡ rejected n
   unfolding reading at-end
   reading-lost e = rw e
 
@@ -99,7 +99,7 @@ module _ (l : Lengths) (file : List ℕ) where
     filled-lost : {n : ℕ} {r : ReadAnswer} → reading l file ≡ rejected n → r ≡ Refused n → Filled l file r i w f e o i′ w′ f′ e′ o′
     filled-lost q s = record { answer = s ∙ sym (ap read-answer q); tables = λ t u. absurd (no-other t q u) }
 
-    pub head-lost : {n : ℕ} {r : ReadAnswer} → next (head-read file) (head-kept l) ≡ refused n → r ≡ Refused n → Filled l file r i w f e o i′ w′ f′ e′ o′
+    pub head-lost : {n : ℕ} {r : ReadAnswer} → next (head-read file) (head-kept l) ≡ unparsed n → r ≡ Refused n → Filled l file r i w f e o i′ w′ f′ e′ o′
     unfolding next
     head-lost q s = filled-lost (reading-lost (by-head q)) s
 
@@ -121,15 +121,15 @@ module _ (l : Lengths) (file : List ℕ) where
       unfolding next
       by-tables = by-head head
 
-      tables-lost : {n : ℕ} → p ≡ Nowhere n → tables-read h (drop at file) ≡ refused n
+      tables-lost : {n : ℕ} → p ≡ Nowhere n → tables-read h (drop at file) ≡ unparsed n
       unfolding next X
       tables-lost {n} q = go (tables-read h (drop at file)) refl (sym (all-read h (drop at file)) ∙ sym (filled .told) ∙ ap (part-told file X) q)
         where
-          go : (s : Parsed Task) → tables-read h (drop at file) ≡ s → next (tables-read h (drop at file)) (λ t. parsed (all-words t)) ≡ refused n → tables-read h (drop at file) ≡ refused n
-          go (refused k) a b =
-              let g : _≡_ {A = Parsed AllTables} (refused k) (refused n) = rw a at b in
+          go : (s : Parsed Task) → tables-read h (drop at file) ≡ s → next (tables-read h (drop at file)) (λ t. parsed (all-words t)) ≡ unparsed n → tables-read h (drop at file) ≡ unparsed n
+          go (unparsed k) a b =
+              let g : _≡_ {A = Parsed AllTables} (unparsed k) (unparsed n) = rw a at b in
               let kn : k ≡ n = cc in
-              a ∙ ap {B = Parsed Task} refused kn
+              a ∙ ap {B = Parsed Task} unparsed kn
           go (parsed t rest) a b = absurd (refused-parsed (sym (rw a at b)))
 
       pub table-lost : {n : ℕ} {r : ReadAnswer} → p ≡ Nowhere n → r ≡ Refused n → Filled l file r i w f e o i′ w′ f′ e′ o′
@@ -239,22 +239,22 @@ module _ {i w f e o i1 w1 f1 e1 o1 : List ℕ} (clear : Cleared i w f e o i1 w1 
     again : Filled (lens i w f e o) file r i1 w1 f1 e1 o1 i2 w2 f2 e2 o2
     again = subst (λ (l : Lengths). Filled l file r i1 w1 f1 e1 o1 i2 w2 f2 e2 o2) same-lengths filled
 
-    pub read-held : {h : Head} → r ≡ Read h → left (Read h) i2 w2 f2 e2 o2 ≡ read-outcome (lens i w f e o) file
+    pub read-held : {h : Head} → r ≡ Read h → read-left (Read h) i2 w2 f2 e2 o2 ≡ read-outcome (lens i w f e o) file
     unfolding read-outcome outcome-of
     read-held {h} q = go (reading (lens i w f e o) file) refl (again .answer)
       where
         go :
-            (x : Outcome)
+            (x : Verdict)
             → reading (lens i w f e o) file ≡ x
             → r ≡ read-answer (reading (lens i w f e o) file)
-            → left (Read h) i2 w2 f2 e2 o2 ≡ outcome-of (lens i w f e o) (reading (lens i w f e o) file)
+            → read-left (Read h) i2 w2 f2 e2 o2 ≡ outcome-of (lens i w f e o) (reading (lens i w f e o) file)
         go (rejected n) a b = absurd (let g : Read h ≡ Refused n = sym q ∙ b ∙ ap read-answer a in let z : _≡_ {A = ℕ} 0 1 = cc in omega arith)
         go (accepted t) a b =
             let held = again .tables t a in
             let answer : Read h ≡ Read (head-of t) = sym q ∙ b ∙ ap read-answer a in
             rw a
             (λ j.
-            left (answer j) (filled-zeros i i1 i2 (t .initial) (clear .initial-clear) (held .initial) j)
+            read-left (answer j) (filled-zeros i i1 i2 (t .initial) (clear .initial-clear) (held .initial) j)
             (filled-zeros w w1 w2 (t .originals) (clear .twins-clear) (held .twins) j)
             (filled-zeros f f1 f2 (words-of (t .formulas)) (clear .formulas-clear) (held .formulas) j)
             (filled-zeros e e1 e2 (words-of (t .effects)) (clear .effects-clear) (held .effects) j)
@@ -269,21 +269,21 @@ module _ {i w f e o i1 w1 f1 e1 o1 : List ℕ} (clear : Cleared i w f e o i1 w1 
         → length f2 ≡ length f1
         → length e2 ≡ length e1
         → length o2 ≡ length o1
-        → left r i3 w3 f3 e3 o3 ≡ read-outcome (lens i w f e o) file
+        → read-left r i3 w3 f3 e3 o3 ≡ read-outcome (lens i w f e o) file
     unfolding read-outcome outcome-of
     read-lost {n} {i3} {w3} {f3} {e3} {o3} q c a b d g k = go (reading (lens i w f e o) file) refl (again .answer)
       where
         go :
-            (x : Outcome)
+            (x : Verdict)
             → reading (lens i w f e o) file ≡ x
             → r ≡ read-answer (reading (lens i w f e o) file)
-            → left r i3 w3 f3 e3 o3 ≡ outcome-of (lens i w f e o) (reading (lens i w f e o) file)
+            → read-left r i3 w3 f3 e3 o3 ≡ outcome-of (lens i w f e o) (reading (lens i w f e o) file)
         go (accepted t) x y = absurd (let m : Refused n ≡ Read (head-of t) = sym q ∙ y ∙ ap read-answer x in let z : _≡_ {A = ℕ} 0 1 = cc in omega arith)
         go (rejected m) x y =
             let answer : r ≡ Refused m = y ∙ ap read-answer x in
             rw x
             (λ j.
-            left (answer j) (zeros-again i i1 i2 i3 (clear .initial-clear) a (c .initial-clear) j)
+            read-left (answer j) (zeros-again i i1 i2 i3 (clear .initial-clear) a (c .initial-clear) j)
             (zeros-again w w1 w2 w3 (clear .twins-clear) b (c .twins-clear) j)
             (zeros-again f f1 f2 f3 (clear .formulas-clear) d (c .formulas-clear) j)
             (zeros-again e e1 e2 e3 (clear .effects-clear) g (c .effects-clear) j)

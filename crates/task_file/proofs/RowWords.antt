@@ -14,7 +14,7 @@ use Rattle.task.specs.Table.{Row, Operator}
 use Rattle.task.specs.Check.{formula-kept, effect-kept, operator-kept}
 use Rattle.task.specs.Tables.{words-kept}
 use Rattle.task.specs.Words.{row-words, operator-row-words}
-use Rattle.file_format.specs.Parse.{Parsed, parsed, refused, next, kept, byte-read, word-read, field-read, fields-read, mapped-read}
+use Rattle.file_format.specs.Parse.{Parsed, parsed, unparsed, next, kept, byte-read, word-read, field-read, fields-read, mapped-read}
 use Rattle.file_format.specs.Reading.{row-clear, row-from, row-read, operator-from, operator-clear, operator-fields-read, formula-read, effect-read, operator-read}
 use Rattle.task_file.specs.Tables.{map-clear, own-number, row-words-read, kept-words-read}
 use Rattle.task_file.specs.Answers.{row-told, arranged-row}
@@ -22,12 +22,12 @@ use Rattle.file_format.proofs.Parse.{parsed-value, parsed-rest, refused-parsed}
 
 -- three fields
 module _ (m : ℕ) (bytes : List ℕ) where
-  pub first-refused : {n : ℕ} → field-read (m % 2) bytes ≡ refused n → fields-read 3 m bytes ≡ refused n
+  pub first-refused : {n : ℕ} → field-read (m % 2) bytes ≡ unparsed n → fields-read 3 m bytes ≡ unparsed n
   unfolding fields-read next
   first-refused e = rw e
 
   module _ {a : ℕ} {r1 : List ℕ} (e1 : field-read (m % 2) bytes ≡ parsed a r1) where
-    pub second-refused : {n : ℕ} → field-read (m / 2 % 2) r1 ≡ refused n → fields-read 3 m bytes ≡ refused n
+    pub second-refused : {n : ℕ} → field-read (m / 2 % 2) r1 ≡ unparsed n → fields-read 3 m bytes ≡ unparsed n
     unfolding fields-read next
     second-refused e = rw (e1, e)
 
@@ -35,7 +35,7 @@ module _ (m : ℕ) (bytes : List ℕ) where
       quarter : m / 2 / 2 ≡ m / 4
       quarter = omega arith
 
-      pub third-refused : {n : ℕ} → field-read (m / 4 % 2) r2 ≡ refused n → fields-read 3 m bytes ≡ refused n
+      pub third-refused : {n : ℕ} → field-read (m / 4 % 2) r2 ≡ unparsed n → fields-read 3 m bytes ≡ unparsed n
       unfolding fields-read next
       third-refused e = rw (e1, e2, quarter, e)
 
@@ -60,19 +60,19 @@ module _ (m : ℕ) (bytes : List ℕ) (clear : m / 4 % 4 ≡ 0) where
 
   two-of-three : (o1 : Parsed ℕ) → field-read (m % 2) bytes ≡ o1 → fields-read 3 m bytes ≡ next (fields-read 2 m bytes) (λ ws. parsed (ws ++ (0 ∷ [])))
   unfolding fields-read next field-read
-  two-of-three (refused n) e = rw e
+  two-of-three (unparsed n) e = rw e
   two-of-three (parsed a r1) e = go (field-read (m / 2 % 2) r1) refl
     where
       go : (o2 : Parsed ℕ) → field-read (m / 2 % 2) r1 ≡ o2 → fields-read 3 m bytes ≡ next (fields-read 2 m bytes) (λ ws. parsed (ws ++ (0 ∷ [])))
-      go (refused n) e2 = rw (e, e2)
+      go (unparsed n) e2 = rw (e, e2)
       go (parsed b r2) e2 = rw (e, e2, third-clear)
 
-  two-refused : {n : ℕ} → fields-read 3 m bytes ≡ refused n → fields-read 2 m bytes ≡ refused n
+  two-refused : {n : ℕ} → fields-read 3 m bytes ≡ unparsed n → fields-read 2 m bytes ≡ unparsed n
   unfolding next
   two-refused {n} e = go (fields-read 2 m bytes) refl (sym (two-of-three (field-read (m % 2) bytes) refl) ∙ e)
     where
-      go : (o : Parsed (List ℕ)) → fields-read 2 m bytes ≡ o → next (fields-read 2 m bytes) (λ ws. parsed (ws ++ (0 ∷ []))) ≡ refused n → fields-read 2 m bytes ≡ refused n
-      go (refused k) e f = e ∙ (rw e at f ∙ cc)
+      go : (o : Parsed (List ℕ)) → fields-read 2 m bytes ≡ o → next (fields-read 2 m bytes) (λ ws. parsed (ws ++ (0 ∷ []))) ≡ unparsed n → fields-read 2 m bytes ≡ unparsed n
+      go (unparsed k) e f = e ∙ (rw e at f ∙ cc)
       go (parsed ws rest) e f = absurd (refused-parsed (sym (rw e at f)))
 
   two-there : {a b c : ℕ} {rest : List ℕ} → fields-read 3 m bytes ≡ parsed (a ∷ b ∷ c ∷ []) rest → fields-read 2 m bytes ≡ parsed (a ∷ b ∷ []) rest
@@ -80,7 +80,7 @@ module _ (m : ℕ) (bytes : List ℕ) (clear : m / 4 % 4 ≡ 0) where
   two-there {a} {b} {c} {rest} e = go (fields-read 2 m bytes) refl (sym (two-of-three (field-read (m % 2) bytes) refl) ∙ e)
     where
       go : (o : Parsed (List ℕ)) → fields-read 2 m bytes ≡ o → next (fields-read 2 m bytes) (λ ws. parsed (ws ++ (0 ∷ []))) ≡ parsed (a ∷ b ∷ c ∷ []) rest → fields-read 2 m bytes ≡ parsed (a ∷ b ∷ []) rest
-      go (refused k) e f = absurd (refused-parsed (rw e at f))
+      go (unparsed k) e f = absurd (refused-parsed (rw e at f))
       go (parsed ws r) e f =
           let g : parsed (ws ++ (0 ∷ [])) r ≡ parsed (a ∷ b ∷ c ∷ []) rest = rw e at f in
           let w : ws ≡ a ∷ b ∷ [] = first-two ws 0 a b c (parsed-value g) in
@@ -89,30 +89,30 @@ module _ (m : ℕ) (bytes : List ℕ) (clear : m / 4 % 4 ≡ 0) where
 
 -- a row without its own number
 module _ (table : Table) (bytes : List ℕ) where
-  pub row-ends : {n : ℕ} → byte-read bytes ≡ refused n → row-words-read table bytes ≡ refused n
+  pub row-ends : {n : ℕ} → byte-read bytes ≡ unparsed n → row-words-read table bytes ≡ unparsed n
   unfolding row-read operator-fields-read mapped-read next
   row-ends {n} e = go table
     where
-      go : (t : Table) → row-words-read t bytes ≡ refused n
+      go : (t : Table) → row-words-read t bytes ≡ unparsed n
       go Formulas = rw e
       go Effects = rw e
       go Operators = rw e
 
   module _ {m : ℕ} {rest : List ℕ} (first : byte-read bytes ≡ parsed m rest) where
-    pub row-unclear : map-clear table m ≡ false → row-words-read table bytes ≡ refused 2
+    pub row-unclear : map-clear table m ≡ false → row-words-read table bytes ≡ unparsed 2
     unfolding row-read operator-fields-read mapped-read next kept
     row-unclear = go table
       where
-        go : (t : Table) → map-clear t m ≡ false → row-words-read t bytes ≡ refused 2
+        go : (t : Table) → map-clear t m ≡ false → row-words-read t bytes ≡ unparsed 2
         go Formulas c = rw (first, c)
         go Effects c = rw (first, c)
         go Operators c = rw (first, c)
 
-    pub row-refused : {n : ℕ} → map-clear table m ≡ true → fields-read 3 m rest ≡ refused n → row-words-read table bytes ≡ refused n
+    pub row-refused : {n : ℕ} → map-clear table m ≡ true → fields-read 3 m rest ≡ unparsed n → row-words-read table bytes ≡ unparsed n
     unfolding row-read operator-fields-read mapped-read next kept
     row-refused {n} = go table
       where
-        go : (t : Table) → map-clear t m ≡ true → fields-read 3 m rest ≡ refused n → row-words-read t bytes ≡ refused n
+        go : (t : Table) → map-clear t m ≡ true → fields-read 3 m rest ≡ unparsed n → row-words-read t bytes ≡ unparsed n
         go Formulas c e = rw (first, c, two-refused m rest (eqb-true (m / 4 % 4) 0 c) e)
         go Effects c e = rw (first, c, two-refused m rest (eqb-true (m / 4 % 4) 0 c) e)
         go Operators c e = rw (first, c, e)
@@ -135,21 +135,21 @@ module _ {A : Type 0} (p : List ℕ → Parsed A) (words : A → List ℕ) (rule
   ruled-words : Parsed (List ℕ)
   ruled-words = next (next (p bytes) (λ x. kept (rule x) n x)) (λ x. parsed (words x))
 
-  ruled-refused : {k : ℕ} → next (p bytes) (λ x. parsed (words x)) ≡ refused k → ruled-words ≡ refused k
+  ruled-refused : {k : ℕ} → next (p bytes) (λ x. parsed (words x)) ≡ unparsed k → ruled-words ≡ unparsed k
   unfolding ruled-words next
   ruled-refused {k} e = go (p bytes) refl
     where
-      go : (o : Parsed A) → p bytes ≡ o → ruled-words ≡ refused k
+      go : (o : Parsed A) → p bytes ≡ o → ruled-words ≡ unparsed k
       go (parsed x rest) f = absurd (refused-parsed (sym (rw f at e)))
-      go (refused j) f = rw f (rw f at e ∙ cc)
+      go (unparsed j) f = rw f (rw f at e ∙ cc)
 
   module _ {ws rest : List ℕ} (e : next (p bytes) (λ x. parsed (words x)) ≡ parsed ws rest) (b : Bool) (test : (x : A) → words x ≡ ws → rule x ≡ b) where
-    broken : b ≡ false → ruled-words ≡ refused n
+    broken : b ≡ false → ruled-words ≡ unparsed n
     unfolding ruled-words next kept
     broken q = go (p bytes) refl
       where
-        go : (o : Parsed A) → p bytes ≡ o → ruled-words ≡ refused n
-        go (refused j) f = absurd (refused-parsed (rw f at e))
+        go : (o : Parsed A) → p bytes ≡ o → ruled-words ≡ unparsed n
+        go (unparsed j) f = absurd (refused-parsed (rw f at e))
         go (parsed x r) f =
             let g : parsed (words x) r ≡ parsed ws rest = rw f at e in
             rw (f, test x (parsed-value g), q)
@@ -159,7 +159,7 @@ module _ {A : Type 0} (p : List ℕ → Parsed A) (words : A → List ℕ) (rule
     unbroken q = go (p bytes) refl
       where
         go : (o : Parsed A) → p bytes ≡ o → ruled-words ≡ parsed ws rest
-        go (refused j) f = absurd (refused-parsed (rw f at e))
+        go (unparsed j) f = absurd (refused-parsed (rw f at e))
         go (parsed x r) f =
             let g : parsed (words x) r ≡ parsed ws rest = rw f at e in
             rw (f, test x (parsed-value g), q) g
@@ -181,7 +181,7 @@ same-operator rule f s t o e =
     ap rule (λ j. record { precondition = p j; effect = a j; cost = c j })
 
 module _ (h : Head) (i : ℕ) (bytes : List ℕ) where
-  pub kept-refused : (table : Table) {n : ℕ} → row-words-read table bytes ≡ refused n → kept-words-read table h i bytes ≡ refused n
+  pub kept-refused : (table : Table) {n : ℕ} → row-words-read table bytes ≡ unparsed n → kept-words-read table h i bytes ≡ unparsed n
   unfolding ruled-words formula-read effect-read operator-read
   kept-refused Formulas e = ruled-refused row-read row-words (formula-kept (h .variables) i) 10 bytes e
   kept-refused Effects e = ruled-refused row-read row-words (effect-kept (h .variables) (h .formulas) i) 11 bytes e
@@ -191,7 +191,7 @@ module _ (h : Head) (i : ℕ) (bytes : List ℕ) where
       (table : Table) {f s t : ℕ} {rest : List ℕ}
       → row-words-read table bytes ≡ parsed (f ∷ s ∷ t ∷ []) rest
       → words-kept table h i f s t ≡ false
-      → kept-words-read table h i bytes ≡ refused (own-number table)
+      → kept-words-read table h i bytes ≡ unparsed (own-number table)
   unfolding ruled-words formula-read effect-read operator-read
   kept-broken Formulas {f} {s} {t} e q =
       broken row-read row-words (formula-kept (h .variables) i) 10 bytes e (words-kept Formulas h i f s t) (same-row (formula-kept (h .variables) i) f s t) q

@@ -16,7 +16,7 @@ use Rattle.task.specs.Words.{joined}
 use Rattle.task_file.specs.declared.Place.{Place}
 use Rattle.task_file.specs.declared.Place.the-variants.{At, Nowhere}
 use Rattle.file_format.specs.Bytes.{bytes-for}
-use Rattle.file_format.specs.Parse.{Parsed, parsed, refused, next, kept, byte-read, table-read}
+use Rattle.file_format.specs.Parse.{Parsed, parsed, unparsed, next, kept, byte-read, table-read}
 use Rattle.file_format.specs.Reading.{bit-of, spare-clear, initial-read}
 use Rattle.task_file.specs.Answers.{ReadPart, place-told, Unpacked}
 use Rattle.file_format.proofs.Fields.{byte-reads}
@@ -78,12 +78,12 @@ plain-there n bytes h =
     let e = table-reads one-byte plain-byte 0 (take n bytes) (λ i h rest. byte-reads (getD (take n bytes) i 0) rest) (drop n bytes) in
     rw (length-take-le n bytes h, bytes-joined (take n bytes), take-append-drop n bytes) at e
 
-plain-short : (n : ℕ) (bytes : List ℕ) → length bytes < n → table-read plain-byte n bytes ≡ refused 1
+plain-short : (n : ℕ) (bytes : List ℕ) → length bytes < n → table-read plain-byte n bytes ≡ unparsed 1
 unfolding table-read next plain-byte byte-read
 plain-short zero bytes h = absurd (not-suc-le-zero h)
 plain-short (suc n) bytes h = go (plain-short n bytes) (decLt (length bytes) n)
   where
-    go : (length bytes < n → table-read plain-byte n bytes ≡ refused 1) → Dec (length bytes < n) → table-read plain-byte (suc n) bytes ≡ refused 1
+    go : (length bytes < n → table-read plain-byte n bytes ≡ unparsed 1) → Dec (length bytes < n) → table-read plain-byte (suc n) bytes ≡ unparsed 1
     go ih (yes l) = rw (ih l)
     go ih (no m) =
         let e : n ≡ length bytes = omega arith in
@@ -108,7 +108,7 @@ module _ (v : ℕ) (bytes : List ℕ) (enough : bytes-for v ≤ length bytes) wh
   front-state : upto v (bit-of (take (bytes-for v) bytes)) ≡ upto v (bit-of bytes)
   front-state = upto-same v (bit-of (take (bytes-for v) bytes)) (bit-of bytes) front-bit
 
-  unclear : spare-clear bytes v ≡ false → initial-read v bytes ≡ refused 2
+  unclear : spare-clear bytes v ≡ false → initial-read v bytes ≡ unparsed 2
   unfolding initial-read next kept plain-byte
   unclear e = rw (plain-there (bytes-for v) bytes enough, front-clear, e)
 

@@ -15,7 +15,7 @@ use Rattle.task.proofs.Refusals.{twin-outside}
 use Rattle.task.proofs.Named.{NamedBy, named-stored, named-more, named-before, named-now}
 use Rattle.task_file.specs.declared.Place.{Place}
 use Rattle.task_file.specs.declared.Place.the-variants.{At, Nowhere}
-use Rattle.file_format.specs.Parse.{Parsed, parsed, refused, next, kept, word-read, table-read}
+use Rattle.file_format.specs.Parse.{Parsed, parsed, unparsed, next, kept, word-read, table-read}
 use Rattle.file_format.specs.Reading.{twin-read}
 use Rattle.task_file.specs.Answers.{ReadPart, place-told}
 use Rattle.task_file.proofs.Loops.{Done, done-refused, done-end, done-more}
@@ -74,14 +74,14 @@ module _ (bound count : ℕ) (file : List ℕ) (at : ℕ) (before : List ℕ) wh
   twins-step k = go (table-read (twin-read bound) k (drop at file))
     where
       last : (done : List ℕ) (o : Parsed ℕ) → next o (λ r. parsed (done ++ (r ∷ []))) ≡ next (next o (λ w. parsed (w ∷ []))) (λ x. parsed (done ++ x))
-      last done (refused n) = refl
+      last done (unparsed n) = refl
       last done (parsed w rest) = refl
 
       go :
           (o : Parsed (List ℕ))
           → next o (λ done rest. next (twin-read bound k done rest) (λ r. parsed (done ++ (r ∷ []))))
           ≡ next o (λ ws rest. next (next (twin-read bound k ws rest) (λ w. parsed (w ∷ []))) (λ x. parsed (ws ++ x)))
-      go (refused n) = refl
+      go (unparsed n) = refl
       go (parsed done rest) = last done (twin-read bound k done rest)
 
   pub twins-begin : TwinsDone before 0 at
@@ -92,7 +92,7 @@ module _ (bound count : ℕ) (file : List ℕ) (at : ℕ) (before : List ℕ) wh
       (twins : List ℕ) (k place : ℕ) {n : ℕ} {r : Place}
       → TwinsDone twins k place
       → k < count
-      → word-read (drop place file) ≡ refused n
+      → word-read (drop place file) ≡ unparsed n
       → r ≡ Nowhere n
       → ReadPart count file (table-read (twin-read bound) count (drop at file)) r before twins
   unfolding twin-read next

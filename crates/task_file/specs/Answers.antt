@@ -18,15 +18,15 @@ use Rattle.task_file.specs.declared.Place.{Place}
 use Rattle.task_file.specs.declared.Place.the-variants.{At, Nowhere}
 use Rattle.task.specs.Bounded.{upto}
 use Rattle.file_format.specs.Reading.{Lengths, bit-of}
-use Rattle.file_format.specs.Parse.{Parsed, parsed, refused}
+use Rattle.file_format.specs.Parse.{Parsed, parsed, unparsed}
 
 abbrev pub field-told : List ℕ → Field → Parsed ℕ
 field-told file (Word word next) = parsed word (drop next file)
-field-told file (NoWord n) = refused n
+field-told file (NoWord n) = unparsed n
 
 abbrev pub row-told : List ℕ → Row → Parsed (List ℕ)
 row-told file (Words first second third next) = parsed (first ∷ second ∷ third ∷ []) (drop next file)
-row-told file (NoRow n) = refused n
+row-told file (NoRow n) = unparsed n
 
 -- a field's refusal, as that of its row
 abbrev pub carried : Field → Row
@@ -47,7 +47,7 @@ lost-row (NoRow n) = Nowhere n
 -- a table's words, and the place behind them
 abbrev pub place-told : List ℕ → List ℕ → Place → Parsed (List ℕ)
 place-told file words (At next) = parsed words (drop next file)
-place-told file words (Nowhere n) = refused n
+place-told file words (Nowhere n) = unparsed n
 
 -- What reading n words of a table leaves: the words in the table's front, and all behind them as it was. After a refusal the front is left open.
 pub record ReadPart (n : ℕ) (file : List ℕ) (outcome : Parsed (List ℕ)) (r : Place) (before after : List ℕ) : Type 0 where
@@ -66,7 +66,7 @@ pub record Unpacked (count : ℕ) (bytes before after : List ℕ) : Type 0 where
 
 abbrev pub head-told : List ℕ → HeadAnswer → Parsed Head
 head-told file (Counts head next) = parsed head (drop next file)
-head-told file (NoHead n) = refused n
+head-told file (NoHead n) = unparsed n
 
 -- a row's refusal, as that of the head
 abbrev pub lost-head : Row → HeadAnswer

@@ -9,7 +9,7 @@ use Rattle.task.specs.Table.{Task}
 use Rattle.task.specs.Words.{words-of, operator-words}
 use Rattle.task_file.specs.declared.Place.{Place}
 use Rattle.task_file.specs.declared.Place.the-variants.{At, Nowhere}
-use Rattle.file_format.specs.Parse.{Parsed, parsed, refused, next, table-read}
+use Rattle.file_format.specs.Parse.{Parsed, parsed, unparsed, next, table-read}
 use Rattle.file_format.specs.Reading.{initial-read, twin-read}
 use Rattle.task_file.specs.Tables.{words-read}
 
@@ -57,7 +57,7 @@ all-words t =
 
 abbrev pub part-told : {A : Type 0} → List ℕ → A → Place → Parsed A
 part-told file x (At next) = parsed x (drop next file)
-part-told file x (Nowhere n) = refused n
+part-told file x (Nowhere n) = unparsed n
 
 -- the lent tables of rows are long enough
 pub record RowsRoom (h : Head) (formulas effects operators : List ℕ) : Type 0 where

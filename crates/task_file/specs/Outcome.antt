@@ -8,7 +8,7 @@ use Rattle.task.specs.Table.{Task}
 use Rattle.task.specs.Words.{padded, head-of, words-of, operator-words}
 use Rattle.task_file.specs.declared.ReadAnswer.{ReadAnswer}
 use Rattle.task_file.specs.declared.ReadAnswer.the-variants.{Read, Refused}
-use Rattle.file_format.specs.Reading.{Lengths, Outcome, accepted, rejected, reading}
+use Rattle.file_format.specs.Reading.{Lengths, Verdict, accepted, rejected, reading}
 
 pub record ReadOutcome : Type 0 where
   pub answer : ReadAnswer
@@ -18,7 +18,7 @@ pub record ReadOutcome : Type 0 where
   pub effects : List ℕ
   pub operators : List ℕ
 
-unfoldable pub outcome-of : Lengths → Outcome → ReadOutcome
+unfoldable pub outcome-of : Lengths → Verdict → ReadOutcome
 outcome-of l (accepted t) =
     record {
       answer = Read (head-of t);
@@ -43,11 +43,11 @@ unfoldable pub read-outcome : Lengths → List ℕ → ReadOutcome
 read-outcome l file = outcome-of l (reading l file)
 
 -- what a call left, as one value
-abbrev pub left : ReadAnswer → (initial twins formulas effects operators : List ℕ) → ReadOutcome
-left r initial twins formulas effects operators =
+abbrev pub read-left : ReadAnswer → (initial twins formulas effects operators : List ℕ) → ReadOutcome
+read-left r initial twins formulas effects operators =
     record { answer = r; initial = initial; twins = twins; formulas = formulas; effects = effects; operators = operators }
 
-abbrev pub read-answer : Outcome → ReadAnswer
+abbrev pub read-answer : Verdict → ReadAnswer
 read-answer (accepted t) = Read (head-of t)
 read-answer (rejected n) = Refused n
 

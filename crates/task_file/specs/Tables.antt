@@ -7,7 +7,7 @@ use Rattle.task.specs.declared.Head.{Head}
 use Rattle.task.specs.declared.Table.{Table}
 use Rattle.task.specs.declared.Table.the-variants.{Formulas, Effects, Operators}
 use Rattle.task.specs.Words.{row-words, operator-row-words, words-of, operator-words}
-use Rattle.file_format.specs.Parse.{Parsed, parsed, refused, next, table-read}
+use Rattle.file_format.specs.Parse.{Parsed, parsed, unparsed, next, table-read}
 use Rattle.file_format.specs.Reading.{row-clear, operator-clear, row-read, operator-fields-read, formula-read, effect-read, operator-read}
 
 -- no unused bit of a row's map stands

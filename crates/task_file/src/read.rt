@@ -2,7 +2,7 @@
 ghost use mathlib.Core.Path.{_≡_};
 ghost use lib.ListN.{length};
 ghost use Rattle.task_file.specs.Answers.{no-task, lost-place, lengths};
-ghost use Rattle.task_file.specs.Outcome.{Filled, left, read-outcome};
+ghost use Rattle.task_file.specs.Outcome.{Filled, read-left, read-outcome};
 use crate::HeadAnswer;
 use crate::Place;
 use crate::ReadAnswer;
@@ -77,7 +77,7 @@ pub fn read(
     effects: &mut [u16],
     operators: &mut [u16],
 ) -> ReadAnswer
-    ensures { λ r. ⌜ left r (now (initial .exit)) (now (twins .exit)) (now (formulas .exit)) (now (effects .exit)) (now (operators .exit)) ≡ read-outcome (lengths (length (now (initial .entry))) (length (now (twins .entry))) (length (now (formulas .entry))) (length (now (effects .entry))) (length (now (operators .entry)))) (now (file .entry)) ⌝ }
+    ensures { λ r. ⌜ read-left r (now (initial .exit)) (now (twins .exit)) (now (formulas .exit)) (now (effects .exit)) (now (operators .exit)) ≡ read-outcome (lengths (length (now (initial .entry))) (length (now (twins .entry))) (length (now (formulas .entry))) (length (now (effects .entry))) (length (now (operators .entry)))) (now (file .entry)) ⌝ }
 {
     crate::clear::clear_tables(initial, twins, formulas, effects, operators);
     let r = fill(file, initial, twins, formulas, effects, operators);

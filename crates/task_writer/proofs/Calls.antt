@@ -12,7 +12,7 @@ use Rattle.task.proofs.Kept.{kept-rules}
 use Rattle.task.proofs.Words.{lent-in, task-in, kept-in}
 use Rattle.file_format.specs.Bytes.{file-of}
 use Rattle.task.specs.Rules.{HasRoom}
-use Rattle.file_format.specs.Reading.{Lengths, Outcome, accepted, rejected, reading}
+use Rattle.file_format.specs.Reading.{Lengths, Verdict, accepted, rejected, reading}
 use Rattle.task_file.specs.Outcome.{ReadOutcome, outcome-of, read-outcome}
 use Rattle.task.specs.Words.{padded}
 use Rattle.task_writer.specs.Writing.{WriteOutcome, wrote, file-outcome, write-outcome}

@@ -5,14 +5,14 @@ use mathlib.Core.List.{List}
 use Rattle.task.specs.declared.Head.{Head}
 use Rattle.task_file.specs.declared.ReadAnswer.{ReadAnswer}
 use Rattle.task_writer.specs.declared.WriteAnswer.{WriteAnswer}
-use Rattle.task_file.specs.Outcome.{ReadOutcome, left}
+use Rattle.task_file.specs.Outcome.{ReadOutcome, read-left}
 use Rattle.task_writer.specs.Writing.{WriteOutcome, wrote}
 use Rattle.test_calls.specs.Buffers.{told, head-words}
 use Rattle.test_calls.specs.Reading.{read-number, read-head, write-number, ReadLeaves, WriteLeaves}
 
 pub read-leaves :
     (w : ReadOutcome) (a : ReadAnswer) (h : Head) (r : ℕ) (before after i t f e o : List ℕ)
-    → left a i t f e o ≡ w
+    → read-left a i t f e o ≡ w
     → h ≡ read-head a
     → after ≡ told (head-words h) before
     → r ≡ read-number a

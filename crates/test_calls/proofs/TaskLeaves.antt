@@ -5,29 +5,29 @@ use mathlib.Core.List.{List}
 use Rattle.task.specs.declared.Head.{Head}
 use Rattle.compiler.specs.declared.CompileAnswer.{CompileAnswer}
 use Rattle.compiler.specs.Fills.{Tables}
-use Rattle.compiler.specs.Left.{left, answer-of}
-use Rattle.normal_form.specs.Compiled.{Outcome}
+use Rattle.compiler.specs.Left.{compile-left, answer-of}
+use Rattle.normal_form.specs.Compiled.{CompileOutcome}
 use Rattle.test_calls.specs.Buffers.{told, head-words}
 use Rattle.test_calls.specs.Compiling.{compile-number, compile-head, CompileLeaves}
 
 pub compile-leaves :
-    (w : Outcome) (a : CompileAnswer) (h : Head) (r : ℕ) (before after : List ℕ) (y : Tables)
-    → left a y ≡ w
+    (w : CompileOutcome) (a : CompileAnswer) (h : Head) (r : ℕ) (before after : List ℕ) (y : Tables)
+    → compile-left a y ≡ w
     → h ≡ compile-head (answer-of a)
     → after ≡ told (head-words h) before
     → r ≡ compile-number (answer-of a)
     → CompileLeaves w before r after y
 compile-leaves w a h r before after y q p k n =
     record {
-      number = n ∙ ap (λ (x : Outcome). compile-number (x .answer)) q;
+      number = n ∙ ap (λ (x : CompileOutcome). compile-number (x .answer)) q;
       head-left =
           k
           ∙ ap (λ (x : Head). told (head-words x) before) p
-          ∙ ap (λ (x : Outcome). told (head-words (compile-head (x .answer))) before) q;
-      initial-left = ap (λ (x : Outcome). x .initial) q;
-      twins-left = ap (λ (x : Outcome). x .twins) q;
-      formulas-left = ap (λ (x : Outcome). x .formulas) q;
-      effects-left = ap (λ (x : Outcome). x .effects) q;
-      operators-left = ap (λ (x : Outcome). x .operators) q;
-      scratch-left = ap (λ (x : Outcome). x .scratch) q;
+          ∙ ap (λ (x : CompileOutcome). told (head-words (compile-head (x .answer))) before) q;
+      initial-left = ap (λ (x : CompileOutcome). x .initial) q;
+      twins-left = ap (λ (x : CompileOutcome). x .twins) q;
+      formulas-left = ap (λ (x : CompileOutcome). x .formulas) q;
+      effects-left = ap (λ (x : CompileOutcome). x .effects) q;
+      operators-left = ap (λ (x : CompileOutcome). x .operators) q;
+      scratch-left = ap (λ (x : CompileOutcome). x .scratch) q;
     }

@@ -1,6 +1,6 @@
 use lib.ListN.{length}
 use Rattle.task.specs.Table.{lent, task-of}
-use Rattle.compiled_file.specs.Filed.{compiled}
+use Rattle.compiled_file.specs.Filed.{compiled-file}
 use Rattle.compiled_file.proofs.FileWays.{same-outputs}
 use Rattle.compiled_file.proofs.CompileWays.{small-settled}
 use borrow.Author.Needs.{needs}
@@ -29,7 +29,7 @@ same-length-4 : tie.Need-same-length-4
 same-length-4 c = search needs
 
 returns-2 : tie.Need-returns-2
-returns-2 c = let a = c .before .before .before .before .before .before .before .before .before .before .before .before .before .before .before .before .before .before .before .before .before .before .args in same-outputs (compiled (task-of (lent (a .head) (a .initial .now) (a .twins .now) (a .formulas .now) (a .effects .now) (a .operators .now)))) (c .before .before .before .before .before .before .before .before .before .before .before .before .compile-small .kept .1 .1 .1 .1 .1 .1 .0) (c .before .before .before .before .before .before .before .before .before .before .before .before .compile-small .kept .1 .1 .1 .1 .1 .1 .1 .0) (c .before .before .before .before .compile-full .ensures)
+returns-2 c = let a = c .before .before .before .before .before .before .before .before .before .before .before .before .before .before .before .before .before .before .before .before .before .before .args in same-outputs (compiled-file (task-of (lent (a .head) (a .initial .now) (a .twins .now) (a .formulas .now) (a .effects .now) (a .operators .now)))) (c .before .before .before .before .before .before .before .before .before .before .before .before .compile-small .kept .1 .1 .1 .1 .1 .1 .0) (c .before .before .before .before .before .before .before .before .before .before .before .before .compile-small .kept .1 .1 .1 .1 .1 .1 .1 .0) (c .before .before .before .before .compile-full .ensures)
 
 pub compile-short-spec : {M : Type 1} → statement M
 compile-short-spec =

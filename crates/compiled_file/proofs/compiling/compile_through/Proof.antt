@@ -5,7 +5,7 @@ use Rattle.compiler.specs.Fills.{tables, room-of}
 use Rattle.compiler.specs.declared.CompileAnswer.{CompileAnswer}
 use Rattle.compiler.specs.Left.{answer-of}
 use Rattle.entry_tables.specs.Answers.{refused-compile}
-use Rattle.compiled_file.proofs.CompileWays.{not-compiled, compiled-kept, compiled-given}
+use Rattle.compiled_file.proofs.CompileWays.{no-task-compiled, compiled-kept, compiled-given}
 use borrow.Author.Needs.{needs}
 use Rattle.compiled_file.proofs.compiling.compile_through.Statement.{statement}
 use Rattle.compiled_file.proofs.compiling.compile_through.Tie as tie
@@ -50,7 +50,7 @@ same-length-8 : tie.Need-same-length-8
 same-length-8 c = search needs
 
 returns : tie.Need-returns
-returns c = let a = c .before .before .before .before .before .before .before .before .before .before .before .before .before .before .before .before .before .before .before .before .before .before .before .before .before .before .before .before .before .before .before .before .before .before .before .before .before .before .before .before .before .before .args in not-compiled (lent (a .head) (a .initial .now) (a .twins .now) (a .formulas .now) (a .effects .now) (a .operators .now)) (room-of (tables (a .values .now) (a .originals .now) (a .table .now) (a .rules .now) (a .written .now) (a .scratch .now))) (c .before .before .before .before .before .before .before .before .before .before .before .before .before .before .before .before .before .before .before .before .before .before .compile .ensures) (length (a .out .now)) (length (a .result .now)) (c .before .before .before .before .before .before .before .before .enum-told .given .1) (c .before .before .before .before .before .before .before .refused .ensures ∙ ap (λ (x : CompileAnswer). refused-compile (answer-of x)) (c .before .before .before .before .before .before .before .before .enum-told .given .1)) (c .before .before .before .before .refuse .ensures)
+returns c = let a = c .before .before .before .before .before .before .before .before .before .before .before .before .before .before .before .before .before .before .before .before .before .before .before .before .before .before .before .before .before .before .before .before .before .before .before .before .before .before .before .before .before .before .args in no-task-compiled (lent (a .head) (a .initial .now) (a .twins .now) (a .formulas .now) (a .effects .now) (a .operators .now)) (room-of (tables (a .values .now) (a .originals .now) (a .table .now) (a .rules .now) (a .written .now) (a .scratch .now))) (c .before .before .before .before .before .before .before .before .before .before .before .before .before .before .before .before .before .before .before .before .before .before .compile .ensures) (length (a .out .now)) (length (a .result .now)) (c .before .before .before .before .before .before .before .before .enum-told .given .1) (c .before .before .before .before .before .before .before .refused .ensures ∙ ap (λ (x : CompileAnswer). refused-compile (answer-of x)) (c .before .before .before .before .before .before .before .before .enum-told .given .1)) (c .before .before .before .before .refuse .ensures)
 
 give-file-requires : tie.Need-give-file-requires
 give-file-requires c κs = let a = c .before .before .before .before .before .before .before .before .before .before .before .before .before .before .before .before .before .before .before .before .before .before .before .before .before .before .before .before .before .before .before .before .before .before .before .before .before .before .before .before .before .before .args in compiled-kept (lent (a .head) (a .initial .now) (a .twins .now) (a .formulas .now) (a .effects .now) (a .operators .now)) (room-of (tables (a .values .now) (a .originals .now) (a .table .now) (a .rules .now) (a .written .now) (a .scratch .now))) (c .before .before .before .before .before .before .before .before .before .before .before .before .before .before .before .before .before .before .before .before .before .before .compile .ensures) (c .before .before .before .before .before .before .before .before .r .given .1)
