@@ -14,3 +14,5 @@ pub mod Marks
 pub mod Changes
 pub mod KindNumbers
 pub mod Cleared
+pub mod Runs
+pub mod RowParts
