@@ -61,6 +61,17 @@ runs-on none rest = refl
 runs-on {t} {p} {q} {front} (more {o = o} {rest = later} below e d) rest =
     goes-on t p o (later ++ rest) below e ∙ runs-on d rest
 
+record Halfway (t : Task) (p : Progress) (front rest : List ℕ) (q : Progress) : Type 0 where
+  at : Progress
+  first : Does t p front at
+  then : Does t at rest q
+
+halfway : {t : Task} {p q : Progress} (front : List ℕ) {rest : List ℕ} → Does t p (front ++ rest) q → Halfway t p front rest q
+halfway {p = p} [] d = record { at = p; first = none; then = d }
+halfway (o ∷ front) (more below e d) =
+    let h = halfway front d in
+    record { at = h .at; first = more below e (h .first); then = h .then }
+
 pub steps-done :
     {t : Task} {p q : Progress} {front : List ℕ}
     → Does t p front q
@@ -147,6 +158,12 @@ pub record Halts (t : Task) (s numbers : List ℕ) (n : ℕ) : Type 0 where
   pub answers : plain-run t s numbers ≡ answer t (stops .at) (stopped n)
   pub alone : plain-run t s (stops .front) ≡ answer t (stops .at) ended
 
+-- Number o is done behind these: it is below O, and its precondition holds in the state that they leave.
+pub record Follows (t : Task) (s front : List ℕ) (o : ℕ) : Type 0 where
+  pub before : Ends t s front
+  pub below : o < length (t .operators)
+  pub permitted : permits t (before .at .state) o ≡ true
+
 module _ (t : Task) (s numbers : List ℕ) where
   ends-by : {q : Progress} → Does t (start s) numbers q → Ends t s numbers
   unfolding plain-run
@@ -193,14 +210,21 @@ module _ (t : Task) (s numbers : List ℕ) where
       go (ends d) = rw (ends-by d .answers)
       go (halts h) = rw (halts-by h .answers)
 
-  -- one more number behind a run that is not stopped, below O and with a true precondition, is done on the state that the run left
-  pub one-more :
-      (w : Ends t s numbers) (o : ℕ)
-      → o < length (t .operators)
-      → permits t (w .at .state) o ≡ true
-      → plain-run t s (numbers ++ (o ∷ [])) ≡ answer t (after-step t (w .at) o) ended
+module _ (t : Task) (s front : List ℕ) (o : ℕ) where
+  -- each number of a run that is not stopped was done so
+  pub each-follows : (rest : List ℕ) → plain-run t s (front ++ (o ∷ rest)) .stop ≡ ended → Follows t s front o
+  unfolding ends-by
+  each-follows rest e =
+      let h = halfway front (ended-run t s (front ++ (o ∷ rest)) e .done) in
+      go (h .first) (h .then)
+    where
+      go : {m q : Progress} → Does t (start s) front m → Does t m (o ∷ rest) q → Follows t s front o
+      go first (more below p d) = record { before = ends-by t s front first; below = below; permitted = p }
+
+  -- and it is done there, if it is the last
+  pub one-more : (f : Follows t s front o) → plain-run t s (front ++ (o ∷ [])) ≡ answer t (after-step t (f .before .at) o) ended
   unfolding plain-run run-on
-  one-more w o below e = runs-on (w .done) (o ∷ []) ∙ goes-on t (w .at) o [] below e
+  one-more f = runs-on (f .before .done) (o ∷ []) ∙ goes-on t (f .before .at) o [] (f .below) (f .permitted)
 
 -- A plan is an unstopped run that ends with the goal true.
 pub plan-exactly-if : (r : Run) → is-plan r ≡ true ↔ (r .stop ≡ ended) × (r .goal ≡ true)
