@@ -1,12 +1,17 @@
 -- Demand 1: what a caller lends is accepted or gets the scope's number. That `task::check::check` answers `refusal` is its contract.
+use Prim.Native.Nat.{ℕ, _+_, _*_, _≤_, _<_}
 use mathlib.Core.Path.{_≡_}
 use mathlib.Core.Logic.{_↔_}
-use Rattle.task.specs.Table.{Lent, Task, task-of}
+use mathlib.Core.List.{List, []}
+use lib.ListN.{length}
+use Rattle.task.specs.Table.{Lent, Task, task-of, row-part}
 use Rattle.task.specs.Check.{refusal}
 use Rattle.task.specs.Words.{lent-of}
 use Rattle.task.specs.Rules.{LongEnough, Rules}
 use Rattle.task.proofs.Kept.{kept-rules, rules-kept}
 use Rattle.task.proofs.Words.{lent-kept, task-of-lent}
+use Rattle.task.proofs.RowParts.{row-length, row-word, no-part}
+use Rattle.claims.specs.Told.{IsRow}
 
 -- The check's number is 0 exactly if every lent table is long enough for its count and the task that the tables hold keeps the rules.
 pub accepted-exactly-if : (l : Lent) → refusal l ≡ 0 ↔ LongEnough l × Rules (task-of l)
@@ -15,3 +20,12 @@ accepted-exactly-if l = (kept-rules l, λ p. rules-kept l (p .0) (p .1))
 -- Every task that keeps the rules is accepted: its tables, written out word by word, get 0 and hold that task.
 pub every-task-accepted : (t : Task) → Rules t → refusal (lent-of t) ≡ 0 × task-of (lent-of t) ≡ t
 every-task-accepted t rules = (lent-kept t rules, task-of-lent t)
+
+-- A row on request, of any words and any number: the row's three words where it is wholly inside them, else the empty part.
+pub row-part-is-empty-or-the-row :
+    (words : List ℕ) (i : ℕ)
+    → (3 * i + 3 ≤ length words → IsRow words i (row-part words i)) × (length words < 3 * i + 3 → row-part words i ≡ [])
+row-part-is-empty-or-the-row words i = (
+  λ inside. record { three = row-length words i inside; word = row-word words i inside },
+  no-part words i,
+)
