@@ -1,13 +1,18 @@
 -- Demand 1: what a caller lends is accepted or gets the scope's number. That `task::check::check` answers `refusal` is its contract.
+use Prim.Native.Nat.{ℕ, _+_, _*_, _≤_, _<_}
 use mathlib.Core.Path.{_≡_}
 use mathlib.Core.Logic.{_↔_}
-use Rattle.task.specs.Table.{Lent, Task, task-of}
+use mathlib.Core.List.{List, []}
+use lib.ListN.{length}
+use Rattle.task.specs.Table.{Lent, Task, task-of, row-part}
 use Rattle.task.specs.Check.{refusal}
 use Rattle.task.specs.Words.{lent-of}
 use Rattle.task.specs.Rules.{LentWords, LongEnough, Rules}
 use Rattle.task.proofs.Kept.{kept-rules, rules-kept}
 use Rattle.task.proofs.Words.{lent-kept, task-of-lent}
 use Rattle.task.proofs.Sixteen.{lent-rules, words-lent}
+use Rattle.task.proofs.RowParts.{row-length, row-word, no-part}
+use Rattle.claims.specs.Told.{IsRow}
 
 -- Of lent words, which are unsigned 16-bit: the check's number is 0 exactly if every lent table is long enough for its count and the task that the
 -- tables hold keeps the rules.
@@ -22,3 +27,12 @@ accepted-exactly-if l words = (
 -- Every task that keeps the rules is accepted: its tables, written out word by word, have words that can be lent, get 0 and hold that task.
 pub every-task-accepted : (t : Task) → Rules t → LentWords (lent-of t) × (refusal (lent-of t) ≡ 0) × (task-of (lent-of t) ≡ t)
 every-task-accepted t rules = (words-lent t rules, lent-kept t (rules .checked), task-of-lent t)
+
+-- A row on request, of any words and any number: the row's three words where it is wholly inside them, else the empty part.
+pub row-part-is-empty-or-the-row :
+    (words : List ℕ) (i : ℕ)
+    → (3 * i + 3 ≤ length words → IsRow words i (row-part words i)) × (length words < 3 * i + 3 → row-part words i ≡ [])
+row-part-is-empty-or-the-row words i = (
+  λ inside. record { three = row-length words i inside; word = row-word words i inside },
+  no-part words i,
+)

@@ -2,7 +2,7 @@
 use Prim.Native.Nat.{ℕ, _+_, _-_, _≤_, _<_}
 use native.Mathlib.Omega.{arith}
 use native.Mathlib.Decide.{decLt}
-use mathlib.Core.Path.{_≡_, refl, sym, ap, _∙_}
+use mathlib.Core.Path.{_≡_, refl, sym, _∙_}
 use mathlib.Core.Bool.{true}
 use mathlib.Core.List.{List}
 use lib.ListN.{length, getD}
@@ -22,7 +22,7 @@ use Rattle.normal_form.specs.Alike.{Alike}
 use Rattle.normal_form.specs.Compiled.{Room, compiled-head, compiling, given}
 use Rattle.normal_form.proofs.ShapePassed.{finished-variables}
 use Rattle.normal_form.proofs.Compiled.{given-compiles, given-task, given-head, given-passes}
-use Rattle.plan.specs.Outcome.{early-refusal, run-refusal, Ran, run-answer, ran}
+use Rattle.plan.specs.Outcome.{early-refusal, run-refusal, run-answer, ran}
 use Rattle.plan.proofs.Refusing.{not-refused, run-not-refused, run-ready, short-enough}
 use Rattle.claims.proofs.DemandThree.{given-runs-alike}
 use Rattle.claims.proofs.DemandTwoRuns.{run-is-the-plain-run}

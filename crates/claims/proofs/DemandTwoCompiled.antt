@@ -1,15 +1,19 @@
 -- Demand 2, of compiling: what is built is what the scope says, positive and flat, within its limits; and what is built once is found again.
 use Prim.Native.Nat.{ℕ, _+_, _*_, _≤_}
-use mathlib.Core.Path.{_≡_, ap, _∙_}
+use mathlib.Core.Path.{_≡_, ap}
+use mathlib.Core.Bool.{true}
 use mathlib.Core.Logic.{_↔_}
+use mathlib.Core.List.{List}
+use lib.ListN.{getD}
 use Rattle.task.specs.declared.Head.{Head}
 use Rattle.task.specs.Table.{Lent, Task, task-of}
 use Rattle.task.specs.Check.{refusal}
 use Rattle.task.specs.Words.{head-of, lent-of}
-use Rattle.task.specs.Semantics.{Formula, Atom, Effect}
 use Rattle.task.specs.Rules.{LentWords}
 use Rattle.task.proofs.Kept.{kept-rules}
 use Rattle.task.proofs.Sixteen.{lent-rules}
+use Rattle.task.specs.Semantics.{Formula, Atom, Effect, holds, effcond}
+use Rattle.task.specs.Tree.{formula-of}
 use Rattle.task.proofs.Words.{task-of-lent}
 use Rattle.normal_form.proofs.Demand.{finished-keeps}
 use Rattle.normal_form.specs.Builder.{Polarity}
@@ -19,9 +23,12 @@ use Rattle.normal_form.specs.Conditions.{condition}
 use Rattle.normal_form.specs.Operators.{parts}
 use Rattle.normal_form.specs.Finished.{finished}
 use Rattle.normal_form.specs.Compiled.{Room, Fits, compiled-head, not-compiled, CompileOutcome, nothing-given, task-given, compiling, given}
+use Rattle.normal_form.specs.Positive.{Positive, PositiveFormula, PositiveEffect}
 use Rattle.normal_form.proofs.Steady.{steady-image, steady-condition, steady-parts}
 use Rattle.normal_form.proofs.ShapeFinished.{flat}
 use Rattle.normal_form.proofs.ShapePassed.{positive, finished-positive, finished-passes}
+use Rattle.normal_form.proofs.ShapePositive.{formula-positive}
+use Rattle.normal_form.proofs.Monotone.{formula-monotone, effect-monotone}
 use Rattle.normal_form.proofs.Compiled.{by-room, succeeds, given-compiles, fifteen, source-rules, given-head, given-task, given-passes, given-positive, given-flat}
 use Rattle.claims.specs.Statements.{Compiles, NormalForm}
 
@@ -98,3 +105,23 @@ condition-again n p l e = steady-condition n p l e
 
 pub task-again : (t : Task) → Steady (parts t)
 task-again t = steady-parts t
+
+-- Positive means monotone: in a state where every variable that was 1 is still 1, a positive formula that held still holds, and so does an
+-- effect condition of a positive effect. "not v0" is lost where v0 becomes 1, so no formula with a negation symbol in force counts as positive.
+module _ (s s′ : List ℕ) (still : (v : ℕ) → getD s v 0 ≡ 1 → getD s′ v 0 ≡ 1) where
+  pub positive-is-monotone : (p : Formula) → PositiveFormula p → holds s p ≡ true → holds s′ p ≡ true
+  positive-is-monotone = formula-monotone s s′ still
+
+  pub positive-conditions-are-monotone :
+      (l : Atom) (e : Effect) → PositiveEffect e → effcond s l e ≡ true → effcond s′ l e ≡ true
+  positive-conditions-are-monotone = effect-monotone s s′ still
+
+  -- and every row of a positive formula table
+  pub positive-rows-are-monotone :
+      (t : Task)
+      → Positive t
+      → (i : ℕ)
+      → holds s (formula-of (t .formulas) i) ≡ true
+      → holds s′ (formula-of (t .formulas) i) ≡ true
+  positive-rows-are-monotone t rows i =
+      formula-monotone s s′ still (formula-of (t .formulas) i) (formula-positive t rows i)

@@ -1,11 +1,10 @@
 -- Demands 1 and 2, of task files: a file is accepted exactly if it is a task's, and reading and writing undo each other. The contract of
 -- `task_file::read::read` cites `read-outcome`, that of `task_writer::write::write` cites `write-outcome`; here `reading` is what is read of the bytes.
-use Prim.Native.Nat.{ℕ, suc, _≤_, _<_}
-use native.Mathlib.Omega.{arith}
+use Prim.Native.Nat.{ℕ, _≤_}
 use mathlib.Core.Path.{_≡_, sym}
 use mathlib.Core.Logic.{_↔_}
 use mathlib.Core.List.{List, [], _∷_, _++_}
-use lib.ListN.{length, getD, take}
+use lib.ListN.{length, take}
 use Rattle.task.specs.Table.{Lent, Task, lent, task-of}
 use Rattle.task.specs.Check.{refusal}
 use Rattle.task.specs.Rules.{Rules, HasRoom}

@@ -1,5 +1,5 @@
 -- Demand 2, of the program: what it prints of a task's file, of a file that is refused, and of an input that is too long.
-use Prim.Native.Nat.{ℕ, _+_, _*_, _≤_}
+use Prim.Native.Nat.{ℕ, _≤_}
 use native.Mathlib.Omega.{arith}
 use mathlib.Core.Path.{_≡_, refl, ap}
 use mathlib.Core.Bool.{Bool, true, false}
@@ -12,7 +12,7 @@ use Rattle.task.specs.Rules.{Limits, Rules, HasRoom}
 use Rattle.task.specs.Words.{head-of}
 use Rattle.task.proofs.Passed.{counts-tested}
 use Rattle.file_format.specs.Bytes.{file-of}
-use Rattle.file_format.specs.Reading.{accepted, rejected, reading}
+use Rattle.file_format.specs.Reading.{rejected, reading}
 use Rattle.file_format.proofs.RoundTrip.{read-written}
 use Rattle.normal_form.specs.Finished.{finished}
 use Rattle.printing.specs.Lines.{lines, refusal-line}

@@ -4,7 +4,7 @@ use mathlib.Core.List.{map}
 use Rattle.task.specs.Bounded.{every, upto}
 use Rattle.task.specs.Table.{formula-kind, effect-kind, row-at, operator-at, task-of}
 use Rattle.task.specs.Check.{counts-kept, goal-kept, long-enough, initial-kept, twin-kept, twins-kept, formula-words-kept, formula-kept, formulas-kept, effect-words-kept, effect-kept, effects-kept, operator-kept, operators-kept, refusal}
-use Rattle.task.specs.Words.{joined as words-joined, row-words, operator-row-words, words-of, operator-words, head-of, lent-of}
+use Rattle.task.specs.Words.{joined as words-joined, row-words, operator-row-words, words-of, operator-words, head-of, lent-of, padded}
 use Rattle.task.specs.Semantics.{holds, effcond, value-after, apply}
 use Rattle.task.specs.Tree.{formula-node, formula-within, formula-of, effect-node, effect-within, effect-of}
 use Rattle.task.specs.Run.{operator-of, effect-of-operator, goal-holds, applicable, charge, after-step, answer, run-on, plain-run}
@@ -15,12 +15,10 @@ use Rattle.normal_form.specs.Operators.{deletes-of, changes-of, built-operator,
 use Rattle.normal_form.specs.Assembly.{rule, with-twin, rules-of, rules, atom-row, rule-rows, write-rule, write-rules, assemble-operator, assemble, unassembled}
 use Rattle.normal_form.specs.Finished.{built, assembled, twin-values, finished}
 use Rattle.normal_form.specs.Compiled.{compile-scratch-kept, fits, compile-refusal, nothing-given, task-given, outcome-by, compiling}
-use Rattle.task.specs.Words.{padded}
 use Rattle.file_format.specs.Parse.{next, kept as kept-value, byte-read, word-read, field-read, fields-read, mapped-read, table-read}
 use Rattle.file_format.specs.Bytes.{bytes-for}
 use Rattle.file_format.specs.Reading.{room, head-read, head-kept, bit-of, spare-clear, initial-read, twin-read, row-read, formula-read, effect-read, operator-fields-read, operator-read, tables-read, task-read, at-end, reading}
-use Rattle.printing.specs.Lines.{digits-within, decimal, word, line, numbered, values, initial-line, head-line, twin-lines, lines, refusal-line}
-use Rattle.printing.specs.Lines.{bytes}
+use Rattle.printing.specs.Lines.{digits-within, decimal, word, line, numbered, values, initial-line, head-line, twin-lines, lines, refusal-line, bytes}
 use Rattle.plan.specs.Outcome.{state-kept, step-scratch-kept as run-scratch-kept, sequence-kept, early-refusal, run-refusal, run-refused, end-of, run-answer, run-told, run-by, ran}
 use Rattle.entry_tables.specs.Own.{own, compile-number}
 use Rattle.compile_text.specs.Text.{compiled-text-by, compiled-text, text-by, text-of}

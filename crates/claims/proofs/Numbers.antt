@@ -1,45 +1,40 @@
 -- Demand 1, of every call: the number that it gives is that of the first rule in 01's order that is broken, and 0 exactly if all are kept. So a stepper that
 -- refused every state of more than 100 variables, say, would break `step-gives-the-first`.
-use Prim.Native.Nat.{ℕ, zero, suc, _+_, _-_, _*_, _%_, _≤_, _<_}
+use Prim.Native.Nat.{ℕ, zero, suc, _+_, _*_, _%_, _≤_, _<_}
 use native.Mathlib.Omega.{arith}
 use mathlib.Core.Path.{_≡_, refl, sym, ap, _∙_}
 use mathlib.Core.Logic.{_↔_}
-use mathlib.Core.Bool.{Bool, true, false, cond, _&&_, false≢true}
-use mathlib.Core.List.{List, [], _∷_}
-use lib.ListN.{length, getD, replicate}
+use mathlib.Core.Bool.{Bool, true, false, _&&_, false≢true}
+use mathlib.Core.List.{List}
+use lib.ListN.{length, getD}
 use lib.Dec.{leb, ltb, eqb}
 use borrow.Author.Tests.{leb-true, le-leb, ltb-true, lt-ltb, eqb-true, eq-eqb, ne-eqb}
 use Rattle.task.specs.Bounded.{every}
-use Rattle.task.specs.Table.{Lent, Task, row-at, operator-at, task-of}
+use Rattle.task.specs.Table.{Lent, Task, operator-at, task-of}
 use Rattle.task.specs.Check.{counts-kept, goal-kept, long-enough, initial-kept, twins-kept, formulas-kept, effects-kept, operators-kept, state-kept, sequence-kept, unless, refusal}
 use Rattle.task.specs.Rules.{Rules, Limits}
-use Rattle.task.specs.Words.{padded, head-of}
+use Rattle.task.specs.Words.{head-of}
 use Rattle.task.specs.Semantics.{holds}
 use Rattle.task.specs.Tree.{formula-of}
-use Rattle.task.specs.Run.{operator-of, applicable, charge, after-step, answer, run-on, Stop, ended, stopped, plain-run}
+use Rattle.task.specs.Run.{operator-of, applicable, answer, run-on, Stop, ended, stopped, plain-run}
 use Rattle.task.proofs.Bounded.{and-left, and-right, and-both, every-at, every-from}
 use Rattle.task.proofs.Held.{length-operators, operator-held}
-use Rattle.task.proofs.Passed.{passed, counts-tested, goal-tested, lengths-tested, initial-tested, twins-tested, formulas-tested, effects-tested, operators-tested}
+use Rattle.task.proofs.Passed.{counts-tested, goal-tested, lengths-tested, initial-tested, twins-tested, formulas-tested, effects-tested, operators-tested}
 use Rattle.file_format.specs.Bytes.{file-of}
 use Rattle.file_format.specs.Reading.{accepted, rejected, Verdict, reading}
-use Rattle.task_writer.specs.declared.WriteAnswer.{WriteAnswer}
-use Rattle.task_writer.specs.declared.WriteAnswer.the-variants.{Written, NotWritten}
-use Rattle.task_writer.specs.Writing.{WriteOutcome, file-outcome, write-outcome}
+use Rattle.task_writer.specs.Writing.{file-outcome, write-outcome}
 use Rattle.stepper.specs.Stepped.{step-scratch-kept, first-of, early-refusal, step-refused, step-told, step-by, stepped}
-use Rattle.plan.specs.declared.outcome.RunOutcome.{RunOutcome}
-use Rattle.plan.specs.declared.outcome.End.{End}
-use Rattle.plan.specs.declared.outcome.End.the-variants.{Ended, Stopped, Refused}
 use Rattle.plan.specs.Outcome.{run-refusal, run-refused, end-of, run-answer, run-told, run-by, ran}
-use Rattle.normal_form.specs.Compiled.{Room, compile-scratch-kept as compile-scratch, fits, Fits, compile-refusal, Answer, compiled-head, not-compiled, CompileOutcome as CompileOutcome, nothing-given, task-given, outcome-by, compiling}
+use Rattle.normal_form.specs.Compiled.{Room, compile-scratch-kept as compile-scratch, fits, compile-refusal, nothing-given, task-given, outcome-by, compiling}
 use Rattle.normal_form.specs.Finished.{finished}
 use Rattle.normal_form.proofs.Compiled.{fits-tested}
 use Rattle.file_format.proofs.Numbers.{rejected-by}
 use Rattle.entry_tables.specs.Own.{own, compile-number}
-use Rattle.layouts.specs.Layout.{tables-bytes, numbers-of, run-number, stop-number, Laid, laid-by, laid}
+use Rattle.layouts.specs.Layout.{tables-bytes, numbers-of, run-number, stop-number, laid-by, laid}
 use Rattle.read_entry.specs.Entry.{read-entry, read-entry-by}
-use Rattle.compiled_file.specs.Filed.{CompileEntry, no-file, filed-by, filed, compiled-file-by, compiled-file}
+use Rattle.compiled_file.specs.Filed.{filed-by, filed, compiled-file-by, compiled-file}
 use Rattle.compile_entry.specs.Entry.{compile-entry, compile-entry-by}
-use Rattle.run_entry.specs.Entry.{RunEntry, run-given, run-entry, run-entry-by}
+use Rattle.run_entry.specs.Entry.{run-given, run-entry, run-entry-by}
 use Rattle.claims.specs.Statements.{OfBytes}
 use Rattle.claims.specs.Numbers.{Given, broken, keeps, no-rule-left, tables-numbers, write-number, compile-answer-number, end-number, write-numbers, compile-numbers, StateRule, state-numbers, step-numbers, run-numbers, FileGiven, not-read, was-read, read-entry-numbers, FileFits, compile-entry-numbers, SequenceRule, StopNumber, not-stopped, stopped-by, run-entry-numbers}
 use Rattle.claims.proofs.DemandTwoFiles.{file-accepted-exactly-if}

@@ -1,3 +1,4 @@
 pub mod Statements
+pub mod Told
 pub mod Examples
 pub mod Numbers

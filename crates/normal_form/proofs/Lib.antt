@@ -20,6 +20,7 @@ pub mod MeaningStep
 pub mod Demand
 pub mod ShapeEffects
 pub mod ShapePositive
+pub mod Monotone
 pub mod ShapePassed
 pub mod ShapeSizes
 pub mod ShapeCounts

@@ -15,3 +15,5 @@ pub mod Changes
 pub mod KindNumbers
 pub mod Cleared
 pub mod Sixteen
+pub mod Runs
+pub mod RowParts
