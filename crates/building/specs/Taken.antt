@@ -35,7 +35,7 @@ pub record Fresh (frame : Frame) (table : List ℕ) : Type 0 where
   pub limit : frame .rows ≤ 4096
   pub blank : Zeros table
 
--- What the start has stands in the table, whatever stands among the twins.
+-- What the start has stands in the table, whatever stands among the twins. Which words index it is left open, as in `FirstTwo`.
 pub record Started (frame : Frame) (table : List ℕ) (p : Progress) : Type 0 where
   pub state : (originals : List ℕ) → start ≡ held (size-at p) (store table originals)
   pub rows : RowsReady (frame .rows) (p .rows) table

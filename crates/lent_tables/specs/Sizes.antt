@@ -9,7 +9,7 @@ pub record Small (h : Head) (r : Bool) : Type 0 where
   pub few-effects : r ≡ true → h .effects ≤ 512
   pub few-variables : r ≡ true → h .variables ≤ 128
 
--- the lesser of two
+-- the lesser of two: one number alone is at most both, and as large as any that is
 pub record Least (a b r : ℕ) : Type 0 where
   pub first : r ≤ a
   pub second : r ≤ b
