@@ -1,6 +1,6 @@
 -- Laws of handing on a mark: what a store of 1 among the marks adds, and the ways out of handing on, by the kind of the row.
 -- Assumes nothing.
-use Prim.Native.Nat.{ℕ, _+_, _<_}
+use Prim.Native.Nat.{ℕ, _+_, _≤_, _<_}
 use native.Mathlib.Decide.{ℕ-discrete}
 use native.Mathlib.Omega.{arith}
 use mathlib.Core.Path.{_≡_, refl, sym, subst, _∙_}
@@ -26,6 +26,8 @@ record Added (at j : ℕ) (before after : List ℕ) : Type 0 where
   more : (i : ℕ) → marked before at i ≡ true → marked after at i ≡ true
   here : marked after at j ≡ true
   new : (i : ℕ) → marked after at i ≡ true → (marked before at i ≡ true) ⊎ (i ≡ j)
+  bits : (i : ℕ) → getD before (at + i) 0 ≤ 1 → getD after (at + i) 0 ≤ 1
+  behind : (i : ℕ) → j < i → getD after (at + i) 0 ≡ getD before (at + i) 0
 
 add : (at j : ℕ) (s : List ℕ) → at + j < length s → Added at j s (set s (at + j) 1)
 unfolding on
@@ -36,6 +38,11 @@ add at j s h =
       more = λ i m. by-place i (λ q. rw q stored) (λ d. rw (getD-set-other s (at + j) (at + i) 1 0 d) m);
       here = stored;
       new = λ i m. by-place i (λ q. inr (omega arith)) (λ d. inl (rw (getD-set-other s (at + j) (at + i) 1 0 d) at m));
+      bits =
+          λ i l.
+          by-place i (λ q. rw (q, getD-set-same s (at + j) 1 0 h) (omega arith))
+          (λ d. rw (getD-set-other s (at + j) (at + i) 1 0 d) l);
+      behind = λ i l. getD-set-other s (at + j) (at + i) 1 0 (omega arith);
     }
   where
     stored : not (eqb (getD (set s (at + j) 1) (at + j) 0) 0) ≡ true
@@ -94,6 +101,8 @@ module _ {words : List ℕ} {v at k : ℕ} {s : List ℕ} (m : Markable words v 
             λ j q.
             ⊎-elim (λ p. ⊎-elim inl (λ z. inr (rw z (to-left kind))) (first .new j p)) (λ z. inr (rw z (to-right kind)))
             (second .new j q);
+        bits = λ j l. second .bits j (first .bits j l);
+        behind = λ j l. second .behind j (omega (arith, refs)) ∙ first .behind j (omega (arith, refs));
       }
     where
       kind : effect-kind (row-at words k .kind) ≡ both-kind
@@ -127,6 +136,8 @@ module _ {words : List ℕ} {v at k : ℕ} {s : List ℕ} (m : Markable words v 
         more = one .more;
         hands = reaches;
         new = λ j q. ⊎-elim inl (λ z. inr (rw z (to-inner kind (not-zero-on s (row-at words k .a) holding)))) (one .new j q);
+        bits = one .bits;
+        behind = λ j l. one .behind j (omega (arith, refs));
       }
     where
       kind : effect-kind (row-at words k .kind) ≡ under-kind
@@ -152,6 +163,8 @@ module _ {words : List ℕ} {v at k : ℕ} {s : List ℕ} (m : Markable words v 
         more = λ j q. q;
         hands = λ j h. absurd (none j h);
         new = λ j q. inl q;
+        bits = λ j l. l;
+        behind = λ j l. refl;
       }
 
   pub handed-shut : row-at words k .kind ≡ 4 → getD s (row-at words k .a) 0 ≡ 0 → HandedOn words at k s s

@@ -7,7 +7,7 @@ use mathlib.Core.Logic.{⊎-elim}
 use mathlib.Core.Bool.{Bool, true, false≢true}
 use mathlib.Core.List.{List, _++_}
 use lib.ListN.{length, getD, set, take, drop, replicate, length-set, length-drop, length-replicate, getD-replicate, List·getD-append}
-use lib.Seq.{getD-set-same, getD-set-other, getD-take, getD-append-add, length-take-le}
+use lib.Seq.{getD-set-same, getD-set-other, getD-take, getD-drop, getD-append-add, length-take-le, ext-getD}
 use borrow.Rule.Slice.PartMut.{midOf, putMid, same-len-mid}
 use Rattle.task.specs.Table.{row-at, EffectKind, both-kind, under-kind, effect-kind}
 use Rattle.task.specs.Rules.{EffectRule}
@@ -37,6 +37,8 @@ module _ (at root : ℕ) (s ys : List ℕ) (room : at + root < length s) where
             λ k l.
             zero-off (set whole (at + root) 1) (at + k)
             (getD-set-other whole (at + root) (at + k) 1 0 (omega arith) ∙ inside k l);
+        bits = λ k l. bit-at k l (decLt k root);
+        behind = λ k l. getD-set-other whole (at + root) (at + k) 1 0 (omega arith) ∙ past k (omega arith);
       }
     where
       rest : List ℕ
@@ -60,6 +62,24 @@ module _ (at root : ℕ) (s ys : List ℕ) (room : at + root < length s) where
           ∙ getD-append-add (take at s) rest k 0
           ∙ List·getD-append ys (drop (at + root - at) (drop at s)) 0 k (omega (arith, many))
           ∙ rw e (getD-replicate (length (midOf at (at + root - at) s)) k 0 0 (omega (arith, mid-length)))
+
+      bit-at : (k : ℕ) → k ≤ root → Dec (k < root) → getD (set whole (at + root) 1) (at + k) 0 ≤ 1
+      bit-at k l (yes b) = rw (getD-set-other whole (at + root) (at + k) 1 0 (omega arith), inside k b) (omega arith)
+      bit-at k l (no b) =
+          let q : k ≡ root = omega arith in
+          rw (q, getD-set-same whole (at + root) 1 0 (omega (arith, long))) (omega arith)
+
+      past : (k : ℕ) → root ≤ k → getD whole (at + k) 0 ≡ getD s (at + k) 0
+      past k l =
+          let behind : k ≡ length ys + (k - root) = omega (arith, many) in
+          let place : at + (at + root - at + (k - root)) ≡ at + k = omega arith in
+          ap (λ (n : ℕ). getD whole (n + k) 0) (sym front)
+          ∙ getD-append-add (take at s) rest k 0
+          ∙ ap (λ (n : ℕ). getD rest n 0) behind
+          ∙ getD-append-add ys (drop (at + root - at) (drop at s)) (k - root) 0
+          ∙ getD-drop (at + root - at) (drop at s) (k - root) 0
+          ∙ getD-drop at s (at + root - at + (k - root)) 0
+          ∙ ap (λ (n : ℕ). getD s n 0) place
 
 -- the rows that a row hands on to are lower, and with other truth values that agree below the bound they are the same
 module _ (words : List ℕ) (v at k : ℕ) (rule : EffectRule v at k (effect-kind (row-at words k .kind)) (row-at words k .a) (row-at words k .b)) where
@@ -100,6 +120,8 @@ pub record Going (words : List ℕ) (at root : ℕ) (before : List ℕ) (left : 
   pub sound : (k : ℕ) → k ≤ root → marked after at k ≡ true → Reached words (on before) root k
   pub passed :
       (k j : ℕ) → left ≤ k → k ≤ root → marked after at k ≡ true → HandsTo words (on before) k j → marked after at j ≡ true
+  pub bits : (k : ℕ) → k ≤ root → getD after (at + k) 0 ≤ 1
+  pub behind : (k : ℕ) → root < k → getD after (at + k) 0 ≡ getD before (at + k) 0
 
 pub starts : {words : List ℕ} {at root : ℕ} {before after : List ℕ} → Begun at root before after → Going words at root after (root + 1) after
 starts {words} {at} {root} {before} {after} g =
@@ -109,6 +131,8 @@ starts {words} {at} {root} {before} {after} g =
       root-marked = g .root-marked;
       sound = λ k l m. only-root k l m (decLt k root);
       passed = λ k j l h. absurd (omega arith);
+      bits = g .bits;
+      behind = λ k l. refl;
     }
   where
     only-root : (k : ℕ) → k ≤ root → marked after at k ≡ true → Dec (k < root) → Reached words (on after) root k
@@ -144,6 +168,8 @@ module _
         root-marked = g .root-marked;
         sound = g .sound;
         passed = λ k j l h q t. by-row k j l h q t (decLt k left);
+        bits = g .bits;
+        behind = g .behind;
       }
     where
       by-row : (k j : ℕ) → left - 1 ≤ k → k ≤ root → marked s at k ≡ true → HandsTo words (on before) k j → Dec (k < left) → marked s at j ≡ true
@@ -165,6 +191,8 @@ module _
         root-marked = w .more root (g .root-marked);
         sound = λ k l q. ⊎-elim (g .sound k l) (λ h. handed (left - 1) k here (from-now k h)) (w .new k q);
         passed = λ k j l h q r. by-row k j l h q r (decLt k left);
+        bits = λ k l. w .bits k (g .bits k l);
+        behind = λ k l. w .behind k (omega arith) ∙ g .behind k l;
       }
     where
       rule : EffectRule v at (left - 1) (effect-kind (row-at words (left - 1) .kind)) (row-at words (left - 1) .a) (row-at words (left - 1) .b)
@@ -207,8 +235,19 @@ finished {words} {v} {at} {root} {before} {first} {after} m b g =
             λ r.
                 all k (reached-same words v at root before m (on before) (on first) (λ i h. sym (on-same before first i (b .values i h))) k r),
           );
+      bits = g .bits;
+      behind =
+          let long : length (drop (at + root + 1) after) ≡ length (drop (at + root + 1) before) =
+          simp length-drop (omega (arith, g .same, b .same)) in
+          ext-getD 0 (drop (at + root + 1) after) (drop (at + root + 1) before) long
+          (λ i l. getD-drop (at + root + 1) after i 0 ∙ past i ∙ sym (getD-drop (at + root + 1) before i 0));
     }
   where
+    past : (i : ℕ) → getD after (at + root + 1 + i) 0 ≡ getD before (at + root + 1 + i) 0
+    past i =
+        let e : at + root + 1 + i ≡ at + (root + 1 + i) = omega arith in
+        rw e (g .behind (root + 1 + i) (omega arith) ∙ b .behind (root + 1 + i) (omega arith))
+
     all : (k : ℕ) → Reached words (on first) root k → marked after at k ≡ true
     all k at-root = g .root-marked
     all k (handed i j r t) = g .passed i k (omega arith) (reached-below words v at root before m (on first) i r) (all i r) t

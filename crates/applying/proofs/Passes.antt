@@ -1,23 +1,18 @@
 -- Laws of carrying out an effect: what each turn of a pass over its marked rows leaves, and what the two passes come to. Assumes nothing.
 use Prim.Native.Nat.{ℕ, zero, suc, _≤_, _+_, _-_, _<_}
-use native.Mathlib.Decide.{ℕ-discrete}
 use native.Mathlib.Numerals.{add-one}
 use native.Mathlib.Omega.{arith}
 use mathlib.Core.Path.{_≡_, refl, sym, ap, _∙_}
 use mathlib.Core.Bool.{Bool, true, false, cond, false≢true}
 use mathlib.Core.List.{List}
 use lib.ListN.{length, getD, set, length-set}
-use lib.Seq.{getD-set-same, getD-set-other}
 use lib.Dec.{eqb}
 use borrow.Author.Tests.{eq-eqb, ne-eqb, eqb-true}
 use Rattle.task.specs.Table.{row-at, effect-kind}
 use Rattle.task.specs.Rules.{EffectRule}
 use Rattle.task.proofs.Bounded.{and-right}
 use Rattle.task.proofs.KindNumbers.{by-effect-kind}
-use Rattle.task.specs.Semantics.{holds}
-use Rattle.task.specs.Tree.{formula-of}
-use Rattle.task.proofs.Values.{bit-small, Values}
-use Rattle.evaluating.specs.Values.{rows-of, Valued}
+use Rattle.evaluating.specs.Values.{Valued}
 use Rattle.applying.specs.Marks.{on, marked, acts, changed, Changeable, Markable, Marked}
 use Rattle.applying.specs.Carrying.{ConditionsReady, Decided, Decides, AtomsCarried, Carried}
 
@@ -87,7 +82,7 @@ changeable {words} {v} {at} {root} {kind} {w} {before} {after} m long low high s
           (atom-named v at k (row-at words k .kind) (row-at words k .a) (row-at words k .b) (rw e low) (rw e high) (m .rule k (omega arith)));
     }
 
--- a pass keeps the state's length and its bits
+-- a pass keeps the state's length
 module _ (words : List ℕ) (kind value : ℕ) (scratch : List ℕ) (at : ℕ) (s : List ℕ) where
   pub length-changed : (n : ℕ) → length (changed words kind value scratch at n s) ≡ length s
   unfolding changed
@@ -101,74 +96,35 @@ module _ (words : List ℕ) (kind value : ℕ) (scratch : List ℕ) (at : ℕ) (
       go true same = length-set t (row-at words n .a) value ∙ same
       go false same = same
 
-  pub changed-bits :
-      value ≤ 1
-      → ((v : ℕ) → v < length s → getD s v 0 ≤ 1)
-      → (n v : ℕ)
-      → v < length s
-      → getD (changed words kind value scratch at n s) v 0 ≤ 1
-  unfolding changed
-  changed-bits low bits zero v h = bits v h
-  changed-bits low bits (suc n) v h =
-      go (acts words kind scratch at n) (ℕ-discrete v (row-at words n .a)) (length-changed n) (changed-bits low bits n v h)
-    where
-      t : List ℕ
-      t = changed words kind value scratch at n s
-
-      a : ℕ
-      a = row-at words n .a
-
-      go : (b : Bool) → Dec (v ≡ a) → length t ≡ length s → getD t v 0 ≤ 1 → getD (cond b (set t a value) t) v 0 ≤ 1
-      go true (yes e) same old = rw (e, getD-set-same t a value 0 (omega (arith, same, e))) low
-      go true (no d) same old = rw (getD-set-other t a v value 0 d) old
-      go false q same old = old
-
 -- the ways out of `decide`
 pub all-decided :
-    {decided : Bool} {f e : List ℕ} {from at root : ℕ} {s scratch : List ℕ}
+    {decided : Bool} {f e : List ℕ} {at root : ℕ} {s scratch : List ℕ}
     → decided ≡ true
-    → Decides decided f e from at root s scratch scratch
+    → Decides decided f e at root s scratch scratch
 all-decided q = record { kept = λ x. refl; new = λ x. absurd (false≢true (sym x ∙ q)) }
 
 pub now-decided :
-    {decided : Bool} {f e : List ℕ} {from at root : ℕ} {s before values after : List ℕ}
+    {decided : Bool} {f e : List ℕ} {at root : ℕ} {s before values after : List ℕ}
     → decided ≡ false
     → length values ≡ length before
-    → Valued f from at s before values
+    → Valued f at s before values
     → Marked e at root values after
-    → Decides decided f e from at root s before after
+    → Decides decided f e at root s before after
 now-decided {values = values} q long valued marking =
     record {
       kept = λ x. absurd (false≢true (sym q ∙ x));
       new = λ x. record { values = values; same = long; evaluating = valued; marking = marking };
     }
 
--- after a pass the same could be asked again
-pub conditions-again :
+-- after the first pass all is decided
+pub decided-ready :
     {f e : List ℕ} {from at root value : ℕ} {s half before marks : List ℕ}
-    → ConditionsReady f e from at root s before
-    → Values s (rows-of at f) from before
-    → AtomsCarried false f e from at root value s half before marks
-    → value ≤ 1
-    → ConditionsReady f e from at root half marks
-conditions-again {f} {e} {from} {at} {root} {value} {s} {half} {before} {marks} ready known done low =
+    → ConditionsReady false f e from at root s before
+    → AtomsCarried false f e at root value s half before marks
+    → ConditionsReady true f e from at root half marks
+decided-ready {f} {e} {from} {at} {root} {value} {s} {half} {before} {marks} ready done =
     record {
-      formulas =
-          record {
-            there = ready .formulas .there;
-            rule = λ i h. rw long (ready .formulas .rule i h);
-            state-bits =
-                λ v l.
-                rw (done .state)
-                (changed-bits e (2 - value) value marks at s low (ready .formulas .state-bits) (root + 1) v (rw long at l));
-            room = omega (arith, ready .formulas .room, d .same, d .marking .same);
-            order = ready .formulas .order;
-            value-bits =
-                λ j l.
-                let below : j < at = omega (arith, ready .formulas .order) in
-                rw (d .marking .values j below, d .evaluating .known known .at j below)
-                (bit-small (holds s (formula-of (rows-of at f) j)));
-          };
+      formulas = λ q. absurd (false≢true (sym q));
       effects =
           record {
             rows = ready .effects .rows;
@@ -177,7 +133,7 @@ conditions-again {f} {e} {from} {at} {root} {value} {s} {half} {before} {marks} 
           };
     }
   where
-    d : Decided f e from at root s before marks
+    d : Decided f e at root s before marks
     d = done .deciding .new refl
 
     long : length half ≡ length s
@@ -185,11 +141,11 @@ conditions-again {f} {e} {from} {at} {root} {value} {s} {half} {before} {marks} 
 
 -- the conditions are decided, then come the clears, then the sets by the same marks
 pub carried :
-    {f e : List ℕ} {from at root : ℕ} {s half after before marks rest : List ℕ}
-    → Decided f e from at root s before marks
+    {f e : List ℕ} {at root : ℕ} {s half after before marks rest : List ℕ}
+    → Decided f e at root s before marks
     → half ≡ changed e 2 0 marks at (root + 1) s
     → rest ≡ marks
     → after ≡ changed e 1 1 rest at (root + 1) half
-    → Carried f e from at root s after before rest
+    → Carried f e at root s after before rest
 carried {e = e} {at = at} {root = root} d one same two =
     record { deciding = rw same d; state = two ∙ rw (one, same) }

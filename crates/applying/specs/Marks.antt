@@ -5,7 +5,7 @@ use mathlib.Core.Path.{_≡_}
 use mathlib.Core.Bool.{Bool, true, false, cond, not, _&&_}
 use mathlib.Core.Logic.{_↔_, _⊎_}
 use mathlib.Core.List.{List}
-use lib.ListN.{length, getD, set}
+use lib.ListN.{length, getD, set, drop}
 use lib.Dec.{eqb}
 use Rattle.task.specs.Table.{row-at, both-kind, under-kind, effect-kind}
 use Rattle.task.specs.Rules.{EffectRule}
@@ -57,11 +57,14 @@ pub record Markable (words : List ℕ) (v at root : ℕ) (scratch : List ℕ) : 
       → k ≤ root
       → EffectRule v at k (effect-kind (row-at words k .kind)) (row-at words k .a) (row-at words k .b)
 
--- what it leaves: of the rows up to the root, those that act are marked
+-- what it leaves, every byte of it: the values as they were; of the rows up to the root, 1 for those that act and 0 for the others; behind them
+-- what stood there
 pub record Marked (words : List ℕ) (at root : ℕ) (before after : List ℕ) : Type 0 where
   pub same : length after ≡ length before
   pub values : (i : ℕ) → i < at → getD after i 0 ≡ getD before i 0
   pub acting : (k : ℕ) → k ≤ root → marked after at k ≡ true ↔ Reached words (on before) root k
+  pub bits : (k : ℕ) → k ≤ root → getD after (at + k) 0 ≤ 1
+  pub behind : drop (at + root + 1) after ≡ drop (at + root + 1) before
 
 -- what handing on from row k leaves: marks are added for the rows that it hands on to
 pub record HandedOn (words : List ℕ) (at k : ℕ) (before after : List ℕ) : Type 0 where
@@ -70,6 +73,8 @@ pub record HandedOn (words : List ℕ) (at k : ℕ) (before after : List ℕ) : 
   pub more : (j : ℕ) → marked before at j ≡ true → marked after at j ≡ true
   pub hands : (j : ℕ) → HandsTo words (on before) k j → marked after at j ≡ true
   pub new : (j : ℕ) → marked after at j ≡ true → (marked before at j ≡ true) ⊎ HandsTo words (on before) k j
+  pub bits : (j : ℕ) → getD before (at + j) 0 ≤ 1 → getD after (at + j) 0 ≤ 1
+  pub behind : (j : ℕ) → k ≤ j → getD after (at + j) 0 ≡ getD before (at + j) 0
 
 -- the first mark: only the root, among the rows up to it
 pub record Begun (at root : ℕ) (before after : List ℕ) : Type 0 where
@@ -77,3 +82,5 @@ pub record Begun (at root : ℕ) (before after : List ℕ) : Type 0 where
   pub values : (i : ℕ) → i < at → getD after i 0 ≡ getD before i 0
   pub root-marked : marked after at root ≡ true
   pub only : (k : ℕ) → k < root → marked after at k ≡ false
+  pub bits : (k : ℕ) → k ≤ root → getD after (at + k) 0 ≤ 1
+  pub behind : (k : ℕ) → root < k → getD after (at + k) 0 ≡ getD before (at + k) 0

@@ -1,9 +1,8 @@
 // Carrying out an effect: the rows that act are marked, then the state is changed in place.
 ghost use Prim.Native.Nat.{_+_, _≤_, _<_};
 ghost use mathlib.Core.Path.{_≡_};
+ghost use mathlib.Core.Bool.{false};
 ghost use lib.ListN.{length};
-ghost use Rattle.task.proofs.Values.{Values};
-ghost use Rattle.evaluating.specs.Values.{rows-of};
 ghost use Rattle.applying.specs.Marks.{changed, Changeable, Markable, Marked, HandedOn, Begun};
 ghost use Rattle.applying.specs.Carrying.{ConditionsReady, Decides, AtomsCarried, Carried};
 use evaluating::evaluate;
@@ -90,8 +89,8 @@ fn decide(
     state: &[u8],
     scratch: &mut [u8],
 )
-    requires { ⌜ ConditionsReady (now formulas) (now effects) from at root (now state) (now scratch) ⌝ }
-    ensures { λ _. ⌜ Decides decided (now (formulas .entry)) (now (effects .entry)) from at root (now (state .entry)) (now (scratch .entry)) (now (scratch .exit)) ⌝ }
+    requires { ⌜ ConditionsReady decided (now formulas) (now effects) from at root (now state) (now scratch) ⌝ }
+    ensures { λ _. ⌜ Decides decided (now (formulas .entry)) (now (effects .entry)) at root (now (state .entry)) (now (scratch .entry)) (now (scratch .exit)) ⌝ }
 {
     if decided {
         return;
@@ -114,9 +113,9 @@ fn carry_out_atoms(
     state: &mut [u8],
     scratch: &mut [u8],
 )
-    requires { ⌜ ConditionsReady (now formulas) (now effects) from at root (now state) (now scratch) ⌝ }
+    requires { ⌜ ConditionsReady decided (now formulas) (now effects) from at root (now state) (now scratch) ⌝ }
     requires { ⌜ value ≤ 1 ⌝ }
-    ensures { λ _. ⌜ AtomsCarried decided (now (formulas .entry)) (now (effects .entry)) from at root value (now (state .entry)) (now (state .exit)) (now (scratch .entry)) (now (scratch .exit)) ⌝ }
+    ensures { λ _. ⌜ AtomsCarried decided (now (formulas .entry)) (now (effects .entry)) at root value (now (state .entry)) (now (state .exit)) (now (scratch .entry)) (now (scratch .exit)) ⌝ }
 {
     decide(decided, formulas, from, at, effects, root, state, scratch);
     let rows = root + 1;
@@ -136,9 +135,8 @@ pub fn carry_out(
     state: &mut [u8],
     scratch: &mut [u8],
 )
-    requires { ⌜ ConditionsReady (now formulas) (now effects) from at root (now state) (now scratch) ⌝ }
-    requires { ⌜ Values (now state) (rows-of at (now formulas)) from (now scratch) ⌝ }
-    ensures { λ _. ⌜ Carried (now (formulas .entry)) (now (effects .entry)) from at root (now (state .entry)) (now (state .exit)) (now (scratch .entry)) (now (scratch .exit)) ⌝ }
+    requires { ⌜ ConditionsReady false (now formulas) (now effects) from at root (now state) (now scratch) ⌝ }
+    ensures { λ _. ⌜ Carried (now (formulas .entry)) (now (effects .entry)) at root (now (state .entry)) (now (state .exit)) (now (scratch .entry)) (now (scratch .exit)) ⌝ }
 {
     carry_out_atoms(false, formulas, from, at, effects, root, 0, state, scratch);
     carry_out_atoms(true, formulas, from, at, effects, root, 1, state, scratch);

@@ -208,6 +208,7 @@ module _ (n : ℕ) (twins operators records : List ℕ) where
     assembling-stop count b q =
         record {
           within = λ e. absurd (true≢false (sym q ∙ e));
+          nothing-stands = λ e. absurd (true≢false (sym q ∙ e));
           done = λ e. absurd (true≢false (sym q ∙ e));
           over = λ _ few.
               one-more .over (assembled-in n twins operators records o) h q
@@ -225,7 +226,7 @@ module _ (n : ℕ) (twins operators records : List ℕ) where
       → rows ≤ room
       → AssembledAll (assembled-in n twins operators records count) room count (begun rows) out outs
   assembling-done o count e h most =
-      record { within = λ _. most; done = λ _. rw (sym e) h; over = λ q few. true≢false (sym q) }
+      record { within = λ _. most; nothing-stands = λ _. refl; done = λ _. rw (sym e) h; over = λ q few. true≢false (sym q) }
 
 -- what one operator asks
 pub asks-operator :

@@ -98,8 +98,9 @@ pub record Twinned (frame : Frame) (originals : List ℕ) : Type 0 where
   pub twins : frame .twins ≤ length originals
   pub below : (k : ℕ) → k < frame .twins → getD originals k 0 < frame .variables
 
--- All operators are written, or their rules have no room.
+-- All operators are written, or their rules have no room. Then it is left open what stands in both tables and in the answer's counts, as in `Writes`.
 pub record AssembledAll (w : Assembled) (room count : ℕ) (r : Chain) (out operators : List ℕ) : Type 0 where
   pub done : r .full ≡ false → Holding w (r .rows) count out operators
   pub over : r .full ≡ true → length (w .effects) ≤ room → ⊥
   pub within : r .full ≡ false → r .rows ≤ room
+  pub nothing-stands : r .full ≡ false → r .stands ≡ 0

@@ -89,7 +89,8 @@ pub record FoundSet (frame : Frame) (effects : List ℕ) (i : ℕ) (before after
   pub ahead : (j : ℕ) → j < set-start frame i → getD after j 0 ≡ getD before j 0
   pub behind : (j : ℕ) → set-start frame (i + 1) ≤ j → getD after j 0 ≡ getD before j 0
 
--- All rows have their sets, and the words around them are as they were.
+-- All rows have their sets, and the words around them are as they were. Whether a set holds more atoms than stand in its row is left open: only what
+-- it lacks is built upon (`Sets`), and the rest costs time alone.
 pub record FoundSets (frame : Frame) (effects before after : List ℕ) : Type 0 where
   pub sets : Sets frame effects after
   pub ahead : (j : ℕ) → j < 4 * frame .effects → getD after j 0 ≡ getD before j 0

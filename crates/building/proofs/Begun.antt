@@ -26,15 +26,11 @@ use Rattle.operators.specs.declared.Tally.{Tally}
 use Rattle.operators.specs.Operator.{operator-built, operators-built, operator-here, BuildsOperator, OperatorWalked}
 use Rattle.operators.proofs.InOrder.{more-grows}
 use Rattle.building.specs.declared.Progress.{Progress}
-use Rattle.building.specs.Taken.{size-at, Fresh, Started, Begun, Blank, Stood, precondition-here, changes-here, many, Taken, Takes, Took, whole-built, FromStart}
+use Rattle.building.specs.Taken.{size-at, stopped, Fresh, Started, Begun, Blank, Stood, precondition-here, changes-here, many, Taken, Takes, Took, whole-built, FromStart}
 use Rattle.building.proofs.Kept.{many-more, none-kept, one-kept}
 
 abbrev pub begun : Progress
 begun = record { rows = 2; twins = 0; operators = 0; records = 0; full = false }
-
--- no room, so many operators taken
-abbrev pub stopped : ℕ → Progress
-stopped n = record { rows = 0; twins = 0; operators = n; records = 0; full = true }
 
 -- the notes are of no use without room
 pub leaves-stopped :
@@ -44,7 +40,7 @@ pub leaves-stopped :
 leaves-stopped e = rw e leaves-full
 
 -- there is no room for false and true
-pub no-beginning : (frame : Frame) (table : List ℕ) {p : Progress} → frame .rows < 2 → p ≡ stopped 0 → Begun frame table p
+pub no-beginning : (frame : Frame) (table : List ℕ) {p : Progress} → frame .rows < 2 → p ≡ stopped 0 → Begun frame table table p
 unfolding start
 no-beginning frame table h e =
     rw e
@@ -53,6 +49,8 @@ no-beginning frame table h e =
       no-records = refl;
       done = λ g. absurd (true≢false g);
       over = λ _ w. omega (arith, w .rows);
+      answer = λ _. refl;
+      untouched = λ _. refl;
     })
 
 pub beginning :
@@ -60,9 +58,16 @@ pub beginning :
     → Fresh frame table
     → 2 ≤ frame .rows
     → FirstTwo (frame .rows) table after
-    → Begun frame after begun
+    → Begun frame table after begun
 beginning frame table {after} b two f =
-    record { none = refl; no-records = refl; done = λ _. started; over = λ q _. true≢false (sym q) }
+    record {
+      none = refl;
+      no-records = refl;
+      done = λ _. started;
+      over = λ q _. true≢false (sym q);
+      answer = λ q. absurd (true≢false (sym q));
+      untouched = λ q. absurd (true≢false (sym q));
+    }
   where
     stand : (originals : List ℕ) → start ≡ held (size-at begun) (store after originals)
     stand originals = unfold held start in (λ i. record { rows = sym (f .rows) i; twins = [] })
@@ -99,11 +104,11 @@ module _ (frame : Frame) (formulas effects operators : List ℕ) where
   none-taken n e = rw e refl
 
   pub taken-none :
-      {table originals scratch records : List ℕ} {p : Progress}
+      {before table originals scratch records : List ℕ} {p : Progress}
       → Blank frame formulas effects originals scratch
-      → Begun frame table p
+      → Begun frame before table p
       → Taken frame formulas effects operators (store table originals) scratch records p
-  taken-none {table} {originals} {scratch} {records} {p} b g =
+  taken-none {table = table} {originals} {scratch} {records} {p} b g =
       record {
         done = λ q.
             let s = g .done q in
@@ -138,6 +143,7 @@ module _ (frame : Frame) (formulas effects operators : List ℕ) where
         rw e
         (record {
           next = refl;
+          answer = λ _. refl;
           taken =
               record {
                 done = λ g. absurd (true≢false g);
@@ -195,6 +201,7 @@ module _ (frame : Frame) (formulas effects operators : List ℕ) where
             rw e
             (record {
               next = refl;
+              answer = λ _. refl;
               taken =
                   record {
                     done = λ f. absurd (true≢false f);
@@ -213,6 +220,7 @@ module _ (frame : Frame) (formulas effects operators : List ℕ) where
               rw e
               (record {
                 next = refl;
+                answer = λ _. refl;
                 taken =
                     record {
                       done = λ f. absurd (true≢false f);
@@ -241,6 +249,7 @@ module _ (frame : Frame) (formulas effects operators : List ℕ) where
               rw (stored, e)
               (record {
                 next = refl;
+                answer = λ f. absurd (true≢false (sym f));
                 taken =
                     record {
                       done = λ _.

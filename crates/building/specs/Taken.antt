@@ -21,6 +21,10 @@ use Rattle.building.specs.declared.Progress.{Progress}
 abbrev pub size-at : Progress → Size
 size-at p = record { rows = p .rows; twins = p .twins }
 
+-- the answer without room, so many operators taken
+abbrev pub stopped : ℕ → Progress
+stopped n = record { rows = 0; twins = 0; operators = n; records = 0; full = true }
+
 -- all words are 0
 abbrev pub Zeros : List ℕ → Type 0
 Zeros l = (j : ℕ) → getD l j 0 ≡ 0
@@ -31,7 +35,7 @@ pub record Fresh (frame : Frame) (table : List ℕ) : Type 0 where
   pub limit : frame .rows ≤ 4096
   pub blank : Zeros table
 
--- What the start has stands in the table, whatever stands among the twins.
+-- What the start has stands in the table, whatever stands among the twins. Which words index it is left open, as in `FirstTwo`.
 pub record Started (frame : Frame) (table : List ℕ) (p : Progress) : Type 0 where
   pub state : (originals : List ℕ) → start ≡ held (size-at p) (store table originals)
   pub rows : RowsReady (frame .rows) (p .rows) table
@@ -39,12 +43,14 @@ pub record Started (frame : Frame) (table : List ℕ) (p : Progress) : Type 0 wh
   pub twins : p .twins ≡ 0
   pub named : (originals : List ℕ) → TwinsNamed frame (size-at p) (store table originals)
 
--- It stands there, or there is no room for it; no operator is taken.
-pub record Begun (frame : Frame) (table : List ℕ) (p : Progress) : Type 0 where
+-- It stands there, or there is no room for it, and the table is as it was; no operator is taken.
+pub record Begun (frame : Frame) (before table : List ℕ) (p : Progress) : Type 0 where
   pub none : p .operators ≡ 0
   pub no-records : p .records ≡ 0
   pub done : p .full ≡ false → Started frame table p
   pub over : p .full ≡ true → Within frame start → ⊥
+  pub answer : p .full ≡ true → p ≡ stopped 0
+  pub untouched : p .full ≡ true → table ≡ before
 
 -- The source keeps the rules, scratch is all 0, and there are no twins.
 pub record Blank (frame : Frame) (formulas effects originals scratch : List ℕ) : Type 0 where
@@ -89,7 +95,9 @@ pub record AllKept (frame : Frame) (formulas effects operators records : List �
   pub limit : k ≤ 2048
   pub each : (o : ℕ) → o < n → Kept frame formulas effects operators records o
 
--- So many operators are taken: the tables hold what building them gives from the start, and each is recorded; or there is no room for it.
+-- So many operators are taken: the tables hold what building them gives from the start, and each is recorded; or there is no room for it. Then tables,
+-- memos and records are left open; otherwise only which words index, memos and notes have, if they are right (`Builds` says why), and the
+-- records behind those of these operators, which nothing reads.
 pub record Taken (frame : Frame) (formulas effects operators : List ℕ) (s : Store) (scratch records : List ℕ) (p : Progress) : Type 0 where
   pub done :
       p .full ≡ false
@@ -111,10 +119,11 @@ pub record Takes (frame : Frame) (formulas effects notes operators : List ℕ) (
   pub precondition : row-at operators (p .operators) .kind < frame .formulas
   pub effect : row-at operators (p .operators) .a < frame .effects
 
--- It is taken.
+-- It is taken, or there is no room: then the answer says so.
 pub record Took (frame : Frame) (formulas effects operators : List ℕ) (s : Store) (scratch records : List ℕ) (p r : Progress) : Type 0 where
   pub next : r .operators ≡ p .operators + 1
   pub taken : Taken frame formulas effects operators s scratch records r
+  pub answer : r .full ≡ true → r ≡ stopped (p .operators + 1)
 
 -- the operators in order, the goal last
 unfoldable pub whole-built : Frame → List ℕ → List ℕ → List ℕ → ℕ → ℕ → Build ℕ

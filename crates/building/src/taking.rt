@@ -10,11 +10,11 @@ ghost use mathlib.Core.Path.{_≡_};
 ghost use mathlib.Core.Bool.{true};
 ghost use Rattle.formula_builder.specs.Held.{store};
 ghost use Rattle.changes.specs.Stands.{Leaves};
-ghost use Rattle.building.specs.Taken.{size-at, Fresh, Begun, Takes, Took};
+ghost use Rattle.building.specs.Taken.{size-at, stopped, Fresh, Begun, Takes, Took};
 
 // No room, so many operators taken.
 fn no_room(taken: usize) -> Progress
-    ensures { λ r. ⌜ r ≡ record { rows = 0; twins = 0; operators = taken; records = 0; full = true } ⌝ }
+    ensures { λ r. ⌜ r ≡ stopped taken ⌝ }
 {
     Progress {
         rows: 0,
@@ -28,7 +28,7 @@ fn no_room(taken: usize) -> Progress
 // False and true, in a table that is all 0. Constant cost.
 pub fn begin(frame: Frame, table: &mut [u16]) -> Progress
     requires { ⌜ Fresh frame (now table) ⌝ }
-    ensures { λ r. ⌜ Begun frame (now (table .exit)) r ⌝ }
+    ensures { λ r. ⌜ Begun frame (now (table .entry)) (now (table .exit)) r ⌝ }
 {
     if frame.rows < 2 {
         return no_room(0);

@@ -42,7 +42,8 @@ pub record Reached (t : St) (frame : Frame) (formulas effects : List ℕ) (at : 
   pub memo : Memo frame formulas scratch (held at after)
   pub effect-memo : EffectMemo frame formulas effects scratch (held at after)
 
--- A step reaches its state, or there is no room for it.
+-- A step reaches its state, or there is no room for it. Then tables, memos, notes, sizes and values are left open (`Builds` says why); otherwise only which
+-- words index, memos and notes have, if they are right.
 pub record Reaches {A : Type 0} (m : Build A) (frame : Frame) (formulas effects : List ℕ) (at : Size) (before after : Store) (scratch : List ℕ) (full : Bool) (next : Size) : Type 0 where
   pub done : full ≡ false → Reached (m (held at before) .st) frame formulas effects next after scratch
   pub over : full ≡ true → Within frame (m (held at before) .st) → ⊥

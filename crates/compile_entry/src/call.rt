@@ -7,7 +7,7 @@ ghost use Rattle.compiled_file.specs.Giving.{CompileGives};
 ghost use Rattle.compile_entry.specs.Entry.{compile-entry-by, compile-entry};
 use task_file::ReadAnswer;
 
-// Reads into tables that are lent, then compiles.
+// Reads into tables that are lent, then compiles. What these hold afterwards is left open: they end with the caller's call.
 fn read_and_compile(
     file: &[u8],
     initial: &mut [u8],

@@ -11,7 +11,8 @@ use crate::answers::task_lines;
 use compiler::CompileAnswer;
 use task::Head;
 
-// Through tables that are lent. The compiling, and one pass over the compiled task.
+// Through tables that are lent. What these hold afterwards is left open: they end with the caller's call. The compiling, and one pass over the
+// compiled task.
 fn compile_through(
     head: Head,
     initial: &[u8],

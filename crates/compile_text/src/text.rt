@@ -5,7 +5,7 @@ use crate::answers::number_line;
 use crate::compiling::compile_text;
 use task_file::ReadAnswer;
 
-// Through tables that are lent.
+// Through tables that are lent. What these hold afterwards is left open: they end with the caller's call.
 fn text_through(
     file: &[u8],
     initial: &mut [u8],

@@ -23,7 +23,8 @@ fn refused(r: CompileAnswer) -> u32
     }
 }
 
-// Compiles tables that pass, through tables that are lent. Compiling, one pass over the compiled task, and the lent tables cleared.
+// Compiles tables that pass, through tables that are lent. What these hold afterwards is left open: they end with the caller's call. Compiling, one pass
+// over the compiled task, and the lent tables cleared.
 fn compile_through(
     head: Head,
     initial: &[u8],

@@ -90,7 +90,7 @@ module _ {l : Lent} {x : Tables} (p : Passed l x) where
 
   module _ {y : Tables} {r : Passes} (f : Fills l x y r) where
     pub filled-over : {z : Tables} → r .full ≡ true → Blanked x z → compile-left (Refused 15) z ≡ compiling l (room-of x)
-    filled-over q b = refuses-room (f .over q) b
+    filled-over q b = refuses-room (f .over q .misfit) b
 
     pub filled-done :
         {s : List ℕ} {k : Head}

@@ -222,7 +222,8 @@ pub record Asks (frame : Frame) (formulas effects notes : List ℕ) (t : Target)
   pub variable : t .variable < frame .variables
   pub effect : e < frame .effects
 
--- A step with both memos and the notes.
+-- A step with both memos and the notes. Which words these have is left open, if they are right (`Memo`, `EffectMemo`, `Noted`): they change no answer.
+-- Once there is no room nothing is said of them. Scratch behind the memos is left open too: `compile` clears it (`compiling`).
 pub record Conditions (m : Build ℕ) (frame : Frame) (formulas effects notes' : List ℕ) (at : Size) (before after : Store) (scratch' : List ℕ) (r : Step) : Type 0 where
   pub builds : Builds m frame at before after r
   pub noted : r .full ≡ false → Noted frame formulas effects notes' (held (size-of r) after)

@@ -69,7 +69,8 @@ pub record Settled (frame : Frame) (i last : ℕ) (notes notes' : List ℕ) (r :
   pub within : column notes' i ≤ r
   pub fresh : 0 < column notes' i → last < column notes' i
 
--- The columns are found, and all else is as it was.
+-- The columns are found, and all else is as it was. Which rows have one is left open, if no two have the same (`Columns`): it tells what is kept for
+-- later operators, and changes no answer.
 pub record FoundColumns (frame : Frame) (notes notes' : List ℕ) : Type 0 where
   pub columns : Columns frame notes'
   pub elsewhere : Elsewhere (frame .effects) notes notes'

@@ -1,13 +1,12 @@
 -- Laws of the values of the rows: what each arm of the code gives, and what each turn of the loop leaves. Assumes nothing.
 use Prim.Native.Nat.{ℕ, zero, suc, _+_, _-_, _≤_, _<_}
 use native.Mathlib.Nat.{add-zero, add-suc}
-use native.Mathlib.Decide.{decLt}
 use native.Mathlib.Omega.{arith}
 use mathlib.Core.Path.{_≡_, refl, sym, ap, _∙_}
 use mathlib.Core.Bool.{cond, not}
 use mathlib.Core.List.{List, [], _∷_}
-use lib.ListN.{length, getD, set, length-set}
-use lib.Seq.{getD-set-same, getD-set-other}
+use lib.ListN.{length, getD, set, drop, length-set}
+use lib.Seq.{drop-drop, drop-set-lt}
 use lib.Dec.{eqb}
 use Rattle.task.specs.Bounded.{upto}
 use Rattle.task.specs.Table.{row-at, formula-kind}
@@ -157,11 +156,11 @@ module _ {words : List ℕ} {i : ℕ} {s values : List ℕ} (ready : RowReady wo
         (join-value s values (row-at words i .kind) (row-at words i .a) (row-at words i .b) (join-refs .0) (join-refs .1)))
 
 -- what the loop has done before row i
-pub record Evaluating (words : List ℕ) (from n : ℕ) (s before : List ℕ) (i : ℕ) (t : List ℕ) : Type 0 where
+pub record Evaluating (words : List ℕ) (n : ℕ) (s before : List ℕ) (i : ℕ) (t : List ℕ) : Type 0 where
   pub inside : i ≤ n
   pub same : length t ≡ length before
-  pub bits : (j : ℕ) → j < i → getD t j 0 ≤ 1
-  pub known : Values s (rows-of n words) from before → Values s (rows-of n words) i t
+  pub known : Values s (rows-of n words) i t
+  pub behind : drop i t ≡ drop i before
 
 module _ {words : List ℕ} {from n : ℕ} {s scratch : List ℕ} (able : Valuable words from n s scratch) where
   down : (m : ℕ) → m ≤ n → FormulasDown (length s) (rows-of m words)
@@ -199,10 +198,10 @@ module _ {words : List ℕ} {from n : ℕ} {s scratch : List ℕ} (able : Valuab
   same-values m t b v = record { at = λ j l. v .at j l ∙ ap bit (same-holds m j b l) }
 
   -- the loop over the rows from .. n - 1
-  pub begin : Evaluating words from n s scratch from scratch
-  begin = record { inside = able .order; same = refl; bits = able .value-bits; known = λ v. v }
+  pub begin : Evaluating words n s scratch from scratch
+  begin = record { inside = able .order; same = refl; known = able .below; behind = refl }
 
-  module _ {i : ℕ} {t : List ℕ} (h : i < n) (so-far : Evaluating words from n s scratch i t) where
+  module _ {i : ℕ} {t : List ℕ} (h : i < n) (so-far : Evaluating words n s scratch i t) where
     pub row-ready : RowReady words i s t
     row-ready =
         record {
@@ -210,29 +209,28 @@ module _ {words : List ℕ} {from n : ℕ} {s scratch : List ℕ} (able : Valuab
           rule = able .rule i h;
           state-bits = able .state-bits;
           room = omega (arith, able .room, so-far .same);
-          value-bits = so-far .bits;
+          value-bits = λ j l. rw (so-far .known .at j l) (bit-small (holds s (formula-of (rows-of n words) j)));
         }
 
     pub one-more :
-        {x : ℕ} → x ≡ bit (row-value s t (row-at words i)) → Evaluating words from n s scratch (i + 1) (set t i x)
+        {x : ℕ} → x ≡ bit (row-value s t (row-at words i)) → Evaluating words n s scratch (i + 1) (set t i x)
     one-more {x} e =
         record {
           inside = omega arith;
           same = length-set t i x ∙ so-far .same;
-          bits = λ j l. bit-at j l (decLt j i);
           known =
-              λ v.
               rw (e, ← getD-upto n (row-at words) i no-row h)
               (values-stored (length s) (rows-of n words) (down n (omega arith)) s i t
-              (rw (length-upto n (row-at words)) h) (omega (arith, able .room, so-far .same)) (so-far .known v));
+              (rw (length-upto n (row-at words)) h) (omega (arith, able .room, so-far .same)) (so-far .known));
+          behind =
+              drop-set-lt (i + 1) t i x (omega arith)
+              ∙ sym (drop-drop 1 i t)
+              ∙ ap (drop 1) (so-far .behind)
+              ∙ drop-drop 1 i scratch;
         }
-      where
-        bit-at : (j : ℕ) → j < i + 1 → Dec (j < i) → getD (set t i x) j 0 ≤ 1
-        bit-at j l (yes b) = rw (getD-set-other t i j x 0 (omega arith)) (so-far .bits j b)
-        bit-at j l (no b) =
-            let q : j ≡ i = omega arith in
-            rw (q, getD-set-same t i x 0 (omega (arith, able .room, so-far .same)), e)
-            (bit-small (row-value s t (row-at words i)))
 
-  pub evaluated : {t : List ℕ} → Evaluating words from n s scratch n t → Valued words from n s scratch t
-  evaluated done = record { known = done .known }
+pub evaluated :
+    {words : List ℕ} {n : ℕ} {s before t : List ℕ}
+    → Evaluating words n s before n t
+    → Valued words n s before t
+evaluated done = record { known = done .known; behind = done .behind }

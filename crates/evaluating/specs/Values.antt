@@ -1,8 +1,9 @@
 -- The values of the formulas in a state, a byte each, bottom-up. Only the contracts of inner functions cite this file.
 use Prim.Native.Nat.{ℕ, _+_, _*_, _≤_, _<_}
+use mathlib.Core.Path.{_≡_}
 use mathlib.Core.Bool.{Bool, false, not, _&&_, _||_, Bool·beq}
 use mathlib.Core.List.{List}
-use lib.ListN.{length, getD}
+use lib.ListN.{length, getD, drop}
 use Rattle.task.specs.Bounded.{upto}
 use Rattle.task.specs.Table.{Row, row-at, FormulaKind, false-kind, true-kind, variable-kind, not-kind, and-kind, or-kind, implies-kind, equivalent-kind, unknown-formula}
 use Rattle.task.proofs.Trees.{FormulaKept}
@@ -32,15 +33,16 @@ pub record RowReady (words : List ℕ) (i : ℕ) (s values : List ℕ) : Type 0 
   pub room : i ≤ length values
   pub value-bits : (j : ℕ) → j < i → getD values j 0 ≤ 1
 
--- what the values of the rows from .. n - 1 ask: below them stand bits already
+-- what the values of the rows from .. n - 1 ask: those of the rows below stand there already
 pub record Valuable (words : List ℕ) (from n : ℕ) (s scratch : List ℕ) : Type 0 where
   pub there : 3 * n ≤ length words
   pub rule : (i : ℕ) → i < n → FormulaKept (length s) i (row-at words i)
   pub state-bits : (v : ℕ) → v < length s → getD s v 0 ≤ 1
   pub room : n ≤ length scratch
   pub order : from ≤ n
-  pub value-bits : (j : ℕ) → j < from → getD scratch j 0 ≤ 1
+  pub below : Values s (rows-of n words) from scratch
 
--- what they leave: if those bits were the values of the rows below `from` in this state, all below n are
-pub record Valued (words : List ℕ) (from n : ℕ) (s before after : List ℕ) : Type 0 where
-  pub known : Values s (rows-of n words) from before → Values s (rows-of n words) n after
+-- what they leave, every byte of it: the values of the rows below n, and behind them what stood there
+pub record Valued (words : List ℕ) (n : ℕ) (s before after : List ℕ) : Type 0 where
+  pub known : Values s (rows-of n words) n after
+  pub behind : drop n after ≡ drop n before

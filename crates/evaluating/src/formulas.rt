@@ -5,7 +5,7 @@ ghost use lib.Dec.{eqb};
 ghost use Rattle.task.specs.Semantics.{holds};
 ghost use Rattle.task.specs.Table.{row-at, formula-kind};
 ghost use Rattle.task.specs.Tree.{formula-of};
-ghost use Rattle.task.proofs.Values.{bit, row-value, Values};
+ghost use Rattle.task.proofs.Values.{bit, row-value};
 ghost use Rattle.evaluating.specs.Values.{joins, rows-of, RowReady, Valuable, Valued};
 
 // "and", "or", "implies", "equivalent" of two bits. Constant time.
@@ -41,7 +41,7 @@ fn value_of(formulas: &[u16], i: usize, state: &[u8], values: &[u8]) -> u8
 // The values of the rows from..to go to scratch, behind those of the rows below, which stand there already. Linear in `to - from`.
 pub fn evaluate(formulas: &[u16], from: usize, to: usize, state: &[u8], scratch: &mut [u8])
     requires { ⌜ Valuable (now formulas) from to (now state) (now scratch) ⌝ }
-    ensures { λ _. ⌜ Valued (now (formulas .entry)) from to (now (state .entry)) (now (scratch .entry)) (now (scratch .exit)) ⌝ }
+    ensures { λ _. ⌜ Valued (now (formulas .entry)) to (now (state .entry)) (now (scratch .entry)) (now (scratch .exit)) ⌝ }
 {
     let mut i = from;
     while i < to {
@@ -55,7 +55,7 @@ pub fn evaluate(formulas: &[u16], from: usize, to: usize, state: &[u8], scratch:
 pub fn holds(formulas: &[u16], formula: usize, state: &[u8], scratch: &mut [u8]) -> bool
     requires { ⌜ Valuable (now formulas) 0 (formula + 1) (now state) (now scratch) ⌝ }
     ensures { λ r. ⌜ r ≡ holds (now (state .entry)) (formula-of (rows-of (formula + 1) (now (formulas .entry))) formula) ⌝ }
-    ensures { λ _. ⌜ Values (now (state .entry)) (rows-of (formula + 1) (now (formulas .entry))) (formula + 1) (now (scratch .exit)) ⌝ }
+    ensures { λ _. ⌜ Valued (now (formulas .entry)) (formula + 1) (now (state .entry)) (now (scratch .entry)) (now (scratch .exit)) ⌝ }
 {
     evaluate(formulas, 0, formula + 1, state, scratch);
     scratch[formula] == 1

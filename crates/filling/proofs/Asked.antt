@@ -70,8 +70,8 @@ module _ {l : Lent} {rows twins effects : ℕ} {x : Tables} (b : Begins l rows t
       }
 
   pub first-taken :
-      {table records : List ℕ} {p : Progress}
-      → Begun (frame-of (l .head) rows twins) table p
+      {before table records : List ℕ} {p : Progress}
+      → Begun (frame-of (l .head) rows twins) before table p
       → Taken (frame-of (l .head) rows twins) (l .formulas) (l .effects) (l .operators) (store table (x .twins)) (x .scratch) records p
   first-taken g = taken-none frame (l .formulas) (l .effects) (l .operators) blank-is g
 

@@ -9,8 +9,8 @@ ghost use Rattle.task.specs.Table.{lent};
 ghost use Rattle.lent_tables.specs.Fills.{tables, Fills};
 ghost use Rattle.filling.specs.Begins.{Owns};
 
-// Finds sets of atoms and columns, then fills. Costs two passes over the effects, one of them with two bits a variable, one over the operators, and
-// what filling does.
+// Finds sets of atoms and columns, then fills. What is left in notes, built and records is left open: they are the caller's own, and end with its
+// call. Costs two passes over the effects, one of them with two bits a variable, one over the operators, and what filling does.
 pub fn fill_noted(
     head: Head,
     initial: &[u8],

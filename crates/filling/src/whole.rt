@@ -10,7 +10,8 @@ ghost use Rattle.lent_tables.specs.Fills.{tables, Fills};
 ghost use Rattle.filling.specs.Begins.{Starts};
 
 // Begins, takes the operators in order, finishes. The tables have room for so many rows, twins and effect rows; rows are built in a table
-// of their own, which has their index. Costs what its parts do: one walk over every operator.
+// of their own, which has their index. What is left in notes, built and records is left open: they are the caller's own. Costs what its
+// parts do: one walk over every operator.
 pub fn fill_built(
     head: Head,
     initial: &[u8],

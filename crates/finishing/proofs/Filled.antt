@@ -32,7 +32,7 @@ use Rattle.rule_writer.specs.declared.Chain.{Chain}
 use Rattle.rule_writer.specs.Writes.{InitialReady}
 use Rattle.assembling.specs.Assembles.{assembled-in, Holding, Assembles, Twinned, AssembledAll}
 use Rattle.lent_tables.specs.declared.Passes.{Passes}
-use Rattle.lent_tables.specs.Fills.{Tables, room-of, Fills}
+use Rattle.lent_tables.specs.Fills.{Tables, room-of, no-room, Fills}
 use Rattle.lent_tables.proofs.Source.{long, source, its-variables}
 use Rattle.finishing.specs.Ends.{frame-of, Lends, Ends}
 use Rattle.finishing.proofs.Copied.{copied-rows}
@@ -49,8 +49,17 @@ module _ {l : Lent} {rows twins effects : ℕ} {x : Tables} (b : Lends l rows tw
   allowed : Allows (length (task-of l .initial)) (room-of x) rows twins effects
   allowed = rw (its-variables l (b .passes)) (b .allows)
 
-  fills-over : {y : Tables} {z : Passes} → z .full ≡ true → (Fits (finished (task-of l)) (room-of x) → ⊥) → Fills l x y z
-  fills-over q n = record { done = λ e. absurd (true≢false (sym q ∙ e)); over = λ _ f. n f }
+  -- without room; initial values and formulas are not written yet
+  fills-over :
+      {w e o s : List ℕ} {z : Passes}
+      → z ≡ no-room
+      → (Fits (finished (task-of l)) (room-of x) → ⊥)
+      → Fills l x (record { initial = x .initial; twins = w; formulas = x .formulas; effects = e; operators = o; scratch = s }) z
+  fills-over q n =
+      record {
+        done = λ e. absurd (true≢false (sym (ap (λ (r : Passes). r .full) q) ∙ e));
+        over = λ _. record { misfit = n; answer = q; initial = b .blank-initial; formulas = b .blank-formulas };
+      }
 
   -- what fits is within the frame
   built-within :
@@ -63,11 +72,11 @@ module _ {l : Lent} {rows twins effects : ℕ} {x : Tables} (b : Lends l rows tw
       rw (state-built l rows twins (b .passes)) at v
 
   pub building-full :
-      {after : Store} {s2 : List ℕ} {r : Step} {y : Tables} {z : Passes}
+      {after : Store} {s2 w e o s : List ℕ} {r : Step} {z : Passes}
       → FromStart (whole-built (frame-of (l .head) rows twins) (l .formulas) (l .effects) (l .operators) (l .head .operators) (l .head .goal)) (frame-of (l .head) rows twins) (l .formulas) (l .effects) after s2 r
       → r .full ≡ true
-      → z .full ≡ true
-      → Fills l x y z
+      → z ≡ no-room
+      → Fills l x (record { initial = x .initial; twins = w; formulas = x .formulas; effects = e; operators = o; scratch = s }) z
   building-full f q e = fills-over e (λ fit. f .over q (built-within fit))
 
   -- After the goal, the operators being recorded.
@@ -125,7 +134,11 @@ module _ {l : Lent} {rows twins effects : ℕ} {x : Tables} (b : Lends l rows tw
       assembles : AssembledAll (assembled (task-of l)) effects (l .head .operators) c out outs
       assembles = rw (assembled-is l rows twins (b .passes) records k all) (rw twins-held at a)
 
-      pub assembling-full : {y : Tables} {z : Passes} → c .full ≡ true → z .full ≡ true → Fills l x y z
+      pub assembling-full :
+          {w e o s : List ℕ} {z : Passes}
+          → c .full ≡ true
+          → z ≡ no-room
+          → Fills l x (record { initial = x .initial; twins = w; formulas = x .formulas; effects = e; operators = o; scratch = s }) z
       assembling-full full e = fills-over e (λ fit. assembles .over full (few fit))
         where
           few : Fits (finished (task-of l)) (room-of x) → length (assembled (task-of l) .effects) ≤ effects
@@ -270,12 +283,16 @@ module _ {l : Lent} {rows twins effects : ℕ} {x : Tables} (b : Lends l rows tw
                           effects = unfold finished in (h .effect-words ∙ ap (λ (m : ℕ). padded m (words-of (assembled (task-of l) .effects))) long-out);
                           operators = unfold finished in (h .held-operators ∙ ap (λ (m : ℕ). padded m (operator-words (assembled (task-of l) .operators))) long-outs);
                         };
-                    over = λ q f. true≢false (sym q);
+                    over = λ q. absurd (true≢false (sym q));
                   }
 
 -- Up to the goal.
 module _ {l : Lent} {rows twins effects : ℕ} {x : Tables} {built records : List ℕ} {p : Progress} (e : Ends l rows twins effects x built records p) where
-  pub taken-full : {y : Tables} {z : Passes} → p .full ≡ true → z .full ≡ true → Fills l x y z
+  pub taken-full :
+      {w i o s : List ℕ} {z : Passes}
+      → p .full ≡ true
+      → z ≡ no-room
+      → Fills l x (record { initial = x .initial; twins = w; formulas = x .formulas; effects = i; operators = o; scratch = s }) z
   taken-full q f =
       fills-over (e .lends) f
       (λ fit.

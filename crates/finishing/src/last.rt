@@ -9,14 +9,13 @@ use lent_tables::Passes;
 use rule_writer::write_initial;
 use task::Head;
 ghost use mathlib.Core.Path.{_≡_};
-ghost use mathlib.Core.Bool.{true};
 ghost use Rattle.task.specs.Table.{lent};
-ghost use Rattle.lent_tables.specs.Fills.{tables, Fills};
+ghost use Rattle.lent_tables.specs.Fills.{tables, no-room, Fills};
 ghost use Rattle.finishing.specs.Ends.{Ends};
 
 // No room.
 fn full() -> Passes
-    ensures { λ r. ⌜ r .full ≡ true ⌝ }
+    ensures { λ r. ⌜ r ≡ no-room ⌝ }
 {
     Passes {
         rows: 0,
@@ -28,7 +27,8 @@ fn full() -> Passes
 }
 
 // All operators are taken: builds the goal, then writes the rules, the operators and the initial values, and copies the rows that were
-// built. Stops at the first row without room. Costs the goal's image, and one step for each change that was recorded.
+// built. Stops at the first row without room. What is left in `built` is left open: it is the caller's own. Costs the goal's image, and one
+// step for each change that was recorded.
 pub fn finish(
     head: Head,
     initial: &[u8],

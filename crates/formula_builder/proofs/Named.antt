@@ -86,7 +86,7 @@ module _ (frame : Frame) (n w : ℕ) (table o : List ℕ) (ready : Ready frame (
     unfolding twin-row twin held
     twin-full full =
         let l = take w o in
-        builds-over refl
+        builds-over refl ready
         (bind-over (twin v) (λ k. variable-row (frame .variables + k)) frame (held (sized n w) (store table o))
         (λ x. steady-variable-row (frame .variables + x))
         (λ x. omega (arith, x .twins, ap (λ (x : List ℕ). length x) met, length-append l (v ∷ []), long)))
@@ -98,7 +98,7 @@ module _ (frame : Frame) (n w : ℕ) (table o : List ℕ) (ready : Ready frame (
           → Builds (twin-row (frame .variables) v) frame (sized n w) (store table o) (store after o) (stepped m w 65535)
       unfolding twin-row bind twin held variable-row row
       twin-over e =
-          builds-over refl
+          builds-over refl (b .still (eq-eqb k 65535 e))
           (λ x.
           b .over (eq-eqb k 65535 e)
           (record {

@@ -26,10 +26,14 @@ full-step at = record { rows = at .rows; twins = at .twins; row = 65535; full = 
 -- Done, or over, is all that there is to a step.
 module _ {m : Build ℕ} {frame : Frame} {at : Size} {before after : Store} {r : Step} where
   pub builds-done : r .full ≡ false → Done m frame at before after r → Builds m frame at before after r
-  builds-done e d = record { done = λ _. d; over = λ f. absurd (true≢false (sym f ∙ e)) }
+  builds-done e d = record { done = λ _. d; over = λ f. absurd (true≢false (sym f ∙ e)); still = λ _. d .ready }
 
-  pub builds-over : r .full ≡ true → (Within frame (m (held at before) .st) → ⊥) → Builds m frame at before after r
-  builds-over e d = record { done = λ f. absurd (true≢false (sym e ∙ f)); over = λ _. d }
+  pub builds-over :
+      r .full ≡ true
+      → Ready frame (size-of r) after
+      → (Within frame (m (held at before) .st) → ⊥)
+      → Builds m frame at before after r
+  builds-over e ready d = record { done = λ f. absurd (true≢false (sym e ∙ f)); over = λ _. d; still = λ _. ready }
 
   -- a step that comes to the same as another one from what stands
   pub builds-from :
@@ -50,6 +54,7 @@ module _ {m : Build ℕ} {frame : Frame} {at : Size} {before after : Store} {r :
               grew = omega (arith, d .grew);
             };
         over = λ e w. b .over e (rw (ap (λ (g : Got ℕ). g .st) same) at w);
+        still = b .still;
       }
 
 pub prefix-length : {A : Type 0} {l m : List A} → Prefix l m → length l ≤ length m
@@ -95,13 +100,13 @@ module _ {m : Build ℕ} {frame : Frame} {at : Size} {before mid after : Store} 
 
 -- there was no room for the first
 pub builds-stop :
-    {m : Build ℕ} {frame : Frame} {at : Size} {before mid after : Store} {l : Step} (f : ℕ → Build ℕ)
+    {m : Build ℕ} {frame : Frame} {at : Size} {before after : Store} {l : Step} (f : ℕ → Build ℕ)
     → ((x : ℕ) → Steady (f x))
-    → Builds m frame at before mid l
+    → Builds m frame at before after l
     → l .full ≡ true
     → Builds (bind m f) frame at before after l
 builds-stop {m} {frame} {at} {before} f steady b e =
-    builds-over e (bind-over m f frame (held at before) steady (b .over e))
+    builds-over e (b .still e) (bind-over m f frame (held at before) steady (b .over e))
 
 pub rows-searchable : {most stand : ℕ} {table : List ℕ} → RowsReady most stand table → Searchable most table
 rows-searchable ready = searchable (ready .some) (ready .limit) (ready .room) (ready .within) (ready .index)
@@ -141,7 +146,7 @@ module _ (frame : Frame) (at : Size) (table o : List ℕ) (ready : Ready frame a
     unfolding row held
     row-full full =
         let l = upto (at .rows) (row-at table) in
-        builds-over refl (λ w.
+        builds-over refl ready (λ w.
         omega
         (arith, w .rows, ap (λ (x : List Row). length x) added, length-append l (r ∷ []), length-upto (at .rows) (row-at table)))
 

@@ -114,7 +114,10 @@ pub record Done (m : Build ℕ) (frame : Frame) (at : Size) (before after : Stor
   pub below : r .row < r .rows
   pub grew : at .rows ≤ r .rows
 
--- A step is done, or there is no room and what the definition gives is not within the frame.
+-- A step is done, or there is no room and what the definition gives is not within the frame. Two things are left open, as nothing that compiling
+-- gives depends on them: which words the index has, if it finds the rows (`Indexed`); and, once there is no room, which rows and twins stand, if
+-- both tables are still ready: every caller then says so in its turn, up to `compile`, which leaves all tables 0 (`compiling`).
 pub record Builds (m : Build ℕ) (frame : Frame) (at : Size) (before after : Store) (r : Step) : Type 0 where
   pub done : r .full ≡ false → Done m frame at before after r
   pub over : r .full ≡ true → Within frame (m (held at before) .st) → ⊥
+  pub still : r .full ≡ true → Ready frame (size-of r) after

@@ -99,7 +99,7 @@ pub record Empty (most : ℕ) (t : List ℕ) : Type 0 where
   pub room : 9 * most ≤ length t
   pub blank : (j : ℕ) → getD t j 0 ≡ 0
 
--- False and true stand in it, and are found; behind the index nothing stands.
+-- False and true stand in it, and are found; behind the index nothing stands. Which words of the index name them is left open.
 pub record FirstTwo (most : ℕ) (before t : List ℕ) : Type 0 where
   pub long : length t ≡ length before
   pub rows : upto 2 (row-at t) ≡ start .rows

@@ -112,7 +112,8 @@ pub record AsksPair (frame : Frame) (formulas : List ℕ) (at : Size) (before : 
   pub left : row-at formulas i .a < i
   pub right : row-at formulas i .b < i
 
--- A step with its memo: what lies behind the memo stays as it is.
+-- A step with its memo: what lies behind the memo stays as it is. Which words the memo has is left open, if they are right (`Memo`): they change no
+-- answer. Once there is no room nothing is said of them.
 pub record Images (m : Build ℕ) (frame : Frame) (formulas : List ℕ) (at : Size) (before after : Store) (scratch scratch' : List ℕ) (r : Step) : Type 0 where
   pub builds : Builds m frame at before after r
   pub memo : r .full ≡ false → Memo frame formulas scratch' (held (size-of r) after)

@@ -5,8 +5,8 @@ use native.Mathlib.Omega.{arith}
 use mathlib.Core.Path.{_≡_, refl, sym, ap, _∙_}
 use mathlib.Core.Bool.{Bool, true, false, _&&_, false≢true}
 use mathlib.Core.List.{List, [], _∷_, _++_, append-assoc, append-nil}
-use lib.ListN.{length, getD, set, take, replicate, length-append, length-set}
-use lib.Seq.{take-suc-set}
+use lib.ListN.{length, getD, set, take, drop, replicate, length-append, length-set, take-append-drop}
+use lib.Seq.{take-suc-set, drop-drop, drop-set-lt}
 use lib.Dec.{leb, eqb}
 use borrow.Author.Tests.{le-leb, lt-leb, eq-eqb, ne-eqb, leb-true}
 use Rattle.task.specs.Bounded.{every, upto}
@@ -32,11 +32,12 @@ pub record Decoded (bytes before numbers : List ℕ) (i : ℕ) : Type 0 where
   pub within : i ≤ length bytes / 2
   pub same : length numbers ≡ length before
   pub front : take i numbers ≡ upto i (number-at bytes)
+  pub behind : drop i numbers ≡ drop i before
 
 module _ (bytes before : List ℕ) where
   pub decode-begin : Decoded bytes before before 0
   unfolding upto
-  decode-begin = record { within = omega arith; same = refl; front = refl }
+  decode-begin = record { within = omega arith; same = refl; front = refl; behind = refl }
 
   pub decode-more :
       (numbers : List ℕ) (i : ℕ) {w : ℕ}
@@ -56,13 +57,22 @@ module _ (bytes before : List ℕ) where
             ∙ take-suc-set numbers i w b
             ∙ (λ j. d .front j ++ (e j ∷ []))
             ∙ ap (λ (n : ℕ). upto n (number-at bytes)) (sym (add-one i));
+        behind =
+            drop-set-lt (i + 1) numbers i w (omega arith)
+            ∙ sym (drop-drop 1 i numbers)
+            ∙ ap (drop 1) (d .behind)
+            ∙ drop-drop 1 i before;
       }
 
-  pub decode-end : (numbers : List ℕ) (i : ℕ) → Decoded bytes before numbers i → length bytes / 2 ≤ i → take (length bytes / 2) numbers ≡ numbers-of bytes
+  pub decode-end :
+      (numbers : List ℕ) (i : ℕ)
+      → Decoded bytes before numbers i
+      → length bytes / 2 ≤ i
+      → numbers ≡ numbers-of bytes ++ drop (length bytes / 2) before
   unfolding numbers-of
   decode-end numbers i d h =
       let e : i ≡ length bytes / 2 = omega (arith, d .within) in
-      rw (← e) (d .front)
+      rw (← e) (sym (take-append-drop i numbers) ∙ (λ j. d .front j ++ d .behind j))
 
 -- the refusals, in order
 module _ (v : ℕ) (s q : List ℕ) (r : ℕ) where

@@ -1,8 +1,9 @@
 // The state and the sequence that come in for a run.
 use task::check::bits;
 ghost use mathlib.Core.Path.{_≡_};
+ghost use mathlib.Core.List.{_++_};
 ghost use Prim.Native.Nat.{_/_, _≤_};
-ghost use lib.ListN.{length, take};
+ghost use lib.ListN.{length, drop};
 ghost use Rattle.layouts.specs.Layout.{numbers-of};
 ghost use Rattle.layouts.specs.Layout.{run-number};
 
@@ -28,10 +29,10 @@ pub fn refused_run(variables: usize, state: &[u8], sequence: &[u8], room: usize)
     0
 }
 
-// The operator numbers of a sequence of bytes, into the front of `numbers`. Linear.
+// The operator numbers of a sequence of bytes, into the front of `numbers`; what stands behind them stays. Linear.
 pub fn decode(sequence: &[u8], numbers: &mut [u16])
     requires { ⌜ length (now sequence) / 2 ≤ length (now numbers) ⌝ }
-    ensures { λ _. ⌜ take (length (now (sequence .entry)) / 2) (now (numbers .exit)) ≡ numbers-of (now (sequence .entry)) ⌝ }
+    ensures { λ _. ⌜ now (numbers .exit) ≡ numbers-of (now (sequence .entry)) ++ drop (length (now (sequence .entry)) / 2) (now (numbers .entry)) ⌝ }
 {
     let count = sequence.len() / 2;
     let mut i = 0;

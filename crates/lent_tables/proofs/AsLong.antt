@@ -66,5 +66,12 @@ filled-as {l} {x} {y} {z} {r} e f =
             effects = h .effects ∙ ap (λ (m : Room). padded (m .effects) (words-of (finished (task-of l) .effects))) e;
             operators = h .operators ∙ ap (λ (m : Room). padded (m .operators) (operator-words (finished (task-of l) .operators))) e;
           };
-      over = λ q fit. f .over q (rw e fit);
+      over = λ q.
+          let h = f .over q in
+          record {
+            misfit = λ fit. h .misfit (rw e fit);
+            answer = h .answer;
+            initial = h .initial ∙ ap (λ (m : Room). replicate (m .initial) 0) e;
+            formulas = h .formulas ∙ ap (λ (m : Room). replicate (m .formulas) 0) e;
+          };
     }

@@ -56,7 +56,7 @@ head-after h r =
       goal = r .goal;
     }
 
--- The tables hold the finished task, which fits.
+-- The tables hold the finished task, which fits. What stands in scratch is left open: `compile` clears it (`compiling`).
 pub record Holds (l : Lent) (x y : Tables) (r : Passes) : Type 0 where
   pub fits : Fits (finished (task-of l)) (room-of x)
   pub head : head-of (finished (task-of l)) ≡ head-after (l .head) r
@@ -66,7 +66,19 @@ pub record Holds (l : Lent) (x y : Tables) (r : Passes) : Type 0 where
   pub effects : y .effects ≡ padded (length (x .effects)) (words-of (finished (task-of l) .effects))
   pub operators : y .operators ≡ padded (length (x .operators)) (operator-words (finished (task-of l) .operators))
 
+-- the answer without room
+abbrev pub no-room : Passes
+no-room = record { rows = 0; twins = 0; effects = 0; goal = 0; full = true }
+
+-- It does not fit. The tables of initial values and of formulas, which are written last, are 0; what stands in the other four is left open, since
+-- `compile` then clears all six (`compiling`).
+pub record Lacks (l : Lent) (x y : Tables) (r : Passes) : Type 0 where
+  pub misfit : Fits (finished (task-of l)) (room-of x) → ⊥
+  pub answer : r ≡ no-room
+  pub initial : y .initial ≡ replicate (length (x .initial)) 0
+  pub formulas : y .formulas ≡ replicate (length (x .formulas)) 0
+
 -- They hold it, or it does not fit.
 pub record Fills (l : Lent) (x y : Tables) (r : Passes) : Type 0 where
   pub done : r .full ≡ false → Holds l x y r
-  pub over : r .full ≡ true → Fits (finished (task-of l)) (room-of x) → ⊥
+  pub over : r .full ≡ true → Lacks l x y r

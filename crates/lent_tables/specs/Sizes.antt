@@ -4,12 +4,12 @@ use mathlib.Core.Path.{_≡_}
 use mathlib.Core.Bool.{Bool, true}
 use Rattle.task.specs.declared.Head.{Head}
 
--- a source that small tables may suffice for
+-- a source that small tables are tried for: which ones is left open, since filling comes to the same either way (`Fills`); what the tables need of it holds
 pub record Small (h : Head) (r : Bool) : Type 0 where
   pub few-effects : r ≡ true → h .effects ≤ 512
   pub few-variables : r ≡ true → h .variables ≤ 128
 
--- the lesser of two
+-- the lesser of two: one number alone is at most both, and as large as any that is
 pub record Least (a b r : ℕ) : Type 0 where
   pub first : r ≤ a
   pub second : r ≤ b

@@ -185,4 +185,4 @@ module _ {m m' : Build (List Changes)} (a : Alike m m') where
       → Recorded (m t .value) from l n to
   recorded-alike {from} {to} {n = n} t x =
       let same = a .rules t in
-      record { count = rw same (x .count); there = λ h. rw same (x .there h); below = x .below }
+      record { count = rw same (x .count); there = λ h. rw same (x .there h); below = x .below; behind = x .behind }

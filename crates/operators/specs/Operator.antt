@@ -54,7 +54,7 @@ pub record BuildsOperator (frame : Frame) (formulas effects notes : List ℕ) (a
 abbrev pub size-behind : Tally → Size
 size-behind r = record { rows = r .rows; twins = r .twins }
 
--- A step whose value is changes: it reaches its state, and the changes are recorded.
+-- A step whose value is changes: it reaches its state, and the changes are recorded. Without room all is left open, as in `Reaches`.
 pub record Walked (m : Build (List Changes)) (frame : Frame) (formulas effects : List ℕ) (at : Size) (before after : Store) (scratch : List ℕ) (from : ℕ) (records records' : List ℕ) (r : Tally) : Type 0 where
   pub reaches : Reaches m frame formulas effects at before after scratch (r .full) (size-behind r)
   pub recorded : r .full ≡ false → Recorded (m (held at before) .value) from records records' (r .records)

@@ -59,7 +59,7 @@ pub record RunGives (w : Ran) (r : RunOutcome) (after rest : List ℕ) : Type 0 
   pub state : after ≡ w .state
   pub scratch : rest ≡ w .scratch
 
--- What a run leaves where nothing refuses it: the plain run's answer and its state.
+-- What a run leaves where nothing refuses it: the plain run's answer and its state. Scratch is left open: `run` clears it.
 pub record RunDone (t : Task) (s numbers : List ℕ) (r : RunOutcome) (after : List ℕ) : Type 0 where
   pub answer : r ≡ run-answer (plain-run t s numbers)
   pub state : after ≡ plain-run t s numbers .state

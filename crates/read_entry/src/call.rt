@@ -8,7 +8,8 @@ ghost use Rattle.read_entry.specs.Entry.{read-entry, read-entry-by};
 use task::clear::clear_bytes;
 use task_file::ReadAnswer;
 
-// Through tables that are lent. One pass over the file and one over its tables, and the lent tables cleared.
+// Through tables that are lent. What these hold afterwards is left open: they end with the caller's call. One pass over the file and one over its
+// tables, and the lent tables cleared.
 fn read_through(
     file: &[u8],
     initial: &mut [u8],

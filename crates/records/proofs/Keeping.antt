@@ -97,7 +97,7 @@ one-stands from l c e =
 module _ (from : ℕ) (l : List ℕ) where
   pub recorded-none : Recorded [] from l l from
   unfolding acting changes-from upto
-  recorded-none = record { count = omega arith; there = λ _. refl; below = λ j _. refl }
+  recorded-none = record { count = omega arith; there = λ _. refl; below = λ j _. refl; behind = λ j _. refl }
 
   module _ (c : Changes) where
     pub recorded-idle : idle c ≡ true → Recorded (c ∷ []) from l l from
@@ -107,12 +107,18 @@ module _ (from : ℕ) (l : List ℕ) where
           count = omega (arith, ap length n);
           there = λ _. rw n (unfold changes-from upto in refl);
           below = λ j _. refl;
+          behind = λ j _. refl;
         }
 
     pub recorded-past : idle c ≡ false → 2048 ≤ from → Recorded (c ∷ []) from l l (from + 1)
     recorded-past e h =
         let n = one-acts c e in
-        record { count = omega (arith, ap length n); there = λ q. absurd (omega arith); below = λ j _. refl }
+        record {
+          count = omega (arith, ap length n);
+          there = λ q. absurd (omega arith);
+          below = λ j _. refl;
+          behind = λ j _. refl;
+        }
 
     pub recorded-one :
         idle c ≡ false
@@ -124,6 +130,7 @@ module _ (from : ℕ) (l : List ℕ) where
           count = omega (arith, ap length n);
           there = λ _. rw n it-stands;
           below = λ j h. three-before l (256 + from) row j h;
+          behind = λ j h. three-after l (256 + from) row j (omega arith);
         }
       where
         row : Row
@@ -151,6 +158,7 @@ recorded-more {cs} {ds} {from} {mid} {to} {l} {m} {n} x y =
       count = omega (arith, x .count, y .count, many);
       there = λ h. rw (acting-append cs ds) (all h);
       below = λ j h. y .below j (omega (arith, x .count)) ∙ x .below j h;
+      behind = λ j h. y .behind j h ∙ x .behind j (omega (arith, y .count));
     }
   where
     many : length (acting (cs ++ ds)) ≡ length (acting cs) + length (acting ds)

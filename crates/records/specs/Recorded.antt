@@ -41,8 +41,10 @@ pub record Opens (k : ℕ) (records : List ℕ) : Type 0 where
   pub room : 6912 ≤ length records
   pub limit : k ≤ 2048
 
--- Behind so many changes stand those of cs that bring rules, if there is room for them; what stood before them is as it was.
+-- Behind so many changes stand those of cs that bring rules, if there is room for them; what stood before them and behind is as it was. Without room
+-- it is left open which of them stand: `take_operator` then says that there is none, and nothing reads the records (`Taken`).
 pub record Recorded (cs : List Changes) (from : ℕ) (before after : List ℕ) (to : ℕ) : Type 0 where
   pub count : to ≡ from + length (acting cs)
   pub there : to ≤ 2048 → changes-from after from (length (acting cs)) ≡ acting cs
   pub below : (j : ℕ) → j < 256 + from → row-at after j ≡ row-at before j
+  pub behind : (j : ℕ) → 256 + to ≤ j → row-at after j ≡ row-at before j

@@ -338,6 +338,7 @@ pub operator-stored :
 operator-stored t i o after h e =
     record {
       same = ap length e ∙ length-three t i (o .precondition) (o .effect) (o .cost);
+      stored = e;
       words = λ operators l held.
           e
           ∙ ap (λ (x : List ℕ). three x i (o .precondition) (o .effect) (o .cost)) held

@@ -82,7 +82,9 @@ pub record Next (room : ℕ) (at : Chain) (table : List ℕ) : Type 0 where
   pub unfilled : at .full ≡ false
   pub some : at .stands ≡ 0 → ⊥
 
--- Rules are written behind whatever stands; or there is no room, and then what the definition gives does not fit. Once full, it stays so.
+-- Rules are written behind whatever stands; or there is no room, and then what the definition gives does not fit. Once full, it stays so. Left open:
+-- the table once it is full, since each caller then says so in its turn, up to `compile`, which leaves all tables 0 (`compiling`); and a table
+-- that holds nothing written before, since the first rules go behind the empty effect (`Assembles`).
 pub record Writes (rs : List Rule) (room : ℕ) (at : Chain) (before after : List ℕ) (r : Chain) : Type 0 where
   pub ready : Ready room r after
   pub stays : at .full ≡ true → r .full ≡ true
@@ -95,9 +97,10 @@ pub record Writes (rs : List Rule) (room : ℕ) (at : Chain) (before after : Lis
       → length (write-rules w rs .rows) ≤ room
       → ⊥
 
--- Behind o operators, and 0 past them, stands one more.
+-- Row o is stored, and nothing else is: so behind o operators, and 0 past them, stands one more.
 pub record OneMore (o : ℕ) (row : Operator) (before after : List ℕ) : Type 0 where
   pub same : length after ≡ length before
+  pub stored : after ≡ three before o (row .precondition) (row .effect) (row .cost)
   pub words :
       (operators : List Operator)
       → length operators ≡ o

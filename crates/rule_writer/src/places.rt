@@ -1,12 +1,14 @@
 // Where the twins stand, by variable: found once, so that no rule looks for its twin.
+ghost use mathlib.Core.Path.{_≡_};
 ghost use Prim.Native.Nat.{_≤_};
-ghost use lib.ListN.{length, take};
+ghost use lib.ListN.{length, take, drop};
 ghost use Rattle.rule_writer.specs.Places.{PlacesReady, AllPast, Placed};
 
 // No variable has a twin: each of v places is past them. v steps.
 fn clear(places: &mut [u16], v: usize, past: u16)
     requires { ⌜ v ≤ length (now places) ⌝ }
     ensures { λ _. ⌜ AllPast v past (now (places .exit)) ⌝ }
+    ensures { λ _. ⌜ drop v (now (places .exit)) ≡ drop v (now (places .entry)) ⌝ }
 {
     let mut i = 0;
     while i < v {
@@ -19,6 +21,7 @@ fn clear(places: &mut [u16], v: usize, past: u16)
 fn number(originals: &[u16], places: &mut [u16], v: usize, w: usize)
     requires { ⌜ PlacesReady (now originals) (now places) v w × AllPast v w (now places) ⌝ }
     ensures { λ _. ⌜ Placed v w (take w (now (originals .entry))) (now (places .exit)) ⌝ }
+    ensures { λ _. ⌜ drop v (now (places .exit)) ≡ drop v (now (places .entry)) ⌝ }
 {
     let mut k = w;
     while 0 < k {
@@ -28,10 +31,11 @@ fn number(originals: &[u16], places: &mut [u16], v: usize, w: usize)
     }
 }
 
-// For each of v variables the place of its twin among w twins; w if it has none. V + W steps.
+// For each of v variables the place of its twin among w twins; w if it has none. What stands behind them stays. V + W steps.
 pub fn find_places(originals: &[u16], places: &mut [u16], v: usize, w: usize)
     requires { ⌜ PlacesReady (now originals) (now places) v w ⌝ }
     ensures { λ _. ⌜ Placed v w (take w (now (originals .entry))) (now (places .exit)) ⌝ }
+    ensures { λ _. ⌜ drop v (now (places .exit)) ≡ drop v (now (places .entry)) ⌝ }
 {
     clear(places, v, w as u16);
     number(originals, places, v, w);

@@ -4,7 +4,8 @@ use native.Mathlib.Omega.{arith}
 use mathlib.Core.Path.{_≡_, refl, sym, ap, _∙_, subst}
 use mathlib.Core.Bool.{Bool, true, false, cond}
 use mathlib.Core.List.{List, [], _∷_, _++_}
-use lib.ListN.{length, take, replicate}
+use lib.ListN.{length, take, drop, replicate}
+use lib.Seq.{take-at}
 use lib.Dec.{leb, ltb}
 use borrow.Author.Tests.{le-leb, leb-true}
 use Rattle.task.specs.Table.{Lent, Task, task-of}
@@ -89,16 +90,18 @@ told-bytes r =
 pub run-free :
     (l : Lent) (s q numbers scratch : List ℕ) (n : ℕ) (decoded : List ℕ) {s′ rest result : List ℕ} {o : RunOutcome} {r : ℕ}
     → RunIn l s q numbers scratch n
-    → take (length q / 2) decoded ≡ numbers-of q
+    → decoded ≡ numbers-of q ++ drop (length q / 2) numbers
     → RunGives (ran l s (take (length q / 2 - 0) decoded) scratch) o s′ rest
     → ResultGives o n r result
     → RunEntryGives (run-given zero (task-of l) s q n) r s′ result
 unfolding run-given ran run-by run-told run-answer
-run-free l s q numbers scratch n decoded {s′} {rest} {result} {o} {r} i front g h =
+run-free l s q numbers scratch n decoded {s′} {rest} {result} {o} {r} i whole g h =
     let run = plain-run (task-of l) s (numbers-of q) in
     let taken : List ℕ = take (length q / 2 - 0) decoded in
     let k : length q / 2 - 0 ≡ length q / 2 = omega arith in
-    let e : taken ≡ numbers-of q = ap (λ (n : ℕ). take n decoded) k ∙ front in
+    let e : taken ≡ numbers-of q =
+    (λ j. take (k j) (whole j)) ∙ take-at (numbers-of q) (drop (length q / 2) numbers) (length q / 2) (numbers-length q)
+    in
     let w : ran l s taken scratch ≡ run-told run scratch =
     ap (λ (x : List ℕ). ran l s x scratch) e ∙ rw (not-refused l s q numbers scratch n i)
     in

@@ -14,7 +14,8 @@ use task::Head;
 use task::clear::clear_bytes;
 use task_file::ReadAnswer;
 
-// The run where nothing refuses it, with room lent for its numbers and for scratch. Its steps times the formulas and the effects.
+// The run where nothing refuses it, with room lent for its numbers and for scratch. What these hold afterwards is left open: they end with the caller's call.
+// Its steps times the formulas and the effects.
 fn run_lent(
     head: Head,
     initial: &[u8],
@@ -200,7 +201,7 @@ fn run_read(
     )
 }
 
-// Reads into tables that are lent, then runs.
+// Reads into tables that are lent, then runs. What these hold afterwards is left open: they end with the caller's call.
 fn run_through(
     file: &[u8],
     initial: &mut [u8],

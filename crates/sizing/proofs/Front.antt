@@ -47,7 +47,7 @@ filled-again e b f = filled-as (same-room b ∙ e) f
 
 -- a try that has room is the answer
 pub tried : {l : Lent} {x y : Tables} {r : Passes} → Tries l x y r → r .full ≡ false → Fills l x y r
-tried t q = record { done = t .done; over = λ f _. true≢false (sym f ∙ q) }
+tried t q = record { done = t .done; over = λ f. absurd (true≢false (sym f ∙ q)) }
 
 module _ (l : Lent) (x : Tables) (p : Roomy l x) where
   pub begins :

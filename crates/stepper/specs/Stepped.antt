@@ -72,7 +72,7 @@ pub record StepGives (w : Stepped) (r : StepOutcome) (after rest : List ℕ) : T
   pub state : after ≡ w .state
   pub scratch : rest ≡ w .scratch
 
--- What a step leaves where nothing before its operator refuses it: the plain run's answer and its state.
+-- What a step leaves where nothing before its operator refuses it: the plain run's answer and its state. Scratch is left open: `step` clears it.
 pub record StepDone (t : Task) (s : List ℕ) (o : ℕ) (r : StepOutcome) (after : List ℕ) : Type 0 where
   pub answer : let w = plain-run t s (o ∷ []) in r ≡ step-told (w .stop) w s [] .answer
   pub state : let w = plain-run t s (o ∷ []) in after ≡ step-told (w .stop) w s [] .state

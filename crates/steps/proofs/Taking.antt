@@ -17,7 +17,7 @@ use Rattle.task.specs.Tree.{formula-of, effect-of}
 use Rattle.task.specs.Run.{operator-of, effect-of-operator, goal-holds, applicable, charge}
 use Rattle.task.proofs.Bounded.{length-upto, getD-upto}
 use Rattle.task.proofs.Trees.{EffectsDown}
-use Rattle.task.proofs.Values.{bit-small, Values}
+use Rattle.task.proofs.Values.{Values, values-none}
 use Rattle.evaluating.specs.Values.{rows-of, Valuable}
 use Rattle.applying.specs.Marks.{changed, Markable}
 use Rattle.applying.specs.Carrying.{ConditionsReady, Carried}
@@ -76,14 +76,14 @@ takes t s n w q small =
 module _ {h : Head} {f e o s scratch : List ℕ} (ready : Ready h f e o s scratch) where
   -- the formulas up to p, and all of them
   pub valuable : {p : ℕ} → p < h .formulas → Valuable f 0 (p + 1) s scratch
-  valuable b =
+  valuable {p} b =
       record {
         there = omega (arith, ready .tables .formulas-there);
         rule = λ i l. rw (ready .state .size) (ready .tables .formula i (omega arith));
         state-bits = ready .state .bits;
         room = omega (arith, ready .room);
         order = omega arith;
-        value-bits = λ j l. absurd (omega arith);
+        below = values-none s (rows-of (p + 1) f) scratch;
       }
 
   all-valuable : Valuable f 0 (h .formulas) s scratch
@@ -94,7 +94,7 @@ module _ {h : Head} {f e o s scratch : List ℕ} (ready : Ready h f e o s scratc
         state-bits = ready .state .bits;
         room = omega (arith, ready .room);
         order = omega arith;
-        value-bits = λ j l. absurd (omega arith);
+        below = values-none s (rows-of (h .formulas) f) scratch;
       }
 
   effects-down : EffectsDown (length s) (h .formulas) (rows-of (h .effects) e)
@@ -175,27 +175,28 @@ module _ {h : Head} {f e o s scratch : List ℕ} (ready : Ready h f e o s scratc
           module _
               (values : List ℕ) (same : length values ≡ length scratch)
               (known : Values s (rows-of (p + 1) f) (p + 1) values) where
-            pub known-here : Values s (rows-of (h .formulas) f) (p + 1) values
+            known-here : Values s (rows-of (h .formulas) f) (p + 1) values
             known-here = same-values all-valuable (p + 1) values (omega (arith, asked-below)) known
 
-            pub conditions-ready : ConditionsReady f e (p + 1) (h .formulas) (operator-at o n .effect) s values
+            pub conditions-ready : ConditionsReady false f e (p + 1) (h .formulas) (operator-at o n .effect) s values
             conditions-ready =
                 record {
                   formulas =
+                      λ q.
                       record {
                         there = all-valuable .there;
                         rule = all-valuable .rule;
                         state-bits = all-valuable .state-bits;
                         room = omega (arith, ready .room, same);
                         order = omega (arith, asked-below);
-                        value-bits = λ j l. rw (known .at j l) (bit-small (holds s (formula-of (rows-of (p + 1) f) j)));
+                        below = known-here;
                       };
                   effects = markable values same;
                 }
 
             pub carried-out :
                 (marks after : List ℕ)
-                → Carried f e (p + 1) (h .formulas) (operator-at o n .effect) s after values marks
+                → Carried f e (h .formulas) (operator-at o n .effect) s after values marks
                 → operator-at o n .cost ≤ 65535
                 → Takes (running h f e o) s n (record { stop = 0; charge = operator-at o n .cost }) after
             unfolding charge effect-of-operator task-of took-by
@@ -220,7 +221,7 @@ module _ {h : Head} {f e o s scratch : List ℕ} (ready : Ready h f e o s scratc
                     let d = passes .deciding in
                     applied e (h .effects) (length s) (h .formulas) (operator-at o n .effect) s (rows-of (h .formulas) f)
                     (d .values) marks (ready .tables .operator n there .changes) effects-down
-                    (markable (d .values) (d .same ∙ same)) (d .evaluating .known known-here) (d .marking)
+                    (markable (d .values) (d .same ∙ same)) (d .evaluating .known) (d .marking)
 
 -- the tables stay ready when the state and scratch change
 pub ready-again :

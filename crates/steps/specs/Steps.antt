@@ -6,11 +6,14 @@ use mathlib.Core.List.{List, []}
 use lib.ListN.{length, getD}
 use lib.Dec.{ltb}
 use Rattle.task.specs.declared.Head.{Head}
+use Rattle.task.specs.Bounded.{upto}
 use Rattle.task.specs.Table.{Task, row-at, operator-at, task-of}
-use Rattle.task.specs.Rules.{OperatorRule}
+use Rattle.task.specs.Rules.{no-operator, OperatorRule}
 use Rattle.task.specs.Semantics.{apply}
 use Rattle.task.specs.Run.{effect-of-operator, applicable, charge}
 use Rattle.task.proofs.Trees.{FormulaKept, EffectKept}
+use Rattle.evaluating.specs.Values.{Valued}
+use Rattle.applying.specs.Carrying.{Decided}
 use Rattle.steps.specs.declared.Taken.{Taken}
 
 -- the task of a run: its initial state and its twins play no part
@@ -55,8 +58,18 @@ took-by true true t s o =
 unfoldable pub took : Task → List ℕ → ℕ → Took
 took t s o = took-by (ltb o (length (t .operators))) (applicable t s o) t s o
 
--- what `take` leaves
+-- what `take` answers, and the state
 pub record Takes (t : Task) (s : List ℕ) (o : ℕ) (r : Taken) (after : List ℕ) : Type 0 where
   pub answer : r ≡ took t s o .answer
   pub state : after ≡ took t s o .state
   pub small : r .charge ≤ 65535
+
+-- the formula that operator n asks for, row 0 if it is not there
+abbrev pub asked : Head → List ℕ → ℕ → ℕ
+asked h o n = getD (upto (h .operators) (operator-at o)) n no-operator .precondition
+
+-- what `take` leaves in scratch, every byte of it: a step that is stopped leaves the values of the formulas up to the one asked for, a step that
+-- is done the values of all formulas and the marks of its effect; behind them stays what stood there
+pub record Scratched (h : Head) (f e o s : List ℕ) (n : ℕ) (r : Taken) (before after : List ℕ) : Type 0 where
+  pub stopped : (r .stop ≡ 0 → ⊥) → Valued f (asked h o n + 1) s before after
+  pub done : r .stop ≡ 0 → Decided f e (h .formulas) (operator-at o n .effect) s before after

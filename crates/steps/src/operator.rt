@@ -6,7 +6,7 @@ ghost use Rattle.task.specs.Bounded.{upto};
 ghost use Rattle.task.specs.Check.{unless};
 ghost use Rattle.task.specs.Rules.{no-operator};
 ghost use Rattle.task.specs.Table.{operator-at};
-ghost use Rattle.steps.specs.Steps.{running, Ready, Takes};
+ghost use Rattle.steps.specs.Steps.{running, Ready, Takes, Scratched};
 use crate::Taken;
 use task::Head;
 
@@ -47,6 +47,7 @@ pub fn take(
 ) -> Taken
     requires { ⌜ Ready head (now formulas) (now effects) (now operators) (now state) (now scratch) ⌝ }
     ensures { λ r. ⌜ Takes (running head (now (formulas .entry)) (now (effects .entry)) (now (operators .entry))) (now (state .entry)) number r (now (state .exit)) ⌝ }
+    ensures { λ r. ⌜ Scratched head (now (formulas .entry)) (now (effects .entry)) (now (operators .entry)) (now (state .entry)) number r (now (scratch .entry)) (now (scratch .exit)) ⌝ }
 {
     let count = head.formulas as usize;
     let precondition = precondition_of(head.operators, operators, number);

@@ -65,7 +65,8 @@ pub record RowsRoom (h : Head) (formulas effects operators : List ℕ) : Type 0 
   pub effects-fit : 3 * h .effects ≤ length effects
   pub operators-fit : 3 * h .operators ≤ length operators
 
--- what filling the tables of rows leaves: words in front, and all behind them as it was
+-- what filling the tables of rows leaves: words in front, and all behind them as it was. After a refusal the fronts are left open, since `read` then
+-- clears every table (`read-outcome`); what is behind them is as it was all the same.
 pub record RowsFilled (h : Head) (file : List ℕ) (at : ℕ) (r : Place) (f e o f′ e′ o′ : List ℕ) : Type 0 where
   pub told :
       part-told file (record { formulas = take (3 * h .formulas) f′; effects = take (3 * h .effects) e′; operators = take (3 * h .operators) o′ }) r
@@ -82,7 +83,7 @@ pub record AllRoom (h : Head) (initial twins formulas effects operators : List �
   pub few-twins : h .twins ≤ h .variables
   pub few-variables : h .variables ≤ 512
 
--- what filling every table leaves
+-- what filling every table leaves; after a refusal the fronts are left open, as above
 pub record AllFilled (h : Head) (file : List ℕ) (at : ℕ) (r : Place) (i w f e o i′ w′ f′ e′ o′ : List ℕ) : Type 0 where
   pub told :
       part-told file

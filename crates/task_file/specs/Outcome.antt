@@ -59,7 +59,7 @@ pub record Holds (t : Task) (i w f e o i′ w′ f′ e′ o′ : List ℕ) : Ty
   pub effects : e′ ≡ words-of (t .effects) ++ drop (length (words-of (t .effects))) e
   pub operators : o′ ≡ operator-words (t .operators) ++ drop (length (operator-words (t .operators))) o
 
--- what filling leaves: the answer, and on success the task's words
+-- what filling leaves: the answer, and on success the task's words. After a refusal the tables are left open: `read` clears them all.
 pub record Filled (l : Lengths) (file : List ℕ) (r : ReadAnswer) (i w f e o i′ w′ f′ e′ o′ : List ℕ) : Type 0 where
   pub answer : r ≡ read-answer (reading l file)
   pub tables : (t : Task) → reading l file ≡ accepted t → Holds t i w f e o i′ w′ f′ e′ o′

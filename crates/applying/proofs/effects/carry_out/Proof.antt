@@ -4,13 +4,13 @@ use Rattle.applying.proofs.effects.carry_out.Statement.{statement}
 use Rattle.applying.proofs.effects.carry_out.Tie as tie
 use native.Mathlib.Omega.{arith}
 use mathlib.Core.Path.{refl}
-use Rattle.applying.proofs.Passes.{conditions-again, carried}
+use Rattle.applying.proofs.Passes.{decided-ready, carried}
 
 carry-out-atoms-requires : tie.Need-carry-out-atoms-requires
 carry-out-atoms-requires c κs = search needs
 
 carry-out-atoms-requires-2 : tie.Need-carry-out-atoms-requires-2
-carry-out-atoms-requires-2 c κs = (conditions-again (c .before .before .before .before .before .before .before .before .before .before .before .before .before .pre .0) (c .before .before .before .before .before .before .before .before .before .before .before .before .before .pre .1) (c .before .before .before .before .before .before .carry-out-atoms .ensures) (omega arith), omega arith)
+carry-out-atoms-requires-2 c κs = (decided-ready (c .before .before .before .before .before .before .before .before .before .before .before .before .before .pre) (c .before .before .before .before .before .before .carry-out-atoms .ensures), omega arith)
 
 same-length : tie.Need-same-length
 same-length c = search needs

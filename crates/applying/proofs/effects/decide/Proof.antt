@@ -9,7 +9,7 @@ returns : tie.Need-returns
 returns c = all-decided (c .if1 .taken)
 
 evaluate-requires : tie.Need-evaluate-requires
-evaluate-requires c κs = (c .before .before .before .before .before .before .pre .formulas)
+evaluate-requires c κs = c .before .before .before .before .before .before .pre .formulas (c .before .if1 .left)
 
 mark-requires : tie.Need-mark-requires
 mark-requires c κs = still-markable (c .before .before .before .before .before .before .before .before .before .before .pre .effects) (c .before .before .before .evaluate .kept .1 .1 .1 .1 .0)

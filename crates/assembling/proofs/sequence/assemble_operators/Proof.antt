@@ -28,7 +28,7 @@ same-length-2 c = search needs
 returns : tie.Need-returns
 returns c =
     let s = c .before .before .before .before .before .before .before .before .before .before .before .before .before .before .before .before in
-    c .before .before .before .before .assemble-placed .ensures (take (s .args .frame .twins) (s .args .originals .now)) (c .before .before .before .before .before .before .before .before .before .find-places .ensures)
+    c .before .before .before .before .assemble-placed .ensures (take (s .args .frame .twins) (s .args .originals .now)) (c .before .before .before .before .before .before .before .before .before .find-places .ensures .0)
 
 pub assemble-operators-spec : {M : Type 1} → statement M
 assemble-operators-spec =

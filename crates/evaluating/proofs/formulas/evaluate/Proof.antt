@@ -7,7 +7,7 @@ use mathlib.Core.Path.{_≡_}
 use Rattle.evaluating.proofs.Valuing.{Evaluating, begin, row-ready, one-more, evaluated}
 
 abbrev Inv-loop : tie.InvT-loop
-Inv-loop formulas from to state scratch₀ i₀ scratch i = Evaluating formulas from to state scratch₀ i scratch
+Inv-loop formulas from to state scratch₀ i₀ scratch i = Evaluating formulas to state scratch₀ i scratch
 
 abbrev μ-loop : tie.MeasureT-loop
 μ-loop formulas from to state scratch₀ i₀ scratch i = to - i
@@ -35,7 +35,7 @@ same-length c = (c .before .loop .inv .same)
 
 returns : tie.Need-returns Inv-loop μ-loop
 returns c = let e : (c .before .loop .i) ≡ (c .before .before .before .before .before .args .to) = omega (arith, (c .before .loop .inv .inside)) in
-    evaluated (c .before .before .before .before .before .pre) (rw e at (c .before .loop .inv))
+    evaluated (rw e at (c .before .loop .inv))
 
 pub evaluate-spec : {M : Type 1} → statement M
 evaluate-spec =

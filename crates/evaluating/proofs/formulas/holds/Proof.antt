@@ -3,7 +3,7 @@ use borrow.Author.Needs.{needs}
 use Rattle.evaluating.proofs.formulas.holds.Statement.{statement}
 use Rattle.evaluating.proofs.formulas.holds.Tie as tie
 use native.Mathlib.Omega.{arith}
-use Rattle.task.proofs.Values.{values-none, value-told}
+use Rattle.task.proofs.Values.{value-told}
 
 add-evaluate : tie.Need-add-evaluate
 add-evaluate c = search needs
@@ -18,8 +18,8 @@ same-length : tie.Need-same-length
 same-length c = search needs
 
 returns : tie.Need-returns
-returns c = let v = (c .before .before .before .evaluate .ensures .known) (values-none _ _ _) in
-    (value-told v (c .before .before .before .before .before .before .before .before .args .formula) (omega arith), v)
+returns c = let v = c .before .before .before .evaluate .ensures in
+    (value-told (v .known) (c .before .before .before .before .before .before .before .before .args .formula) (omega arith), v)
 
 pub holds-spec : {M : Type 1} → statement M
 holds-spec =

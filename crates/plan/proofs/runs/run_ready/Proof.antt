@@ -43,7 +43,7 @@ take-requires : tie.Need-take-requires Inv-loop μ-loop
 take-requires c κs = ready-again (c .before .before .before .before .before .before .before .before .before .before .before .before .pre .0) (c .before .before .before .before .loop .inv .3 .state) (c .before .before .before .before .loop .inv .2)
 
 holds-requires : tie.Need-holds-requires Inv-loop μ-loop
-holds-requires c κs = valuable (ready-again (c .before .before .before .before .before .before .before .before .before .before .before .before .before .before .before .before .before .before .before .before .before .pre .0) (after-ready (c .before .before .before .before .before .before .before .before .before .before .before .before .before .loop .inv .3) (omega (arith, (c .before .before .before .before .before .before .before .before .before .before .before .before .loop-test .taken))) (c .before .before .before .before .before .before .before .before .take .ensures)) ((c .before .before .before .before .before .before .before .before .take .kept .1 .1 .1 .1 .1 .1 .0) ∙ (c .before .before .before .before .before .before .before .before .before .before .before .before .before .loop .inv .2))) (c .before .before .before .before .before .before .before .before .before .before .before .before .before .before .before .before .before .before .before .before .before .pre .0 .tables .goal)
+holds-requires c κs = valuable (ready-again (c .before .before .before .before .before .before .before .before .before .before .before .before .before .before .before .before .before .before .before .before .before .pre .0) (after-ready (c .before .before .before .before .before .before .before .before .before .before .before .before .before .loop .inv .3) (omega (arith, (c .before .before .before .before .before .before .before .before .before .before .before .before .loop-test .taken))) (c .before .before .before .before .before .before .before .before .take .ensures .0)) ((c .before .before .before .before .before .before .before .before .take .kept .1 .1 .1 .1 .1 .1 .0) ∙ (c .before .before .before .before .before .before .before .before .before .before .before .before .before .loop .inv .2))) (c .before .before .before .before .before .before .before .before .before .before .before .before .before .before .before .before .before .before .before .before .before .pre .0 .tables .goal)
 
 same-length : tie.Need-same-length Inv-loop μ-loop
 same-length c = (c .before .before .before .before .before .before .before .before .before .before .before .take .kept .1 .1 .1 .1 .0) ∙ (c .before .before .before .before .before .before .before .before .before .before .before .before .before .before .before .before .loop .inv .1)
@@ -52,19 +52,19 @@ same-length-2 : tie.Need-same-length-2 Inv-loop μ-loop
 same-length-2 c = (c .before .before .holds .kept .1 .1 .1 .0) ∙ (c .before .before .before .before .before .before .before .before .before .before .before .take .kept .1 .1 .1 .1 .1 .1 .0) ∙ (c .before .before .before .before .before .before .before .before .before .before .before .before .before .before .before .before .loop .inv .2)
 
 returns : tie.Need-returns Inv-loop μ-loop
-returns c = stopped-run (c .before .before .before .before .before .before .before .before .before .before .before .before .before .before .before .before .loop .inv .3) (omega (arith, (c .before .before .before .before .before .before .before .before .before .before .before .before .before .before .before .loop-test .taken))) (c .before .before .before .before .before .before .before .before .before .before .before .take .ensures) (c .before .before .before .before .before .if1 .taken) ((c .before .before .holds .ensures .0) ∙ goal-told (c .before .before .before .before .before .before .before .before .before .before .before .before .before .before .before .before .before .before .before .before .before .before .before .before .pre .0) (after-ready (c .before .before .before .before .before .before .before .before .before .before .before .before .before .before .before .before .loop .inv .3) (omega (arith, (c .before .before .before .before .before .before .before .before .before .before .before .before .before .before .before .loop-test .taken))) (c .before .before .before .before .before .before .before .before .before .before .before .take .ensures)))
+returns c = stopped-run (c .before .before .before .before .before .before .before .before .before .before .before .before .before .before .before .before .loop .inv .3) (omega (arith, (c .before .before .before .before .before .before .before .before .before .before .before .before .before .before .before .loop-test .taken))) (c .before .before .before .before .before .before .before .before .before .before .before .take .ensures .0) (c .before .before .before .before .before .if1 .taken) ((c .before .before .holds .ensures .0) ∙ goal-told (c .before .before .before .before .before .before .before .before .before .before .before .before .before .before .before .before .before .before .before .before .before .before .before .before .pre .0) (after-ready (c .before .before .before .before .before .before .before .before .before .before .before .before .before .before .before .before .loop .inv .3) (omega (arith, (c .before .before .before .before .before .before .before .before .before .before .before .before .before .before .before .loop-test .taken))) (c .before .before .before .before .before .before .before .before .before .before .before .take .ensures .0)))
 
 add-steps : tie.Need-add-steps Inv-loop μ-loop
 add-steps c = omega arith
 
 add-cost : tie.Need-add-cost Inv-loop μ-loop
-add-cost c = omega (arith, (c .before .before .before .before .before .before .before .before .before .before .before .before .loop .inv .3 .costs), (c .before .before .before .before .before .before .before .take .ensures .small))
+add-cost c = omega (arith, (c .before .before .before .before .before .before .before .before .before .before .before .before .loop .inv .3 .costs), (c .before .before .before .before .before .before .before .take .ensures .0 .small))
 
 loop-less : tie.Need-loop-less Inv-loop μ-loop
 loop-less c = omega arith
 
 loop-again : tie.Need-loop-again Inv-loop μ-loop
-loop-again c = (omega (arith, (c .before .before .before .before .before .before .before .before .before .before .before .loop-test .taken)), (c .before .before .before .before .before .before .before .take .kept .1 .1 .1 .1 .0) ∙ (c .before .before .before .before .before .before .before .before .before .before .before .before .loop .inv .1), (c .before .before .before .before .before .before .before .take .kept .1 .1 .1 .1 .1 .1 .0) ∙ (c .before .before .before .before .before .before .before .before .before .before .before .before .loop .inv .2), one-more (c .before .before .before .before .before .before .before .before .before .before .before .before .loop .inv .3) (omega (arith, (c .before .before .before .before .before .before .before .before .before .before .before .loop-test .taken))) (c .before .before .before .before .before .before .before .take .ensures) (c .before .if1 .left))
+loop-again c = (omega (arith, (c .before .before .before .before .before .before .before .before .before .before .before .loop-test .taken)), (c .before .before .before .before .before .before .before .take .kept .1 .1 .1 .1 .0) ∙ (c .before .before .before .before .before .before .before .before .before .before .before .before .loop .inv .1), (c .before .before .before .before .before .before .before .take .kept .1 .1 .1 .1 .1 .1 .0) ∙ (c .before .before .before .before .before .before .before .before .before .before .before .before .loop .inv .2), one-more (c .before .before .before .before .before .before .before .before .before .before .before .before .loop .inv .3) (omega (arith, (c .before .before .before .before .before .before .before .before .before .before .before .loop-test .taken))) (c .before .before .before .before .before .before .before .take .ensures .0) (c .before .if1 .left))
 
 holds-requires-2 : tie.Need-holds-requires-2 Inv-loop μ-loop
 holds-requires-2 c κs = valuable (ready-again (c .before .before .before .before .before .before .before .before .before .before .before .pre .0) (c .before .before .before .loop .inv .3 .state) (c .before .before .before .loop .inv .2)) (c .before .before .before .before .before .before .before .before .before .before .before .pre .0 .tables .goal)

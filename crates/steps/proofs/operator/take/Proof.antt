@@ -4,8 +4,10 @@ use Rattle.steps.proofs.operator.take.Statement.{statement}
 use Rattle.steps.proofs.operator.take.Tie as tie
 use Prim.Native.Nat.{_+_, _*_}
 use native.Mathlib.Omega.{arith}
+use mathlib.Core.Path.{refl}
 use Rattle.task.specs.Table.{operator-at}
-use Rattle.steps.proofs.Taking.{valuable, asked-below, stays, there, known-here, conditions-ready, carried-out}
+use Rattle.steps.proofs.Taking.{valuable, asked-below, stays, there, conditions-ready, carried-out}
+use Rattle.steps.proofs.Scratching.{scratch-stopped, scratch-done}
 
 cast-count : tie.Need-cast-count
 cast-count c = search needs
@@ -26,7 +28,7 @@ same-length-2 : tie.Need-same-length-2
 same-length-2 c = search needs
 
 returns : tie.Need-returns
-returns c = stays (c .before .before .before .before .before .before .before .before .before .before .before .before .before .before .before .pre) (c .before .before .before .before .before .before .before .before .before .before .before .before .before .before .before .args .number) (c .before .before .before .before .before .before .before .before .precondition-of .ensures) (c .before .before .before .before .before .holds .ensures .0) (c .before .stop-of .ensures) (c .if1 .taken)
+returns c = (stays (c .before .before .before .before .before .before .before .before .before .before .before .before .before .before .before .pre) (c .before .before .before .before .before .before .before .before .before .before .before .before .before .before .before .args .number) (c .before .before .before .before .before .before .before .before .precondition-of .ensures) (c .before .before .before .before .before .holds .ensures .0) (c .before .stop-of .ensures) (c .if1 .taken), scratch-stopped (c .before .before .before .before .before .before .before .before .before .before .before .before .before .before .before .args .number) (c .before .before .before .before .before .before .before .before .precondition-of .ensures) (c .before .before .before .before .before .holds .ensures .1) (c .if1 .taken))
 
 mul-row : tie.Need-mul-row
 mul-row c = search needs
@@ -48,7 +50,7 @@ add-carry-out c = omega (arith, asked-below (c .before .before .before .before .
 
 carry-out-requires : tie.Need-carry-out-requires
 unfolding operator-at
-carry-out-requires c κs = (conditions-ready (c .before .before .before .before .before .before .before .before .before .before .before .before .before .before .before .before .before .before .pre) (c .before .before .before .before .before .before .before .before .before .before .before .before .before .before .before .before .before .before .args .number) (c .before .before .before .before .before .before .before .before .before .before .before .precondition-of .ensures) (c .before .before .before .before .before .before .before .before .holds .ensures .0) (c .before .before .before .before .stop-of .ensures) (c .before .before .before .if1 .left) (c .before .before .before .before .before .before .before .before .holds .last .1 .1 .1 .0) (c .before .before .before .before .before .before .before .before .holds .kept .1 .1 .1 .0) (c .before .before .before .before .before .before .before .before .holds .ensures .1), known-here (c .before .before .before .before .before .before .before .before .before .before .before .before .before .before .before .before .before .before .pre) (c .before .before .before .before .before .before .before .before .before .before .before .before .before .before .before .before .before .before .args .number) (c .before .before .before .before .before .before .before .before .before .before .before .precondition-of .ensures) (c .before .before .before .before .before .before .before .before .holds .ensures .0) (c .before .before .before .before .stop-of .ensures) (c .before .before .before .if1 .left) (c .before .before .before .before .before .before .before .before .holds .last .1 .1 .1 .0) (c .before .before .before .before .before .before .before .before .holds .kept .1 .1 .1 .0) (c .before .before .before .before .before .before .before .before .holds .ensures .1))
+carry-out-requires c κs = conditions-ready (c .before .before .before .before .before .before .before .before .before .before .before .before .before .before .before .before .before .before .pre) (c .before .before .before .before .before .before .before .before .before .before .before .before .before .before .before .before .before .before .args .number) (c .before .before .before .before .before .before .before .before .before .before .before .precondition-of .ensures) (c .before .before .before .before .before .before .before .before .holds .ensures .0) (c .before .before .before .before .stop-of .ensures) (c .before .before .before .if1 .left) (c .before .before .before .before .before .before .before .before .holds .last .1 .1 .1 .0) (c .before .before .before .before .before .before .before .before .holds .kept .1 .1 .1 .0) (c .before .before .before .before .before .before .before .before .holds .ensures .1 .known)
 
 add-t20 : tie.Need-add-t20
 add-t20 c = omega (arith, c .before .before .before .before .before .before .before .before .before .before .before .before .before .before .before .before .before .before .before .before .before .before .before .good)
@@ -70,7 +72,7 @@ same-length-4 c = search needs
 
 returns-2 : tie.Need-returns-2
 unfolding operator-at
-returns-2 c = carried-out (c .before .before .before .before .before .before .before .before .before .before .before .before .before .before .before .before .before .before .before .before .before .before .before .before .pre) (c .before .before .before .before .before .before .before .before .before .before .before .before .before .before .before .before .before .before .before .before .before .before .before .before .args .number) (c .before .before .before .before .before .before .before .before .before .before .before .before .before .before .before .before .before .precondition-of .ensures) (c .before .before .before .before .before .before .before .before .before .before .before .before .before .before .holds .ensures .0) (c .before .before .before .before .before .before .before .before .before .before .stop-of .ensures) (c .before .before .before .before .before .before .before .before .before .if1 .left) (c .before .before .before .before .before .before .before .before .before .before .before .before .before .before .holds .last .1 .1 .1 .0) (c .before .before .before .before .before .before .before .before .before .before .before .before .before .before .holds .kept .1 .1 .1 .0) (c .before .before .before .before .before .before .before .before .before .before .before .before .before .before .holds .ensures .1) (c .before .before .before .before .before .carry-out .last .1 .1 .1 .1 .1 .1 .0) (c .before .before .before .before .before .carry-out .last .1 .1 .1 .1 .1 .0) (c .before .before .before .before .before .carry-out .ensures) (omega (arith, (c .shared-slice-known5 .given) (3 * (c .before .before .before .before .before .before .before .before .before .before .before .before .before .before .before .before .before .before .before .before .before .before .before .before .args .number) + 2)))
+returns-2 c = (carried-out (c .before .before .before .before .before .before .before .before .before .before .before .before .before .before .before .before .before .before .before .before .before .before .before .before .pre) (c .before .before .before .before .before .before .before .before .before .before .before .before .before .before .before .before .before .before .before .before .before .before .before .before .args .number) (c .before .before .before .before .before .before .before .before .before .before .before .before .before .before .before .before .before .precondition-of .ensures) (c .before .before .before .before .before .before .before .before .before .before .before .before .before .before .holds .ensures .0) (c .before .before .before .before .before .before .before .before .before .before .stop-of .ensures) (c .before .before .before .before .before .before .before .before .before .if1 .left) (c .before .before .before .before .before .before .before .before .before .before .before .before .before .before .holds .last .1 .1 .1 .0) (c .before .before .before .before .before .before .before .before .before .before .before .before .before .before .holds .kept .1 .1 .1 .0) (c .before .before .before .before .before .before .before .before .before .before .before .before .before .before .holds .ensures .1 .known) (c .before .before .before .before .before .carry-out .last .1 .1 .1 .1 .1 .1 .0) (c .before .before .before .before .before .carry-out .last .1 .1 .1 .1 .1 .0) (c .before .before .before .before .before .carry-out .ensures) (omega (arith, (c .shared-slice-known5 .given) (3 * (c .before .before .before .before .before .before .before .before .before .before .before .before .before .before .before .before .before .before .before .before .before .before .before .before .args .number) + 2))), scratch-done (c .before .before .before .before .before .before .before .before .before .before .before .before .before .before .before .before .before .before .before .before .before .before .before .before .args .number) (c .before .before .before .before .before .before .before .before .before .before .before .before .before .before .before .before .before .precondition-of .ensures) (c .before .before .before .before .before .before .before .before .before .before .before .before .before .before .holds .ensures .1) refl (omega (arith, asked-below (c .before .before .before .before .before .before .before .before .before .before .before .before .before .before .before .before .before .before .before .before .before .before .before .before .pre) (c .before .before .before .before .before .before .before .before .before .before .before .before .before .before .before .before .before .before .before .before .before .before .before .before .args .number) (c .before .before .before .before .before .before .before .before .before .before .before .before .before .before .before .before .before .precondition-of .ensures))) (c .before .before .before .before .before .before .before .before .before .before .before .before .before .before .holds .kept .1 .1 .1 .0) (c .before .before .before .before .before .carry-out .ensures .deciding))
 
 pub take-spec : {M : Type 1} → statement M
 take-spec =
