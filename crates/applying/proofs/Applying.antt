@@ -16,12 +16,13 @@ use Rattle.task.specs.Semantics.{holds, apply}
 use Rattle.task.specs.Tree.{formula-of, effect-of}
 use Rattle.task.proofs.Bounded.{and-left, and-right, and-both, length-upto, getD-upto}
 use Rattle.task.proofs.KindNumbers.{by-effect-kind}
-use Rattle.task.proofs.Trees.{EffectsDown}
-use Rattle.task.proofs.Values.{bit, told, told-bit, Values}
+use Rattle.task.specs.Inner.Rows.{EffectsDown}
+use Rattle.task.proofs.Values.{told-bit}
+use Rattle.task.specs.Inner.Values.{bit, told, Values}
 use Rattle.task.proofs.Marks as Marks
 use Rattle.task.proofs.Changes.{kind-acts, row-changes, changes, changes-apply}
-use Rattle.evaluating.specs.Values.{rows-of}
-use Rattle.applying.specs.Marks.{on, marked, acts, changed, HandsTo, to-left, to-right, to-inner, Reached, at-root, handed, Markable, Marked}
+use Rattle.evaluating.specs.Inner.Values.{rows-of}
+use Rattle.applying.specs.Inner.Marks.{on, marked, acts, changed, HandsTo, to-left, to-right, to-inner, Reached, at-root, handed, Markable, Marked}
 use Rattle.applying.proofs.Marking.{reached-below, inner-below}
 
 on-bit : (b : Bool) → not (eqb (bit b) 0) ≡ b

@@ -13,7 +13,7 @@ use lib.Dec.{eqb}
 use borrow.Author.Tests.{eq-eqb, ne-eqb}
 use Rattle.task.specs.Table.{row-at, both-kind, under-kind, effect-kind}
 use Rattle.task.proofs.KindNumbers.{HasEffectNumber, effect-number}
-use Rattle.applying.specs.Marks.{on, marked, HandsTo, to-left, to-right, to-inner, Markable, HandedOn}
+use Rattle.applying.specs.Inner.Marks.{on, marked, HandsTo, to-left, to-right, to-inner, Markable, HandedOn}
 
 pub on-same : (s t : List ℕ) (i : ℕ) → getD t i 0 ≡ getD s i 0 → on t i ≡ on s i
 unfolding on

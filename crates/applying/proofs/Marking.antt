@@ -11,7 +11,7 @@ use lib.Seq.{getD-set-same, getD-set-other, getD-take, getD-drop, getD-append-ad
 use borrow.Rule.Slice.PartMut.{midOf, putMid, same-len-mid}
 use Rattle.task.specs.Table.{row-at, EffectKind, both-kind, under-kind, effect-kind}
 use Rattle.task.specs.Rules.{EffectRule}
-use Rattle.applying.specs.Marks.{on, marked, HandsTo, to-left, to-right, to-inner, Reached, at-root, handed, Markable, Marked, HandedOn, Begun}
+use Rattle.applying.specs.Inner.Marks.{on, marked, HandsTo, to-left, to-right, to-inner, Reached, at-root, handed, Markable, Marked, HandedOn, Begun}
 use Rattle.applying.proofs.Handing.{on-same, not-zero-on, zero-off}
 
 module _ (at root : ℕ) (s ys : List ℕ) (room : at + root < length s) where

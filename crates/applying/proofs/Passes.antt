@@ -12,9 +12,9 @@ use Rattle.task.specs.Table.{row-at, effect-kind}
 use Rattle.task.specs.Rules.{EffectRule}
 use Rattle.task.proofs.Bounded.{and-right}
 use Rattle.task.proofs.KindNumbers.{by-effect-kind}
-use Rattle.evaluating.specs.Values.{Valued}
-use Rattle.applying.specs.Marks.{on, marked, acts, changed, Changeable, Markable, Marked}
-use Rattle.applying.specs.Carrying.{ConditionsReady, Decided, Decides, AtomsCarried, Carried}
+use Rattle.evaluating.specs.Inner.Values.{Valued}
+use Rattle.applying.specs.Inner.Marks.{on, marked, acts, changed, Changeable, Markable, Marked}
+use Rattle.applying.specs.Inner.Carrying.{ConditionsReady, Decided, Decides, AtomsCarried, Carried}
 
 pub acts-not-marked : (words : List ℕ) (kind : ℕ) (scratch : List ℕ) (at k : ℕ)
     → getD scratch (at + k) 0 ≡ 0 → acts words kind scratch at k ≡ false

@@ -3,8 +3,8 @@ ghost use Prim.Native.Nat.{_+_, _≤_, _<_};
 ghost use mathlib.Core.Path.{_≡_};
 ghost use mathlib.Core.Bool.{false};
 ghost use lib.ListN.{length};
-ghost use Rattle.applying.specs.Marks.{changed, Changeable, Markable, Marked, HandedOn, Begun};
-ghost use Rattle.applying.specs.Carrying.{ConditionsReady, Decides, AtomsCarried, Carried};
+ghost use Rattle.applying.specs.Inner.Marks.{changed, Changeable, Markable, Marked, HandedOn, Begun};
+ghost use Rattle.applying.specs.Inner.Carrying.{ConditionsReady, Decides, AtomsCarried, Carried};
 use evaluating::evaluate;
 use task::clear::clear_bytes;
 

@@ -19,13 +19,14 @@ use Rattle.normal_form.proofs.ShapeAssembled.{unwritten}
 use Rattle.normal_form.proofs.ShapeWritten.{rules-prefix}
 use Rattle.normal_form.proofs.ShapeCounts.{assemble-split}
 use Rattle.formula_builder.specs.declared.Words.{Words}
-use Rattle.formula_builder.specs.Held.{row-of}
+use Rattle.formula_builder.specs.Inner.Held.{row-of}
 use Rattle.rule_writer.specs.declared.Chain.{Chain}
 use Rattle.rule_writer.specs.declared.Frame.{Frame}
-use Rattle.rule_writer.specs.Writes.{Holds, Writes, OneMore, Ready as RuleReady}
-use Rattle.rule_writer.proofs.Writing.{begun, writes-none, writes-as, writes-variable}
-use Rattle.records.specs.Recorded.{change-at, changes-from}
-use Rattle.assembling.specs.Assembles.{changes-between, built-of, begins-at, built-in, assembled-in, WritesRecords, WritesOperator, Holding, WroteOperator, InOrder, Assembles, AssembledAll}
+use Rattle.rule_writer.specs.Inner.Writes.{Holds, Writes, OneMore, Ready as RuleReady}
+use Rattle.rule_writer.proofs.Writing.{writes-none, writes-as, writes-variable}
+use Rattle.rule_writer.specs.Inner.Places.{begun}
+use Rattle.records.specs.Inner.Recorded.{change-at, changes-from}
+use Rattle.assembling.specs.Inner.Assembles.{changes-between, built-of, begins-at, built-in, assembled-in, WritesRecords, WritesOperator, Holding, WroteOperator, InOrder, Assembles, AssembledAll}
 
 -- a change, as it is read
 abbrev change-in : Words → Changes

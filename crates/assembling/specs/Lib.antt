@@ -1,1 +1,1 @@
-pub mod Assembles
+pub mod Inner

@@ -7,9 +7,9 @@ use rule_writer::Frame;
 use rule_writer::write_changes;
 use rule_writer::write_operator;
 ghost use Rattle.normal_form.specs.Assembly.{rules};
-ghost use Rattle.formula_builder.specs.Held.{row-of};
-ghost use Rattle.rule_writer.specs.Writes.{Ready, Writes};
-ghost use Rattle.assembling.specs.Assembles.{changes-between, built-of, ForTwins, WritesRecords, WritesOperator, WroteOperator};
+ghost use Rattle.formula_builder.specs.Inner.Held.{row-of};
+ghost use Rattle.rule_writer.specs.Inner.Writes.{Ready, Writes};
+ghost use Rattle.assembling.specs.Inner.Assembles.{changes-between, built-of, ForTwins, WritesRecords, WritesOperator, WroteOperator};
 
 // The rules of the changes recorded from k up to an end, behind what stands. One step for each.
 fn write_records(

@@ -6,7 +6,7 @@ use rule_writer::Frame;
 use rule_writer::find_places;
 ghost use Prim.Native.Nat.{_≤_};
 ghost use lib.ListN.{length, take};
-ghost use Rattle.assembling.specs.Assembles.{assembled-in, ForTwins, Assembles, Twinned, AssembledAll};
+ghost use Rattle.assembling.specs.Inner.Assembles.{assembled-in, ForTwins, Assembles, Twinned, AssembledAll};
 
 // Writes the rules and the rows of the first count operators into tables that are all 0, the places of the twins being known; stops at the
 // first operator whose rules have no room. Nothing is built: one step for each change that was recorded.

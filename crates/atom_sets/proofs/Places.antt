@@ -11,7 +11,7 @@ use mir.Val.{boolByte}
 use lib.Pow.{shr-shr}
 use borrow.Author.Tests.{eqb-true, eq-eqb}
 use Rattle.formula_builder.specs.declared.Frame.{Frame}
-use Rattle.atom_sets.specs.Sets.{set-words, set-place, sets-end, atom-bit, lacks, set-from, InSet}
+use Rattle.atom_sets.specs.Inner.Sets.{set-words, set-place, sets-end, atom-bit, lacks, set-from, InSet}
 
 -- a product that fits a word of the machine
 pub product-small : (s e : ℕ) → s ≤ 64 → e ≤ 4096 → s * e ≤ 262144

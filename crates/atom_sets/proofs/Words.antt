@@ -9,7 +9,7 @@ use lib.Bits.{bitOr, or-shr, or-step}
 use lib.Pow.{shl-exact, shl-shr}
 use lib.ListN.{length, getD, set, length-set}
 use lib.Seq.{getD-set-same, getD-set-other}
-use Rattle.atom_sets.specs.Finds.{united, copied, Room, Written}
+use Rattle.atom_sets.specs.Inner.Finds.{united, copied, Room, Written}
 
 lowest : (o p q r : ℕ) → o ≡ r * 2 + max (p % 2) (q % 2) → o % 2 ≡ 0 → (p % 2 ≡ 0) × (q % 2 ≡ 0)
 lowest o p q r e h = (omega arith, omega arith)

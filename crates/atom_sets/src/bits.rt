@@ -3,7 +3,7 @@ use formula_builder::Frame;
 ghost use mathlib.Core.Path.{_≡_};
 ghost use Prim.Native.Nat.{_≤_};
 ghost use lib.ListN.{length};
-ghost use Rattle.atom_sets.specs.Sets.{set-words, set-place, sets-end, lacks, set-from, InSet};
+ghost use Rattle.atom_sets.specs.Inner.Sets.{set-words, set-place, sets-end, lacks, set-from, InSet};
 
 // How many words a set takes: four for each 32 variables.
 pub fn set_words(frame: Frame) -> usize

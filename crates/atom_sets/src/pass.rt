@@ -6,8 +6,8 @@ use formula_builder::read_row;
 ghost use mathlib.Core.Path.{_≡_};
 ghost use lib.ListN.{length, set};
 ghost use Prim.Native.Nat.{_%_, _^_, _≤_};
-ghost use Rattle.atom_sets.specs.Sets.{set-place, sets-end, atom-bit, InSet};
-ghost use Rattle.atom_sets.specs.Finds.{set-start, united, copied, Room, Written, Within, FindsSets, FindsSet, FoundSet, FoundSets};
+ghost use Rattle.atom_sets.specs.Inner.Sets.{set-place, sets-end, atom-bit, InSet};
+ghost use Rattle.atom_sets.specs.Inner.Finds.{set-start, united, copied, Room, Written, Within, FindsSets, FindsSet, FoundSet, FoundSets};
 
 // The four words at i become those at a together with those at b. All are read before one is written, so that one access of memory can take
 // four. Constant cost.

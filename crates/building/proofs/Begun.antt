@@ -9,24 +9,24 @@ use lib.ListN.{length}
 use Rattle.task.specs.Table.{Row, row-at}
 use Rattle.normal_form.specs.Builder.{St, Got, give, bind, each, place, start, plain}
 use Rattle.normal_form.specs.Operators.{Changes}
-use Rattle.normal_form.proofs.Padded.{three}
+use Rattle.normal_form.specs.Inner.Stored.{three}
 use Rattle.formula_builder.specs.declared.Words.{Words}
 use Rattle.formula_builder.specs.declared.Frame.{Frame}
 use Rattle.formula_builder.specs.declared.Step.{Step}
-use Rattle.formula_builder.specs.Index.{FirstTwo}
-use Rattle.formula_builder.specs.Held.{Store, store, row-of, held, twin-word, TwinsNamed, Within}
+use Rattle.formula_builder.specs.Inner.Index.{FirstTwo}
+use Rattle.formula_builder.specs.Inner.Held.{Store, store, row-of, held, twin-word, TwinsNamed, Within}
 use Rattle.formula_builder.proofs.Steps.{within-before}
-use Rattle.images.specs.Images.{image-at, memo-place, Images, Asks}
+use Rattle.images.specs.Inner.Images.{image-at, memo-place, Images, Asks}
 use Rattle.images.proofs.Memos.{steady-image-at}
-use Rattle.changes.specs.Stands.{Leaves}
+use Rattle.changes.specs.Inner.Stands.{Leaves}
 use Rattle.conditions.proofs.Memos.{effect-memo-blank}
 use Rattle.changes.proofs.Standing.{stands-next, makes-image, leaves-full}
-use Rattle.records.specs.Recorded.{Opens, Recorded}
+use Rattle.records.specs.Inner.Recorded.{Opens, Recorded}
 use Rattle.operators.specs.declared.Tally.{Tally}
-use Rattle.operators.specs.Operator.{operator-built, operators-built, operator-here, BuildsOperator, OperatorWalked}
+use Rattle.operators.specs.Inner.Operator.{operator-built, operators-built, operator-here, BuildsOperator, OperatorWalked}
 use Rattle.operators.proofs.InOrder.{more-grows}
 use Rattle.building.specs.declared.Progress.{Progress}
-use Rattle.building.specs.Taken.{size-at, stopped, Fresh, Started, Begun, Blank, Stood, precondition-here, changes-here, many, Taken, Takes, Took, whole-built, FromStart}
+use Rattle.building.specs.Inner.Taken.{size-at, stopped, Fresh, Started, Begun, Blank, Stood, precondition-here, changes-here, many, Taken, Takes, Took, whole-built, FromStart}
 use Rattle.building.proofs.Kept.{many-more, none-kept, one-kept}
 
 abbrev pub begun : Progress

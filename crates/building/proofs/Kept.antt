@@ -11,14 +11,14 @@ use Rattle.normal_form.specs.Builder.{bind}
 use Rattle.normal_form.specs.Operators.{Changes}
 use Rattle.normal_form.proofs.ShapeEach.{Upwards, start, next, changes-upwards}
 use Rattle.normal_form.proofs.ShapeRules.{All, none, also, all-append}
-use Rattle.formula_builder.specs.Index.{three}
+use Rattle.formula_builder.specs.Inner.Index.{three}
 use Rattle.formula_builder.specs.declared.Frame.{Frame}
 use Rattle.formula_builder.proofs.Stored.{three-before, three-at}
-use Rattle.records.specs.Recorded.{acting, Recorded}
+use Rattle.records.specs.Inner.Recorded.{acting, Recorded}
 use Rattle.records.proofs.Acting.{acting-all}
 use Rattle.records.proofs.Keeping.{same-changes, three-after}
-use Rattle.operators.specs.Operator.{all-changes, operator-built, operator-here}
-use Rattle.building.specs.Taken.{precondition-here, changes-here, many, Kept, AllKept}
+use Rattle.operators.specs.Inner.Operator.{all-changes, operator-built, operator-here}
+use Rattle.building.specs.Inner.Taken.{precondition-here, changes-here, many, Kept, AllKept}
 
 upwards-below : {m : ℕ} {cs : List Changes} (n : ℕ) → m ≤ n → Upwards m cs → All (λ c. c .variable < n) cs
 upwards-below n h start = none

@@ -13,10 +13,10 @@ use Rattle.normal_form.specs.Image.{image}
 use Rattle.normal_form.specs.Operators.{Built, built-operator, parts}
 use Rattle.formula_builder.specs.declared.Frame.{Frame}
 use Rattle.formula_builder.proofs.Stored.{upto-same}
-use Rattle.images.specs.Images.{source-rows, tree, image-at}
-use Rattle.conditions.specs.Conditions.{effect-rows, effect-tree}
-use Rattle.operators.specs.Operator.{all-changes, operator-built, operator-here, operators-built}
-use Rattle.building.specs.Taken.{precondition-here, changes-here, whole-built}
+use Rattle.images.specs.Inner.Images.{source-rows, tree, image-at}
+use Rattle.conditions.specs.Inner.Conditions.{effect-rows, effect-tree}
+use Rattle.operators.specs.Inner.Operator.{all-changes, operator-built, operator-here, operators-built}
+use Rattle.building.specs.Inner.Taken.{precondition-here, changes-here, whole-built}
 
 -- steps that leave the same states leave the same state
 each-same :

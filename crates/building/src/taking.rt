@@ -8,9 +8,9 @@ use operators::build_operator;
 use rule_writer::store;
 ghost use mathlib.Core.Path.{_≡_};
 ghost use mathlib.Core.Bool.{true};
-ghost use Rattle.formula_builder.specs.Held.{store};
-ghost use Rattle.changes.specs.Stands.{Leaves};
-ghost use Rattle.building.specs.Taken.{size-at, stopped, Fresh, Begun, Takes, Took};
+ghost use Rattle.formula_builder.specs.Inner.Held.{store};
+ghost use Rattle.changes.specs.Inner.Stands.{Leaves};
+ghost use Rattle.building.specs.Inner.Taken.{size-at, stopped, Fresh, Begun, Takes, Took};
 
 // No room, so many operators taken.
 fn no_room(taken: usize) -> Progress

@@ -16,14 +16,14 @@ use Rattle.task.specs.Semantics.{Effect, sets, clears}
 use Rattle.formula_builder.specs.declared.Frame.{Frame}
 use Rattle.formula_builder.specs.declared.Size.{Size}
 use Rattle.formula_builder.specs.declared.Step.{Step}
-use Rattle.formula_builder.specs.Held.{Store, held, size-of, side, stepped, JoinReady, Builds}
+use Rattle.formula_builder.specs.Inner.Held.{Store, held, size-of, side, stepped, JoinReady, Builds}
 use Rattle.formula_builder.proofs.Steps.{builds-stands, falsity-small, within-before}
-use Rattle.images.specs.Images.{Memo, Images}
+use Rattle.images.specs.Inner.Images.{Memo, Images}
 use Rattle.images.proofs.Memos.{done-grows}
 use Rattle.conditions.specs.declared.Target.{Target}
-use Rattle.conditions.specs.Conditions.{effect-tree, condition-at, EffectMemo, Unnamed, Noted, Asks, Conditions}
+use Rattle.conditions.specs.Inner.Conditions.{effect-tree, condition-at, EffectMemo, Unnamed, Noted, Asks, Conditions}
 use Rattle.conditions.proofs.Memos.{effect-memo-grows, conditions-as, conditions-leaf, conditions-bind, conditions-stop}
-use Rattle.changes.specs.Stands.{Stands, StandsAt, Deletes, Leaves, Reaches, Makes}
+use Rattle.changes.specs.Inner.Stands.{Stands, StandsAt, Deletes, Leaves, Reaches, Makes}
 
 -- what a condition asks
 pub asks-condition :

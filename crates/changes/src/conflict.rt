@@ -4,9 +4,9 @@ use conditions::condition;
 use formula_builder::ROWS;
 use formula_builder::join;
 ghost use Rattle.normal_form.specs.Operators.{deletes-of};
-ghost use Rattle.formula_builder.specs.Held.{store, sized, stepped, framed};
-ghost use Rattle.conditions.specs.Conditions.{effect-tree, Conditions};
-ghost use Rattle.changes.specs.Stands.{Deletes};
+ghost use Rattle.formula_builder.specs.Inner.Held.{store, sized, stepped, framed};
+ghost use Rattle.conditions.specs.Inner.Conditions.{effect-tree, Conditions};
+ghost use Rattle.changes.specs.Inner.Stands.{Deletes};
 
 // D, freed of conflict with A: if neither is row 0, D and N, with N the negated condition of set v.
 pub fn deletes(

@@ -5,9 +5,9 @@ use formula_builder::falsity;
 ghost use mathlib.Core.Path.{_≡_};
 ghost use mathlib.Core.Bool.{false};
 ghost use Prim.Native.Nat.{_<_};
-ghost use Rattle.formula_builder.specs.Held.{store, sized, stepped, framed};
-ghost use Rattle.conditions.specs.Conditions.{condition-at, Unnamed, Conditions};
-ghost use Rattle.changes.specs.Stands.{StandsAt};
+ghost use Rattle.formula_builder.specs.Inner.Held.{store, sized, stepped, framed};
+ghost use Rattle.conditions.specs.Inner.Conditions.{condition-at, Unnamed, Conditions};
+ghost use Rattle.changes.specs.Inner.Stands.{StandsAt};
 
 // The condition of effect e, which is visited only if it names the target's atom; else nothing is built.
 pub fn condition_if(

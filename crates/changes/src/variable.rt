@@ -7,9 +7,9 @@ ghost use mathlib.Core.Path.{_≡_};
 ghost use mathlib.Core.Bool.{true, false};
 ghost use Prim.Native.Nat.{_<_};
 ghost use Rattle.normal_form.specs.Operators.{changes-of};
-ghost use Rattle.formula_builder.specs.Held.{store, sized, framed};
-ghost use Rattle.conditions.specs.Conditions.{effect-tree, Unnamed};
-ghost use Rattle.changes.specs.Stands.{StandsAt, Makes, Leaves, made};
+ghost use Rattle.formula_builder.specs.Inner.Held.{store, sized, framed};
+ghost use Rattle.conditions.specs.Inner.Conditions.{effect-tree, Unnamed};
+ghost use Rattle.changes.specs.Inner.Stands.{StandsAt, Makes, Leaves, made};
 
 // What effect e does to variable v: all of A, then all of D, then N. The two bits say whether e names set v and clear v: a condition is
 // walked for only then.

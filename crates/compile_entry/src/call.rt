@@ -1,9 +1,9 @@
 // Compiling a task file into the compiled task's file.
 ghost use lib.ListN.{length};
 ghost use Rattle.file_format.specs.Reading.{reading};
-ghost use Rattle.task_file.specs.Answers.{lengths};
+ghost use Rattle.task_file.specs.Outcome.{lengths};
 ghost use Rattle.entry_tables.specs.Own.{small};
-ghost use Rattle.compiled_file.specs.Giving.{CompileGives};
+ghost use Rattle.compiled_file.specs.Filed.{CompileGives};
 ghost use Rattle.compile_entry.specs.Entry.{compile-entry-by, compile-entry};
 use task_file::ReadAnswer;
 

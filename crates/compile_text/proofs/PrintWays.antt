@@ -14,7 +14,8 @@ use Rattle.printing.specs.Lines.{lines, refusal-line}
 use Rattle.printing.specs.Printing.{PrintOutcome, printing, printing-refusal}
 use Rattle.printing.specs.Printing.{PrintGives as Prints}
 use Rattle.printing.proofs.Suffices.{task-printed, refusal-printed}
-use Rattle.compile_text.specs.Giving.{most, TextGives, printed-length}
+use Rattle.compile_text.specs.Inner.Giving.{printed-length}
+use Rattle.compile_text.specs.Text.{most, TextGives}
 
 -- a text that was printed whole into the program's buffer
 printed-whole :

@@ -2,9 +2,10 @@
 ghost use mathlib.Core.Path.{_≡_};
 ghost use Rattle.task.specs.Table.{lent, task-of};
 ghost use Rattle.task.specs.Check.{refusal};
-ghost use Rattle.compiler.specs.Fills.{tables};
+ghost use Rattle.compiler.specs.Left.{tables};
 ghost use Rattle.compile_text.specs.Text.{compiled-text};
-ghost use Rattle.compile_text.specs.Giving.{CompileIn, TextGives};
+ghost use Rattle.compile_text.specs.Inner.Giving.{CompileIn};
+ghost use Rattle.compile_text.specs.Text.{TextGives};
 use crate::answers::not_compiled;
 use crate::answers::number_line;
 use crate::answers::task_lines;

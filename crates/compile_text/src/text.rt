@@ -1,6 +1,7 @@
 // The text of an input.
 ghost use Rattle.compile_text.specs.Text.{text-of};
-ghost use Rattle.compile_text.specs.Giving.{Own, TextGives};
+ghost use Rattle.compile_text.specs.Inner.Giving.{Own};
+ghost use Rattle.compile_text.specs.Text.{TextGives};
 use crate::answers::number_line;
 use crate::compiling::compile_text;
 use task_file::ReadAnswer;

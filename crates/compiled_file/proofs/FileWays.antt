@@ -12,14 +12,14 @@ use Rattle.task.specs.Check.{refusal}
 use Rattle.file_format.specs.Bytes.{file-of}
 use Rattle.task_writer.specs.declared.WriteAnswer.{WriteAnswer}
 use Rattle.task_writer.specs.declared.WriteAnswer.the-variants.{Written, NotWritten}
-use Rattle.task_writer.specs.Putting.{Put}
+use Rattle.task_writer.specs.Inner.Putting.{Put}
 use Rattle.task_writer.specs.Writing.{WriteOutcome, wrote, file-outcome, write-outcome}
 use Rattle.task.specs.Words.{padded}
 use Rattle.layouts.specs.Layout.{low-bytes}
 use Rattle.layouts.proofs.LayWays.{put-padded, size}
 use Rattle.layouts.proofs.RunWays.{low-next}
 use Rattle.compiled_file.specs.Filed.{CompileEntry, no-file, filed-by, filed}
-use Rattle.compiled_file.specs.Giving.{CompileGives}
+use Rattle.compiled_file.specs.Filed.{CompileGives}
 
 and-false : (a : Bool) → a && false ≡ false
 and-false true = refl

@@ -11,6 +11,7 @@ use Rattle.normal_form.specs.Finished.{finished}
 use Rattle.task.specs.Words.{padded}
 use Rattle.entry_tables.specs.Own.{compile-number}
 use Rattle.layouts.specs.Layout.{low-bytes, zeros}
+use mathlib.Core.Path.{_≡_}
 
 pub record CompileEntry : Type 0 where
   pub number : ℕ
@@ -38,3 +39,8 @@ compiled-file-by (suc k) t o r = no-file (suc k) o r
 -- of a source: 13, 15, then 20
 unfoldable pub compiled-file : Task → (out result : ℕ) → CompileEntry
 compiled-file t o r = compiled-file-by (compile-number t) (finished t) o r
+
+pub record CompileGives (w : CompileEntry) (r : ℕ) (out result : List ℕ) : Type 0 where
+  pub told : r ≡ w .number
+  pub written : out ≡ w .out
+  pub held : result ≡ w .result

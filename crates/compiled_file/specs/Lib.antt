@@ -1,2 +1,2 @@
 pub mod Filed
-pub mod Giving
+pub mod Inner

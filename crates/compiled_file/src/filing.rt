@@ -5,7 +5,7 @@ ghost use Rattle.task.specs.Table.{lent, task-of};
 ghost use Rattle.task.specs.Check.{refusal};
 ghost use Rattle.file_format.specs.Bytes.{file-of};
 ghost use Rattle.compiled_file.specs.Filed.{no-file, filed};
-ghost use Rattle.compiled_file.specs.Giving.{CompileGives};
+ghost use Rattle.compiled_file.specs.Filed.{CompileGives};
 use task::Head;
 use task::clear::clear_bytes;
 use task_writer::WriteAnswer;

@@ -19,10 +19,11 @@ use Rattle.normal_form.proofs.ShapeAssembled.{assemble-effects}
 use Rattle.normal_form.proofs.ShapeFinished.{finished-operators}
 use Rattle.normal_form.proofs.ShapePassed.{finished-variables}
 use Rattle.lent_tables.specs.declared.Passes.{Passes}
-use Rattle.lent_tables.specs.Fills.{Tables, room-of, head-after, Blanked, Fills}
+use Rattle.lent_tables.specs.Inner.Fills.{head-after, Blanked, Fills}
+use Rattle.lent_tables.specs.Tables.{Tables, room-of}
 use Rattle.lent_tables.proofs.Source.{its-variables}
 use Rattle.lent_tables.proofs.AsLong.{same-room}
-use Rattle.sizing.specs.Asks.{Passed}
+use Rattle.sizing.specs.Inner.Asks.{Passed}
 use Rattle.compiler.specs.declared.CompileAnswer.the-variants.{Compiled, Refused}
 use Rattle.compiler.specs.Left.{compile-left}
 

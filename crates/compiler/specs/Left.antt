@@ -1,8 +1,8 @@
--- What compiling leaves, as one value.
+-- What compiling leaves, as one value; and, passed on, the six tables that it is lent.
 use Rattle.normal_form.specs.Compiled.{Answer, compiled-head, not-compiled, CompileOutcome}
 use Rattle.compiler.specs.declared.CompileAnswer.{CompileAnswer}
 use Rattle.compiler.specs.declared.CompileAnswer.the-variants.{Compiled, Refused}
-use Rattle.compiler.specs.Fills.{Tables}
+pub use Rattle.lent_tables.specs.Tables.{Tables, tables, room-of}
 
 abbrev pub answer-of : CompileAnswer → Answer
 answer-of (Compiled h) = compiled-head h

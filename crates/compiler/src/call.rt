@@ -7,7 +7,7 @@ use task::check::check;
 ghost use mathlib.Core.Path.{_≡_};
 ghost use Rattle.task.specs.Table.{lent};
 ghost use Rattle.normal_form.specs.Compiled.{compiling};
-ghost use Rattle.compiler.specs.Fills.{tables, room-of};
+ghost use Rattle.compiler.specs.Left.{tables, room-of};
 ghost use Rattle.compiler.specs.Left.{compile-left};
 
 // The tables' own number, 13 for twins, 14 for short scratch, 15 for no room; or the compiled task, in values, originals, table (formulas),

@@ -8,9 +8,9 @@ use task::clear::clear_words;
 ghost use mathlib.Core.Path.{_≡_};
 ghost use Rattle.task.specs.Table.{lent};
 ghost use Rattle.normal_form.specs.Compiled.{compiling};
-ghost use Rattle.compiler.specs.Fills.{tables, room-of};
+ghost use Rattle.compiler.specs.Left.{tables, room-of};
 ghost use Rattle.compiler.specs.Left.{compile-left};
-ghost use Rattle.sizing.specs.Asks.{Passed};
+ghost use Rattle.sizing.specs.Inner.Asks.{Passed};
 
 // 15, with all 0, if the finished task passes a limit or a lent table. Costs what filling does, and a walk over what is lent.
 pub fn compile_checked(

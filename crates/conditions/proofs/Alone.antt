@@ -16,12 +16,12 @@ use Rattle.normal_form.specs.Builder.{Build, give, bind, join, pair, Polarity, 
 use Rattle.normal_form.specs.Conditions.{guarded}
 use Rattle.formula_builder.specs.declared.Words.{Words}
 use Rattle.formula_builder.specs.declared.Frame.{Frame}
-use Rattle.formula_builder.specs.Held.{side, row-of}
+use Rattle.formula_builder.specs.Inner.Held.{side, row-of}
 use Rattle.formula_builder.proofs.Steps.{join-left-true}
-use Rattle.images.specs.Images.{tree}
-use Rattle.atom_sets.specs.Sets.{lacks, Sets}
+use Rattle.images.specs.Inner.Images.{tree}
+use Rattle.atom_sets.specs.Inner.Sets.{lacks, Sets}
 use Rattle.conditions.specs.declared.Target.{Target}
-use Rattle.conditions.specs.Conditions.{atom-of, acts, effect-rows, EffectSource, Unnamed, AtomSets}
+use Rattle.conditions.specs.Inner.Conditions.{atom-of, acts, effect-rows, EffectSource, Unnamed, AtomSets}
 use Rattle.conditions.proofs.Atoms.{touch-other, other-atom}
 use Rattle.conditions.proofs.Rows.{both-lower, under-lower, known-kind, of-atom, of-both, of-under}
 

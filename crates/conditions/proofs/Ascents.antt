@@ -8,12 +8,12 @@ use lib.ListN.{length}
 use Rattle.formula_builder.specs.declared.Frame.{Frame}
 use Rattle.formula_builder.specs.declared.Size.{Size}
 use Rattle.formula_builder.specs.declared.Step.{Step}
-use Rattle.formula_builder.specs.Held.{Store, size-of, stepped}
+use Rattle.formula_builder.specs.Inner.Held.{Store, size-of, stepped}
 use Rattle.images.proofs.Memos.{done-known}
 use Rattle.conditions.specs.declared.Target.{Target}
 use Rattle.conditions.specs.declared.Bottom.{Bottom}
-use Rattle.conditions.specs.Conditions.{condition-at, path-at, PathStays, Asks, Conditions}
-use Rattle.conditions.specs.Paths.{onward, Leads, entry-row, entry-pass, AsksSeen, Sees, Descent, AsksDescent, Descended, AsksBelow, AsksOnward, Climbs, Rising}
+use Rattle.conditions.specs.Inner.Conditions.{condition-at, path-at, PathStays, Asks, Conditions}
+use Rattle.conditions.specs.Inner.Paths.{onward, Leads, entry-row, entry-pass, AsksSeen, Sees, Descent, AsksDescent, Descended, AsksBelow, AsksOnward, Climbs, Rising}
 use Rattle.conditions.proofs.Notes.{steady-condition-at, looks, stays-refl, stays-trans, stays-fewer}
 use Rattle.conditions.proofs.Memos.{conditions-as, asks-next, conditions-bind, conditions-stop, known-small, conditions-stands}
 use Rattle.conditions.proofs.Cases.{steady-onward}

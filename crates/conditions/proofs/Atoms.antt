@@ -6,7 +6,7 @@ use mathlib.Core.Bool.{Bool, true, false}
 use lib.Dec.{eqb}
 use borrow.Author.Tests.{eq-eqb, ne-eqb}
 use Rattle.task.specs.Table.{EffectKind, empty-kind, set-kind, clear-kind, both-kind, under-kind, unknown-effect, effect-kind}
-use Rattle.conditions.specs.Conditions.{atom-by, acts}
+use Rattle.conditions.specs.Inner.Conditions.{atom-by, acts}
 
 pub touch-other : (clear : Bool) (v a : ℕ) (k : EffectKind) → (a ≡ v → ⊥) → false ≡ acts (atom-by clear v) k a
 unfolding acts

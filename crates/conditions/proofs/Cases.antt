@@ -19,14 +19,14 @@ use Rattle.formula_builder.specs.declared.Words.{Words}
 use Rattle.formula_builder.specs.declared.Frame.{Frame}
 use Rattle.formula_builder.specs.declared.Size.{Size}
 use Rattle.formula_builder.specs.declared.Step.{Step}
-use Rattle.formula_builder.specs.Held.{Store, row-of, held, size-of, side}
+use Rattle.formula_builder.specs.Inner.Held.{Store, row-of, held, size-of, side}
 use Rattle.formula_builder.proofs.Steps.{builds-done, falsity-small}
-use Rattle.images.specs.Images.{tree, image-at, Known, Images, Asks as AsksImage}
+use Rattle.images.specs.Inner.Images.{tree, image-at, Known, Images, Asks as AsksImage}
 use Rattle.images.proofs.Memos.{steady-image-at, known-grows, done-grows, done-known}
 use Rattle.conditions.specs.declared.Target.{Target}
-use Rattle.conditions.specs.Conditions.{atom-of, acts, condition-at, Looks, AsksKept, Recalls, Keeps, Asks, Conditions}
-use Rattle.conditions.specs.Joins.{AsksJoin, Joined}
-use Rattle.conditions.specs.Paths.{right-of, onward, Sees, AsksRight, AsksUnder, AsksOnward, Climbs}
+use Rattle.conditions.specs.Inner.Conditions.{atom-of, acts, condition-at, Looks, AsksKept, Recalls, Keeps, Asks, Conditions}
+use Rattle.conditions.specs.Inner.Joins.{AsksJoin, Joined}
+use Rattle.conditions.specs.Inner.Paths.{right-of, onward, Sees, AsksRight, AsksUnder, AsksOnward, Climbs}
 use Rattle.conditions.proofs.Rows.{both-lower, under-lower, under-else, of-atom}
 use Rattle.conditions.proofs.Notes.{steady-condition-at, looks, stays-refl, stays-trans, stays-fewer}
 use Rattle.conditions.proofs.Memos.{conditions-as, conditions-of-images, conditions-leaf, conditions-bind, conditions-stop, conditions-known, conditions-kept}

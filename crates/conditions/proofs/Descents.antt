@@ -13,12 +13,12 @@ use Rattle.task.specs.Table.{Row, row-at}
 use Rattle.normal_form.specs.Builder.{St, give, image-of-false}
 use Rattle.formula_builder.specs.declared.Words.{Words}
 use Rattle.formula_builder.specs.declared.Frame.{Frame}
-use Rattle.formula_builder.specs.Held.{row-of, side}
-use Rattle.atom_sets.specs.Sets.{sets-end, lacks, InSet}
+use Rattle.formula_builder.specs.Inner.Held.{row-of, side}
+use Rattle.atom_sets.specs.Inner.Sets.{sets-end, lacks, InSet}
 use Rattle.atom_sets.proofs.Places.{sets-behind}
 use Rattle.conditions.specs.declared.Target.{Target}
-use Rattle.conditions.specs.Conditions.{condition-at, AtomSets, Noted, path-at}
-use Rattle.conditions.specs.Paths.{Leads, entry-row, entry-pass, AsksSeen, Sees, Follows, AsksTurn, AsksDescent, Descending, Descended}
+use Rattle.conditions.specs.Inner.Conditions.{condition-at, AtomSets, Noted, path-at}
+use Rattle.conditions.specs.Inner.Paths.{Leads, entry-row, entry-pass, AsksSeen, Sees, Follows, AsksTurn, AsksDescent, Descending, Descended}
 use Rattle.conditions.proofs.Rows.{both-lower, known-kind, leads-under, leads-both, leads-right, leads-left}
 use Rattle.conditions.proofs.Notes.{sets-stay, columns-stay, kept-stay, joins-stay, stays-refl}
 

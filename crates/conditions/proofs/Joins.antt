@@ -17,14 +17,14 @@ use Rattle.normal_form.proofs.Growth.{steady-join}
 use Rattle.formula_builder.specs.declared.Frame.{Frame}
 use Rattle.formula_builder.specs.declared.Size.{Size}
 use Rattle.formula_builder.specs.declared.Step.{Step}
-use Rattle.formula_builder.specs.Held.{Store, store, held, size-of, sized, stepped, side, JoinReady, Ready, Builds}
+use Rattle.formula_builder.specs.Inner.Held.{Store, store, held, size-of, sized, stepped, side, JoinReady, Ready, Builds}
 use Rattle.formula_builder.proofs.Steps.{builds-done}
-use Rattle.images.specs.Images.{Known, Memo}
+use Rattle.images.specs.Inner.Images.{Known, Memo}
 use Rattle.images.proofs.Memos.{memo-grows, done-grows, done-known}
 use Rattle.atom_sets.proofs.Places.{sets-behind}
 use Rattle.conditions.specs.declared.Target.{Target}
-use Rattle.conditions.specs.Conditions.{EffectMemo, join-place, join-of, Joins, Noted, Looks, path-at, PathStays, Conditions}
-use Rattle.conditions.specs.Joins.{Rejoins, KeepsJoin, AsksJoin, JoinsAs, Joined}
+use Rattle.conditions.specs.Inner.Conditions.{EffectMemo, join-place, join-of, Joins, Noted, Looks, path-at, PathStays, Conditions}
+use Rattle.conditions.specs.Inner.Joins.{Rejoins, KeepsJoin, AsksJoin, JoinsAs, Joined}
 use Rattle.conditions.proofs.Notes.{noted-grows, small-row, sets-stay, columns-stay, kept-stay, stays-refl}
 use Rattle.conditions.proofs.Memos.{effect-memo-grows}
 

@@ -18,12 +18,12 @@ use Rattle.normal_form.specs.Growth.{Grows, Steady}
 use Rattle.formula_builder.specs.declared.Frame.{Frame}
 use Rattle.formula_builder.specs.declared.Size.{Size}
 use Rattle.formula_builder.specs.declared.Step.{Step}
-use Rattle.formula_builder.specs.Held.{Store, held, size-of, stepped, done-step, Ready, Builds}
+use Rattle.formula_builder.specs.Inner.Held.{Store, held, size-of, stepped, done-step, Ready, Builds}
 use Rattle.formula_builder.proofs.Steps.{builds-done, builds-as, builds-bind, builds-stop}
-use Rattle.images.specs.Images.{Known, Memo, memo-place, Images}
+use Rattle.images.specs.Inner.Images.{Known, Memo, memo-place, Images}
 use Rattle.images.proofs.Memos.{known-grows, memo-grows, done-grows, place-within}
 use Rattle.conditions.specs.declared.Target.{Target}
-use Rattle.conditions.specs.Conditions.{condition-at, tag, effect-place, tag-place, EffectMemo, Noted, Recalls, Keeps, Asks, Conditions}
+use Rattle.conditions.specs.Inner.Conditions.{condition-at, tag, effect-place, tag-place, EffectMemo, Noted, Recalls, Keeps, Asks, Conditions}
 use Rattle.conditions.proofs.Notes.{steady-condition-at, noted-grows, byte-is, atoms, same-condition, stays-refl}
 
 -- the memo stays right while the state grows and its words stay

@@ -19,13 +19,13 @@ use Rattle.normal_form.proofs.Steady.{steady-condition}
 use Rattle.formula_builder.specs.declared.Frame.{Frame}
 use Rattle.formula_builder.specs.declared.Size.{Size}
 use Rattle.formula_builder.specs.declared.Step.{Step}
-use Rattle.formula_builder.specs.Held.{Store, side, Builds}
-use Rattle.images.specs.Images.{Known}
+use Rattle.formula_builder.specs.Inner.Held.{Store, side, Builds}
+use Rattle.images.specs.Inner.Images.{Known}
 use Rattle.images.proofs.Memos.{known-grows}
-use Rattle.atom_sets.specs.Sets.{sets-end}
+use Rattle.atom_sets.specs.Inner.Sets.{sets-end}
 use Rattle.atom_sets.proofs.Places.{sets-behind, lacks-same}
 use Rattle.conditions.specs.declared.Target.{Target}
-use Rattle.conditions.specs.Conditions.{atom-of, effect-tree, condition-at, AtomSets, column, part, width, kept-place, Columns, Kept, join-place, Joins, Noted, Looks, KeptAt, Recalls, path-at, PathStays, Keeps, Asks}
+use Rattle.conditions.specs.Inner.Conditions.{atom-of, effect-tree, condition-at, AtomSets, column, part, width, kept-place, Columns, Kept, join-place, Joins, Noted, Looks, KeptAt, Recalls, path-at, PathStays, Keeps, Asks}
 
 pub steady-condition-at :
     (frame : Frame) (formulas effects : List ℕ) (t : Target) (e : ℕ) → Steady (condition-at frame formulas effects t e)

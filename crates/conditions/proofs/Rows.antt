@@ -12,16 +12,17 @@ use Rattle.task.specs.Rules.{no-row, EffectRule}
 use Rattle.task.specs.Semantics.{Formula, Atom, Effect}
 use Rattle.task.specs.Tree.{effect-node}
 use Rattle.task.proofs.Bounded.{length-upto, getD-upto}
-use Rattle.task.proofs.Trees.{EffectKept, effect-unfolds}
+use Rattle.task.proofs.Trees.{effect-unfolds}
+use Rattle.task.specs.Inner.Rows.{EffectKept}
 use Rattle.normal_form.specs.Builder.{Build, give, bind, join, pair, Polarity, plain, negated, opposite, image-of-false, image-of-true}
 use Rattle.normal_form.specs.Conditions.{guarded, condition}
 use Rattle.formula_builder.specs.declared.Frame.{Frame}
-use Rattle.formula_builder.specs.Held.{side}
+use Rattle.formula_builder.specs.Inner.Held.{side}
 use Rattle.formula_builder.proofs.Steps.{join-left-false, join-right-false, join-left-true, join-right-true}
-use Rattle.images.specs.Images.{source-rows, tree}
+use Rattle.images.specs.Inner.Images.{source-rows, tree}
 use Rattle.conditions.specs.declared.Target.{Target}
-use Rattle.conditions.specs.Conditions.{atom-of, acts, effect-rows, effect-tree, condition-at, EffectSource}
-use Rattle.conditions.specs.Paths.{right-of, onward, Leads}
+use Rattle.conditions.specs.Inner.Conditions.{atom-of, acts, effect-rows, effect-tree, condition-at, EffectSource}
+use Rattle.conditions.specs.Inner.Paths.{right-of, onward, Leads}
 
 -- The condition of a row by its kind, over the formula f and the effects d and g that its words name.
 module _ (n : ℕ) (p : Polarity) (l : Atom) (a : ℕ) (f : Formula) (d g : Effect) where

@@ -1,3 +1,1 @@
-pub mod Conditions
-pub mod Joins
-pub mod Paths
+pub mod Inner

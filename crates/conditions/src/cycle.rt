@@ -9,9 +9,9 @@ use crate::under::under;
 use formula_builder::EFFECTS;
 use formula_builder::read_row;
 ghost use mathlib.Core.Bool.{false};
-ghost use Rattle.formula_builder.specs.Held.{store, sized, stepped, framed};
-ghost use Rattle.conditions.specs.Conditions.{Asks, Conditions, condition-at};
-ghost use Rattle.conditions.specs.Paths.{right-of, onward, AsksBelow, AsksRight, AsksOnward, Climbs};
+ghost use Rattle.formula_builder.specs.Inner.Held.{store, sized, stepped, framed};
+ghost use Rattle.conditions.specs.Inner.Conditions.{Asks, Conditions, condition-at};
+ghost use Rattle.conditions.specs.Inner.Paths.{right-of, onward, AsksBelow, AsksRight, AsksOnward, Climbs};
 
 // The condition of effect e: rows are visited only where the atom stands below them, and not below one whose condition is kept.
 pub fn condition(

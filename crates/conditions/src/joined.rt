@@ -9,9 +9,9 @@ ghost use mathlib.Core.Bool.{false};
 ghost use mathlib.Core.List.{List};
 ghost use Prim.Native.Nat.{ℕ, _<_};
 ghost use lib.Dec.{eqb};
-ghost use Rattle.formula_builder.specs.Held.{store, sized, stepped, framed};
-ghost use Rattle.conditions.specs.Conditions.{Looks};
-ghost use Rattle.conditions.specs.Joins.{Rejoins, KeepsJoin, AsksJoin, Joined};
+ghost use Rattle.formula_builder.specs.Inner.Held.{store, sized, stepped, framed};
+ghost use Rattle.conditions.specs.Inner.Conditions.{Looks};
+ghost use Rattle.conditions.specs.Inner.Joins.{Rejoins, KeepsJoin, AsksJoin, Joined};
 
 // What is kept of the join of rows l and r for row e: its row plus 1, or 0.
 fn last_join(notes: &[u16], frame: &[usize; 5], t: Target, e: usize, l: u16, r: u16) -> u16

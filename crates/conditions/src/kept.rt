@@ -8,8 +8,8 @@ use formula_builder::VARIABLES;
 use formula_builder::frame_of;
 ghost use mathlib.Core.Path.{_≡_};
 ghost use Prim.Native.Nat.{_≤_, _<_};
-ghost use Rattle.formula_builder.specs.Held.{framed};
-ghost use Rattle.conditions.specs.Conditions.{part, width, tag, Looks, KeptAt, AsksKept, Recalls, Keeps};
+ghost use Rattle.formula_builder.specs.Inner.Held.{framed};
+ghost use Rattle.conditions.specs.Inner.Conditions.{part, width, tag, Looks, KeptAt, AsksKept, Recalls, Keeps};
 
 // Which of its variable's words in a column is a target's: set, clear, or the dual of set; the dual of clear has none.
 fn part_of(t: Target) -> usize

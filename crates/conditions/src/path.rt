@@ -10,8 +10,8 @@ use formula_builder::frame_of;
 use formula_builder::read_row;
 ghost use mathlib.Core.Path.{_≡_};
 ghost use Prim.Native.Nat.{_<_};
-ghost use Rattle.formula_builder.specs.Held.{framed};
-ghost use Rattle.conditions.specs.Paths.{entry-row, entry-pass, Leads, AsksTurn, AsksDescent, Descended};
+ghost use Rattle.formula_builder.specs.Inner.Held.{framed};
+ghost use Rattle.conditions.specs.Inner.Paths.{entry-row, entry-pass, Leads, AsksTurn, AsksDescent, Descended};
 
 // Where the way from row e goes on: to the row under a formula, or to the left one of both. Row e is passed if it is both, and the other of its
 // two effects lacks the atom: then the way goes to the one that may have it. The row and whether e is passed are told apart, since the walk

@@ -9,8 +9,8 @@ ghost use mathlib.Core.List.{List};
 ghost use Prim.Native.Nat.{ℕ, _+_, _*_, _≤_};
 ghost use lib.ListN.{length};
 ghost use Rattle.formula_builder.specs.declared.Frame.{Frame};
-ghost use Rattle.formula_builder.specs.Held.{framed};
-ghost use Rattle.conditions.specs.Paths.{AsksSeen, Sees};
+ghost use Rattle.formula_builder.specs.Inner.Held.{framed};
+ghost use Rattle.conditions.specs.Inner.Paths.{AsksSeen, Sees};
 
 // The row of effect e's condition plus 1, if e is no more than an atom; else 0.
 pub fn constant(effects: &[u16], t: Target, e: usize) -> u16

@@ -3,7 +3,7 @@ use crate::Target;
 use formula_builder::Words;
 ghost use mathlib.Core.Path.{_≡_};
 ghost use Rattle.task.specs.Table.{effect-kind};
-ghost use Rattle.conditions.specs.Conditions.{acts, atom-of};
+ghost use Rattle.conditions.specs.Inner.Conditions.{acts, atom-of};
 
 // Whether an effect's row is the target's atom itself.
 pub fn touches(w: Words, t: Target) -> bool

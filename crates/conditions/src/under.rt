@@ -6,9 +6,9 @@ use formula_builder::read_row;
 use images::sided;
 ghost use Rattle.task.specs.Table.{row-at};
 ghost use Rattle.normal_form.specs.Conditions.{guarded};
-ghost use Rattle.formula_builder.specs.Held.{store, side, sized, stepped, framed};
-ghost use Rattle.images.specs.Images.{tree};
-ghost use Rattle.conditions.specs.Paths.{AsksUnder, Climbs};
+ghost use Rattle.formula_builder.specs.Inner.Held.{store, side, sized, stepped, framed};
+ghost use Rattle.images.specs.Inner.Images.{tree};
+ghost use Rattle.conditions.specs.Inner.Paths.{AsksUnder, Climbs};
 
 // Row e's formula over the condition s of the inner effect: built only if that did not fold away. Costs what the image does.
 pub fn under(

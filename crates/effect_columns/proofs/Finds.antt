@@ -7,10 +7,10 @@ use lib.ListN.{replicate, length-replicate}
 use Rattle.task.specs.Table.{row-at}
 use Rattle.formula_builder.specs.declared.Words.{Words}
 use Rattle.formula_builder.specs.declared.Frame.{Frame}
-use Rattle.formula_builder.specs.Held.{row-of}
-use Rattle.conditions.specs.Conditions.{EffectSource}
+use Rattle.formula_builder.specs.Inner.Held.{row-of}
+use Rattle.conditions.specs.Inner.Conditions.{EffectSource}
 use Rattle.conditions.proofs.Alone.{both-within, under-within}
-use Rattle.effect_columns.specs.Columns.{Rows}
+use Rattle.effect_columns.specs.Inner.Columns.{Rows}
 
 -- the memo's words do not matter here
 memo : Frame → List ℕ

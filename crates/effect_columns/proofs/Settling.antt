@@ -9,11 +9,11 @@ use lib.Seq.{getD-set-same, getD-set-other}
 use Rattle.task.specs.Table.{Row, row-at}
 use Rattle.formula_builder.specs.declared.Words.{Words}
 use Rattle.formula_builder.specs.declared.Frame.{Frame}
-use Rattle.formula_builder.specs.Held.{row-of}
-use Rattle.atom_sets.specs.Sets.{sets-end}
-use Rattle.conditions.specs.Conditions.{column, Columns, AtomSets}
+use Rattle.formula_builder.specs.Inner.Held.{row-of}
+use Rattle.atom_sets.specs.Inner.Sets.{sets-end}
+use Rattle.conditions.specs.Inner.Conditions.{column, Columns, AtomSets}
 use Rattle.conditions.proofs.Notes.{sets-stay}
-use Rattle.effect_columns.specs.Columns.{Elsewhere, Meets, HandsOn, FindsRoots, FindsColumns, Settles, Settled, Thins, FoundColumns}
+use Rattle.effect_columns.specs.Inner.Columns.{Elsewhere, Meets, HandsOn, FindsRoots, FindsColumns, Settles, Settled, Thins, FoundColumns}
 use Rattle.effect_columns.proofs.Finds.{both-lower, under-lower}
 
 -- Nothing is written, a word is written, one pass after another.

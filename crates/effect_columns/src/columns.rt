@@ -11,7 +11,7 @@ use formula_builder::Frame;
 use formula_builder::Words;
 use formula_builder::read_row;
 ghost use Prim.Native.Nat.{_+_, _≤_};
-ghost use Rattle.effect_columns.specs.Columns.{Elsewhere, Meets, HandsOn, Settles, Settled, Renumbers, Thins, FindsRoots, FindsColumns, FoundColumns};
+ghost use Rattle.effect_columns.specs.Inner.Columns.{Elsewhere, Meets, HandsOn, Settles, Settled, Renumbers, Thins, FindsRoots, FindsColumns, FoundColumns};
 
 // The word of a row, which was old, in the passes of thin.rt, once a row names it that is worth a column or below one that is.
 fn shared(old: u16) -> u16 {

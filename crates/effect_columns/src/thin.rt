@@ -5,7 +5,7 @@ use formula_builder::Frame;
 use formula_builder::Words;
 use formula_builder::read_row;
 ghost use Prim.Native.Nat.{_+_, _≤_};
-ghost use Rattle.effect_columns.specs.Columns.{Elsewhere, Meets, HandsOn, Settles, Thins};
+ghost use Rattle.effect_columns.specs.Inner.Columns.{Elsewhere, Meets, HandsOn, Settles, Thins};
 
 // Whether a row with the word w has a column.
 pub fn is_column(w: u16) -> bool {

@@ -1,11 +1,11 @@
 // The entries for a planner written in C: reading, compiling and running through numbers and byte slices.
 ghost use lib.ListN.{length};
-ghost use Rattle.layouts.specs.Giving.{Lays};
+ghost use Rattle.layouts.specs.Layout.{Lays};
 ghost use Rattle.read_entry.specs.Entry.{read-entry};
-ghost use Rattle.compiled_file.specs.Giving.{CompileGives};
+ghost use Rattle.compiled_file.specs.Filed.{CompileGives};
 ghost use Rattle.compile_entry.specs.Entry.{compile-entry};
 ghost use Rattle.run_entry.specs.Entry.{run-entry};
-ghost use Rattle.run_entry.specs.Giving.{RunEntryGives};
+ghost use Rattle.run_entry.specs.Entry.{RunEntryGives};
 
 // Reads a task file: 0 and its tables, or the number and all 0. One pass over the file and one over its tables.
 #[no_mangle]

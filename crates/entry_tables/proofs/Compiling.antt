@@ -16,7 +16,7 @@ use Rattle.task.specs.Check.{room as has-room}
 use Rattle.normal_form.specs.Finished.{finished}
 use Rattle.normal_form.specs.Compiled.{Room, compile-scratch-kept, output-lengths, fits, compile-refusal, compiled-head, not-compiled, nothing-given, task-given, outcome-by, compiling}
 use Rattle.entry_tables.specs.Own.{own, own-room, compile-number}
-use Rattle.entry_tables.specs.Answers.{refused-compile}
+use Rattle.entry_tables.specs.Inner.Answers.{refused-compile}
 use Rattle.entry_tables.proofs.Reading.{limits-room}
 
 -- a task fits one's own room if it keeps the limits

@@ -1,6 +1,6 @@
 // The number in an answer.
 ghost use mathlib.Core.Path.{_≡_};
-ghost use Rattle.entry_tables.specs.Answers.{refused-number};
+ghost use Rattle.entry_tables.specs.Inner.Answers.{refused-number};
 use task_file::ReadAnswer;
 
 // A refusal's number, 0 without one. Constant time.

@@ -14,9 +14,11 @@ use Rattle.task.specs.Rules.{no-row, FormulaRule}
 use Rattle.task.specs.Semantics.{holds}
 use Rattle.task.specs.Tree.{formula-of}
 use Rattle.task.proofs.Bounded.{length-upto, getD-upto}
-use Rattle.task.proofs.Trees.{FormulasDown, formula-grows}
-use Rattle.task.proofs.Values.{bit, told, bit-small, kind-value, row-value, Values, values-stored}
-use Rattle.evaluating.specs.Values.{joins, rows-of, RowReady, Valuable, Valued}
+use Rattle.task.proofs.Trees.{formula-grows}
+use Rattle.task.specs.Inner.Rows.{FormulasDown}
+use Rattle.task.proofs.Values.{bit-small, values-stored}
+use Rattle.task.specs.Inner.Values.{bit, told, kind-value, row-value, Values}
+use Rattle.evaluating.specs.Inner.Values.{joins, rows-of, RowReady, Valuable, Valued}
 
 -- a bit is 0 or 1
 by-bit : (P : Type 0) (x : ℕ) → x ≤ 1 → (x ≡ 0 → P) → (x ≡ 1 → P) → P

@@ -5,8 +5,8 @@ ghost use lib.Dec.{eqb};
 ghost use Rattle.task.specs.Semantics.{holds};
 ghost use Rattle.task.specs.Table.{row-at, formula-kind};
 ghost use Rattle.task.specs.Tree.{formula-of};
-ghost use Rattle.task.proofs.Values.{bit, row-value};
-ghost use Rattle.evaluating.specs.Values.{joins, rows-of, RowReady, Valuable, Valued};
+ghost use Rattle.task.specs.Inner.Values.{bit, row-value};
+ghost use Rattle.evaluating.specs.Inner.Values.{joins, rows-of, RowReady, Valuable, Valued};
 
 // "and", "or", "implies", "equivalent" of two bits. Constant time.
 fn joined(kind: u16, x: u8, y: u8) -> u8

@@ -8,29 +8,31 @@ use lib.ListN.{length}
 use Rattle.task.specs.Table.{Lent, Task, task-of, row-at}
 use Rattle.task.specs.Check.{refusal}
 use Rattle.task.proofs.Held.{length-formulas, length-operators}
-use Rattle.task.proofs.Trees.{EffectsDown, rules-formulas, rules-effects}
+use Rattle.task.proofs.Trees.{rules-formulas, rules-effects}
+use Rattle.task.specs.Inner.Rows.{EffectsDown}
 use Rattle.formula_builder.specs.declared.Frame.{Frame}
-use Rattle.formula_builder.specs.Held.{store}
-use Rattle.atom_sets.specs.Finds.{FindsSets, FoundSets}
+use Rattle.formula_builder.specs.Inner.Held.{store}
+use Rattle.atom_sets.specs.Inner.Finds.{FindsSets, FoundSets}
 use Rattle.atom_sets.proofs.Places.{sets-behind}
-use Rattle.conditions.specs.Conditions.{effect-rows, EffectSource}
+use Rattle.conditions.specs.Inner.Conditions.{effect-rows, EffectSource}
 use Rattle.conditions.proofs.Rows.{both-lower, under-lower, known-kind}
 use Rattle.conditions.proofs.Alone.{atom-within, sets-right}
 use Rattle.conditions.proofs.Notes.{noted-blank}
-use Rattle.effect_columns.specs.Columns.{FindsColumns, FoundColumns}
+use Rattle.effect_columns.specs.Inner.Columns.{FindsColumns, FoundColumns}
 use Rattle.effect_columns.proofs.Settling.{sets-kept}
-use Rattle.changes.specs.Stands.{Leaves}
+use Rattle.changes.specs.Inner.Stands.{Leaves}
 use Rattle.building.specs.declared.Progress.{Progress}
-use Rattle.building.specs.Taken.{size-at, Begun, Blank, Taken, Takes}
+use Rattle.building.specs.Inner.Taken.{size-at, Begun, Blank, Taken, Takes}
 use Rattle.building.proofs.Begun.{taken-none}
 use Rattle.lent_tables.specs.declared.Passes.{Passes}
-use Rattle.lent_tables.specs.Fills.{Tables, Fills}
+use Rattle.lent_tables.specs.Inner.Fills.{Fills}
+use Rattle.lent_tables.specs.Tables.{Tables}
 use Rattle.lent_tables.proofs.Source.{long, source, its-variables, few-variables, few-effects}
 use Rattle.lent_tables.proofs.AsLong.{filled-as}
-use Rattle.finishing.specs.Ends.{frame-of, Ends}
+use Rattle.finishing.specs.Inner.Ends.{frame-of, Ends}
 use Rattle.finishing.proofs.Blank.{zeros}
 use Rattle.finishing.proofs.Linked.{its-formulas, its-effects, precondition-below, effect-below}
-use Rattle.filling.specs.Begins.{Begins, Owns, Starts}
+use Rattle.filling.specs.Inner.Begins.{Begins, Owns, Starts}
 
 -- With all tables 0.
 module _ {l : Lent} {rows twins effects : ℕ} {x : Tables} (b : Begins l rows twins effects x) where

@@ -6,8 +6,9 @@ use formula_builder::Frame;
 use lent_tables::Passes;
 use task::Head;
 ghost use Rattle.task.specs.Table.{lent};
-ghost use Rattle.lent_tables.specs.Fills.{tables, Fills};
-ghost use Rattle.filling.specs.Begins.{Owns};
+ghost use Rattle.lent_tables.specs.Inner.Fills.{Fills};
+ghost use Rattle.lent_tables.specs.Tables.{tables};
+ghost use Rattle.filling.specs.Inner.Begins.{Owns};
 
 // Finds sets of atoms and columns, then fills. What is left in notes, built and records is left open: they are the caller's own, and end with its
 // call. Costs two passes over the effects, one of them with two bits a variable, one over the operators, and what filling does.

@@ -6,8 +6,9 @@ use formula_builder::Frame;
 use lent_tables::Passes;
 use task::Head;
 ghost use Rattle.task.specs.Table.{lent};
-ghost use Rattle.lent_tables.specs.Fills.{tables, Fills};
-ghost use Rattle.filling.specs.Begins.{Starts};
+ghost use Rattle.lent_tables.specs.Inner.Fills.{Fills};
+ghost use Rattle.lent_tables.specs.Tables.{tables};
+ghost use Rattle.filling.specs.Inner.Begins.{Starts};
 
 // Begins, takes the operators in order, finishes. The tables have room for so many rows, twins and effect rows; rows are built in a table
 // of their own, which has their index. What is left in notes, built and records is left open: they are the caller's own. Costs what its

@@ -16,25 +16,27 @@ use Rattle.normal_form.specs.Finished.{built, assembled, twin-values, finished}
 use Rattle.normal_form.specs.Compiled.{Fits}
 use Rattle.task.specs.Words.{padded}
 use Rattle.normal_form.proofs.Growth.{grows-refl}
-use Rattle.normal_form.proofs.Over.{Allows, building-within}
+use Rattle.normal_form.proofs.Over.{building-within}
+use Rattle.normal_form.specs.Inner.Allowed.{Allows}
 use Rattle.normal_form.proofs.Compiled.{fits-if}
 use Rattle.normal_form.proofs.Padded.{padded-over, padded-front}
 use Rattle.normal_form.proofs.ShapePassed.{finished-fine, finished-variables}
 use Rattle.normal_form.proofs.ShapeFinished.{finished-operators}
 use Rattle.formula_builder.specs.declared.Frame.{Frame}
 use Rattle.formula_builder.specs.declared.Step.{Step}
-use Rattle.formula_builder.specs.Held.{Store, store, held, size-of, Ready, Within}
-use Rattle.images.specs.Images.{image-at, Asks, Images}
+use Rattle.formula_builder.specs.Inner.Held.{Store, store, held, size-of, Ready, Within}
+use Rattle.images.specs.Inner.Images.{image-at, Asks, Images}
 use Rattle.building.specs.declared.Progress.{Progress}
-use Rattle.building.specs.Taken.{size-at, AllKept, whole-built, Whole, FromStart}
+use Rattle.building.specs.Inner.Taken.{size-at, AllKept, whole-built, Whole, FromStart}
 use Rattle.building.proofs.Begun.{operators-full, goal-asks, goal-built as goal-reached}
 use Rattle.rule_writer.specs.declared.Chain.{Chain}
-use Rattle.rule_writer.specs.Writes.{InitialReady}
-use Rattle.assembling.specs.Assembles.{assembled-in, Holding, Assembles, Twinned, AssembledAll}
+use Rattle.rule_writer.specs.Inner.Writes.{InitialReady}
+use Rattle.assembling.specs.Inner.Assembles.{assembled-in, Holding, Assembles, Twinned, AssembledAll}
 use Rattle.lent_tables.specs.declared.Passes.{Passes}
-use Rattle.lent_tables.specs.Fills.{Tables, room-of, no-room, Fills}
+use Rattle.lent_tables.specs.Inner.Fills.{no-room, Fills}
+use Rattle.lent_tables.specs.Tables.{Tables, room-of}
 use Rattle.lent_tables.proofs.Source.{long, source, its-variables}
-use Rattle.finishing.specs.Ends.{frame-of, Lends, Ends}
+use Rattle.finishing.specs.Inner.Ends.{frame-of, Lends, Ends}
 use Rattle.finishing.proofs.Copied.{copied-rows}
 use Rattle.finishing.proofs.Recalled.{in-order}
 use Rattle.finishing.proofs.Linked.{state-built, goal-built, goal-below, assembled-is, few-changes}

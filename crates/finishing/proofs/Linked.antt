@@ -13,13 +13,13 @@ use Rattle.normal_form.specs.Builder.{start}
 use Rattle.normal_form.specs.Assembly.{Assembled, assemble, unassembled}
 use Rattle.normal_form.specs.Finished.{built, assembled, finished}
 use Rattle.formula_builder.specs.declared.Frame.{Frame}
-use Rattle.images.specs.Images.{source-rows}
-use Rattle.conditions.specs.Conditions.{effect-rows}
-use Rattle.building.specs.Taken.{many, AllKept, whole-built}
+use Rattle.images.specs.Inner.Images.{source-rows}
+use Rattle.conditions.specs.Inner.Conditions.{effect-rows}
+use Rattle.building.specs.Inner.Taken.{many, AllKept, whole-built}
 use Rattle.building.proofs.Parts.{made-here, same-state, same-value, same-operators-made}
-use Rattle.assembling.specs.Assembles.{assembled-in}
+use Rattle.assembling.specs.Inner.Assembles.{assembled-in}
 use Rattle.lent_tables.proofs.Source.{source, its-variables}
-use Rattle.finishing.specs.Ends.{frame-of}
+use Rattle.finishing.specs.Inner.Ends.{frame-of}
 use Rattle.finishing.proofs.Recalled.{recalled, made-more}
 
 module _ (l : Lent) (rows twins : ℕ) (passes : refusal l ≡ 0) where

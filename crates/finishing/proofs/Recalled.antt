@@ -14,12 +14,12 @@ use Rattle.normal_form.proofs.ShapeCounts.{assemble-split}
 use Rattle.normal_form.proofs.ShapeFinished.{no-changes}
 use Rattle.normal_form.proofs.ShapeRules.{All, none, also}
 use Rattle.formula_builder.specs.declared.Frame.{Frame}
-use Rattle.records.specs.Recorded.{acting, change-at, changes-from}
+use Rattle.records.specs.Inner.Recorded.{acting, change-at, changes-from}
 use Rattle.records.proofs.Acting.{acting-operator, operator-more}
-use Rattle.building.specs.Taken.{changes-here, many, Kept, AllKept}
+use Rattle.building.specs.Inner.Taken.{changes-here, many, Kept, AllKept}
 use Rattle.building.proofs.Kept.{many-suc, many-fewer, acting-below}
 use Rattle.building.proofs.Parts.{made-here}
-use Rattle.assembling.specs.Assembles.{changes-between, built-of, begins-at, built-in, assembled-in, InOrder}
+use Rattle.assembling.specs.Inner.Assembles.{changes-between, built-of, begins-at, built-in, assembled-in, InOrder}
 
 -- with the changes that bring rules alone
 abbrev acted : Built → Built

@@ -10,8 +10,9 @@ use rule_writer::write_initial;
 use task::Head;
 ghost use mathlib.Core.Path.{_≡_};
 ghost use Rattle.task.specs.Table.{lent};
-ghost use Rattle.lent_tables.specs.Fills.{tables, no-room, Fills};
-ghost use Rattle.finishing.specs.Ends.{Ends};
+ghost use Rattle.lent_tables.specs.Inner.Fills.{no-room, Fills};
+ghost use Rattle.lent_tables.specs.Tables.{tables};
+ghost use Rattle.finishing.specs.Inner.Ends.{Ends};
 
 // No room.
 fn full() -> Passes

@@ -14,7 +14,7 @@ use Rattle.task.specs.Rules.{no-row}
 use Rattle.normal_form.specs.Builder.{place, same-row, start}
 use Rattle.normal_form.proofs.Growth.{same-row-itself}
 use Rattle.normal_form.proofs.Place.{same-row-alike}
-use Rattle.formula_builder.specs.Index.{key-of, head-of, head-word, link-word, Leads, here, onward, Comes, Reached, Trees, Indexed, Searchable, Found, three, appended, Empty, FirstTwo}
+use Rattle.formula_builder.specs.Inner.Index.{key-of, head-of, head-word, link-word, Leads, here, onward, Comes, Reached, Trees, Indexed, Searchable, Found, three, appended, Empty, FirstTwo}
 use Rattle.formula_builder.proofs.Found.{row-found, row-none}
 use Rattle.formula_builder.proofs.Stored.{length-three, three-other, three-before, three-at, upto-same, upto-more}
 

@@ -17,7 +17,7 @@ use Rattle.normal_form.specs.Builder.{St, bind, place, including, same-row, row
 use Rattle.normal_form.proofs.Growth.{steady-variable-row, eqb-itself, place-within, prefix-refl}
 use Rattle.normal_form.proofs.Place.{Placed, found, added, placed, place-has, place-none, one-more as each-more, same-row-alike}
 use Rattle.formula_builder.specs.declared.Frame.{Frame}
-use Rattle.formula_builder.specs.Held.{store, held, sized, stepped, variable-of, twin-word, TwinsNamed, Ready, Done, Builds}
+use Rattle.formula_builder.specs.Inner.Held.{store, held, sized, stepped, variable-of, twin-word, TwinsNamed, Ready, Done, Builds}
 use Rattle.formula_builder.proofs.Found.{kept-found, kept-none}
 use Rattle.formula_builder.proofs.Stored.{one-more, one-past, upto-same}
 use Rattle.formula_builder.proofs.Indexing.{row-aside, aside-indexed}

@@ -15,8 +15,8 @@ use borrow.Author.Tests.{eqb-true, eqb-false, eq-eqb, ne-eqb}
 use Rattle.formula_builder.specs.declared.Frame.{Frame}
 use Rattle.formula_builder.specs.declared.Size.{Size}
 use Rattle.formula_builder.specs.declared.Step.{Step}
-use Rattle.formula_builder.specs.Index.{Searchable, Found, appended, Put, stood, no-room, behind, rows-after}
-use Rattle.formula_builder.specs.Held.{Store, store, held, size-of, sized, stepped, done-step, RowsReady, twin-word, Ready, Within, Done, Builds}
+use Rattle.formula_builder.specs.Inner.Index.{Searchable, Found, appended, Put, stood, no-room, behind, rows-after}
+use Rattle.formula_builder.specs.Inner.Held.{Store, store, held, size-of, sized, stepped, done-step, RowsReady, twin-word, Ready, Within, Done, Builds}
 use Rattle.formula_builder.proofs.Found.{kept-found, kept-none}
 use Rattle.formula_builder.proofs.Indexing.{searchable, length-appended, before, other, appended-rows, appended-indexed, stands-place, found-below, missing-place}
 

@@ -8,7 +8,7 @@ use lib.ListN.{length, getD, take, set, length-set}
 use lib.Seq.{getD-set-same, getD-set-other, take-suc-set}
 use Rattle.task.specs.Bounded.{upto}
 use Rattle.task.specs.Table.{Row, row-at}
-use Rattle.formula_builder.specs.Index.{three}
+use Rattle.formula_builder.specs.Inner.Index.{three}
 
 pub upto-same : {A : Type 0} (n : ℕ) (f g : ℕ → A) → ((k : ℕ) → k < n → f k ≡ g k) → upto n f ≡ upto n g
 unfolding upto

@@ -2,7 +2,7 @@
 // two recursions take these.
 use crate::Frame;
 ghost use mathlib.Core.Path.{_≡_};
-ghost use Rattle.formula_builder.specs.Held.{framed};
+ghost use Rattle.formula_builder.specs.Inner.Held.{framed};
 
 // The places of the five numbers.
 pub const VARIABLES: usize = 0;

@@ -2,8 +2,8 @@
 use crate::Words;
 ghost use mathlib.Core.Path.{_≡_};
 ghost use Prim.Native.Nat.{_+_, _*_, _≤_, _<_};
-ghost use Rattle.formula_builder.specs.Index.{key-of, head-of, link-word};
-ghost use Rattle.formula_builder.specs.Held.{row-of};
+ghost use Rattle.formula_builder.specs.Inner.Index.{key-of, head-of, link-word};
+ghost use Rattle.formula_builder.specs.Inner.Held.{row-of};
 
 // The key of a row. Kinds are below 8, rows and variables below 4,096: so a key has 27 bits, and rows that differ have keys that differ. Constant time.
 pub fn key(r: Words) -> usize

@@ -5,7 +5,7 @@ ghost use mathlib.Core.Path.{_≡_};
 ghost use Prim.Native.Nat.{ℕ};
 ghost use Rattle.normal_form.specs.Builder.{join as join-built, image-of-false as false-row, image-of-true as true-row, join-kind};
 ghost use Rattle.formula_builder.specs.declared.Frame.{Frame};
-ghost use Rattle.formula_builder.specs.Held.{store, sized, stepped, JoinReady, Ready, Builds, side};
+ghost use Rattle.formula_builder.specs.Inner.Held.{store, sized, stepped, JoinReady, Ready, Builds, side};
 
 // The row of false; negated, of true.
 pub fn falsity(or: bool) -> u16

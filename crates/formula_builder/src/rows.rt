@@ -9,9 +9,9 @@ ghost use Prim.Native.Nat.{ℕ, _+_, _*_, _≤_, _<_};
 ghost use lib.ListN.{length};
 ghost use Rattle.task.specs.Table.{row-at};
 ghost use Rattle.normal_form.specs.Builder.{same-row, row as row-built, variable-row};
-ghost use Rattle.formula_builder.specs.Index.{Searchable, Found, three, appended, Put, rows-after, Empty, FirstTwo};
+ghost use Rattle.formula_builder.specs.Inner.Index.{Searchable, Found, three, appended, Put, rows-after, Empty, FirstTwo};
 ghost use Rattle.formula_builder.specs.declared.Frame.{Frame};
-ghost use Rattle.formula_builder.specs.Held.{row-of, store, sized, stepped, RowsReady, Ready, Builds};
+ghost use Rattle.formula_builder.specs.Inner.Held.{row-of, store, sized, stepped, RowsReady, Ready, Builds};
 
 // Row i of a table.
 pub fn read_row(table: &[u16], i: usize) -> Words

@@ -5,7 +5,7 @@ use crate::frames::VARIABLES;
 use crate::rows::variable_row;
 ghost use Prim.Native.Nat.{_<_};
 ghost use Rattle.normal_form.specs.Builder.{twin-row};
-ghost use Rattle.formula_builder.specs.Held.{store, sized, stepped, framed, Ready, Builds};
+ghost use Rattle.formula_builder.specs.Inner.Held.{store, sized, stepped, framed, Ready, Builds};
 
 // The row of v's twin, which gets the next variable number when first met; or 65535 if there was no room. Behind the rows' index a word for each
 // variable names its twin's row: a twin that stands is not searched for, and a new one costs what putting its row does.

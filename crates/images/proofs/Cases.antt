@@ -13,9 +13,9 @@ use Rattle.formula_builder.specs.declared.Words.{Words}
 use Rattle.formula_builder.specs.declared.Frame.{Frame}
 use Rattle.formula_builder.specs.declared.Size.{Size}
 use Rattle.formula_builder.specs.declared.Step.{Step}
-use Rattle.formula_builder.specs.Held.{Store, row-of, size-of, side, stepped, Ready, JoinReady, Builds}
+use Rattle.formula_builder.specs.Inner.Held.{Store, row-of, size-of, side, stepped, Ready, JoinReady, Builds}
 use Rattle.formula_builder.proofs.Steps.{builds-stands}
-use Rattle.images.specs.Images.{image-at, keeps, first-at, pair-at, memo-place, is-row, Notes, Asks, AsksPair, AsksEquivalent, AsksRow, AsksUp, LeafReady, Images, Kept, Reaches}
+use Rattle.images.specs.Inner.Images.{image-at, keeps, first-at, pair-at, memo-place, is-row, Notes, Asks, AsksPair, AsksEquivalent, AsksRow, AsksUp, LeafReady, Images, Kept, Reaches}
 use Rattle.images.proofs.Rows.{operands, negated-operand, variable-words, first-none, first-own, first-other}
 use Rattle.images.proofs.Memos.{images-as, asks-next, images-leaf, images-known}
 

@@ -14,8 +14,8 @@ use Rattle.formula_builder.specs.declared.Words.{Words}
 use Rattle.formula_builder.specs.declared.Frame.{Frame}
 use Rattle.formula_builder.specs.declared.Size.{Size}
 use Rattle.formula_builder.specs.declared.Step.{Step}
-use Rattle.formula_builder.specs.Held.{Store, row-of}
-use Rattle.images.specs.Images.{image-at, keeps, first-at, memo-place, Known, Memo, noted, Notes, Source, Asks, Images, Kept, Reaches, Over, Climb, top, link, AsksRow, Lower, Descends, row-over, AsksUp, Rises}
+use Rattle.formula_builder.specs.Inner.Held.{Store, row-of}
+use Rattle.images.specs.Inner.Images.{image-at, keeps, first-at, memo-place, Known, Memo, noted, Notes, Source, Asks, Images, Kept, Reaches, Over, Climb, top, link, AsksRow, Lower, Descends, row-over, AsksUp, Rises}
 use Rattle.images.proofs.Rows.{keeps-four, first-own}
 use Rattle.images.proofs.Memos.{place-within, images-as, images-noted}
 use Rattle.images.proofs.Cases.{notes-ready, kept-refl, kept-then, kept-from, left-lower}

@@ -19,9 +19,9 @@ use Rattle.normal_form.proofs.Steady.{steady-image}
 use Rattle.formula_builder.specs.declared.Frame.{Frame}
 use Rattle.formula_builder.specs.declared.Size.{Size}
 use Rattle.formula_builder.specs.declared.Step.{Step}
-use Rattle.formula_builder.specs.Held.{Store, held, size-of, side, stepped, Done, Builds}
+use Rattle.formula_builder.specs.Inner.Held.{Store, held, size-of, side, stepped, Done, Builds}
 use Rattle.formula_builder.proofs.Steps.{builds-done, builds-as, builds-bind, builds-stop, prefix-length}
-use Rattle.images.specs.Images.{tree, image-at, keeps, first-at, pair-at, memo-place, Known, is-row, Memo, noted, Asks, Images}
+use Rattle.images.specs.Inner.Images.{tree, image-at, keeps, first-at, pair-at, memo-place, Known, is-row, Memo, noted, Asks, Images}
 
 pub steady-image-at : (frame : Frame) (formulas : List ℕ) (p : Polarity) (i : ℕ) → Steady (image-at frame formulas p i)
 unfolding image-at

@@ -17,9 +17,9 @@ use Rattle.formula_builder.specs.declared.Words.{Words}
 use Rattle.formula_builder.specs.declared.Frame.{Frame}
 use Rattle.formula_builder.specs.declared.Size.{Size}
 use Rattle.formula_builder.specs.declared.Step.{Step}
-use Rattle.formula_builder.specs.Held.{Store, row-of, size-of, side, stepped, Builds}
+use Rattle.formula_builder.specs.Inner.Held.{Store, row-of, size-of, side, stepped, Builds}
 use Rattle.formula_builder.proofs.Steps.{builds-as, builds-stands}
-use Rattle.images.specs.Images.{image-at, first-at, pair-at, equivalent-at, constant-by, leaf-built, LeafReady, AsksRow, Images}
+use Rattle.images.specs.Inner.Images.{image-at, first-at, pair-at, equivalent-at, constant-by, leaf-built, LeafReady, AsksRow, Images}
 use Rattle.images.proofs.Rows.{or-by, crossed-by, known, first-none, of-leaf, of-negation, of-pair, of-equivalent}
 use Rattle.images.proofs.Memos.{steady-image-at, steady-pair-at, images-as, images-leaf, images-bind, images-stop, pair-left-full, pair-right-full, pair-done}
 

@@ -13,12 +13,13 @@ use Rattle.task.specs.Rules.{no-row, FormulaRule}
 use Rattle.task.specs.Semantics.{Formula}
 use Rattle.task.specs.Tree.{formula-node}
 use Rattle.task.proofs.Bounded.{length-upto, getD-upto}
-use Rattle.task.proofs.Trees.{FormulaKept, formula-unfolds}
+use Rattle.task.proofs.Trees.{formula-unfolds}
+use Rattle.task.specs.Inner.Rows.{FormulaKept}
 use Rattle.normal_form.specs.Builder.{Build, give, pair, Polarity, plain, negated, opposite}
 use Rattle.normal_form.specs.Image.{image}
 use Rattle.formula_builder.specs.declared.Frame.{Frame}
-use Rattle.formula_builder.specs.Held.{side}
-use Rattle.images.specs.Images.{source-rows, tree, image-at, keeps, first-by, first-at, pair-at, leaf-built, Source}
+use Rattle.formula_builder.specs.Inner.Held.{side}
+use Rattle.images.specs.Inner.Images.{source-rows, tree, image-at, keeps, first-by, first-at, pair-at, leaf-built, Source}
 
 -- which join a row of kind 4 to 6 is
 abbrev pub or-by : Polarity → ℕ → Bool

@@ -12,8 +12,8 @@ use formula_builder::join;
 use formula_builder::read_row;
 ghost use Prim.Native.Nat.{_+_};
 ghost use Rattle.normal_form.specs.Builder.{plain, negated};
-ghost use Rattle.formula_builder.specs.Held.{store, side, sized, stepped, framed};
-ghost use Rattle.images.specs.Images.{image-at, first-at, pair-at, equivalent-at, Asks, AsksPair, AsksEquivalent, AsksUp, Reaches, Rises};
+ghost use Rattle.formula_builder.specs.Inner.Held.{store, side, sized, stepped, framed};
+ghost use Rattle.images.specs.Inner.Images.{image-at, first-at, pair-at, equivalent-at, Asks, AsksPair, AsksEquivalent, AsksUp, Reaches, Rises};
 
 // The image of formula i: constant time if the memo has it, else what building it costs.
 pub fn image(

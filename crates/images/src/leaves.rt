@@ -3,8 +3,8 @@ use formula_builder::ROWS;
 use formula_builder::Words;
 use formula_builder::row;
 use formula_builder::twin_row;
-ghost use Rattle.formula_builder.specs.Held.{row-of, store, side, sized, stepped, Builds, framed};
-ghost use Rattle.images.specs.Images.{leaf-built, LeafReady};
+ghost use Rattle.formula_builder.specs.Inner.Held.{row-of, store, side, sized, stepped, Builds, framed};
+ghost use Rattle.images.specs.Inner.Images.{leaf-built, LeafReady};
 
 // A variable's row is copied, or negated, its twin's row is built; false and true stand.
 pub fn leaf(

@@ -3,8 +3,8 @@ use formula_builder::FORMULAS;
 ghost use mathlib.Core.Path.{_≡_};
 ghost use Prim.Native.Nat.{ℕ, _≤_, _<_};
 ghost use lib.ListN.{length};
-ghost use Rattle.formula_builder.specs.Held.{side, stepped, framed};
-ghost use Rattle.images.specs.Images.{is-row, memo-place, noted, Notes};
+ghost use Rattle.formula_builder.specs.Inner.Held.{side, stepped, framed};
+ghost use Rattle.images.specs.Inner.Images.{is-row, memo-place, noted, Notes};
 
 // Whether a word of the memo is a row, plus 1.
 pub fn is_row(w: u16) -> bool

@@ -11,8 +11,8 @@ use formula_builder::step_of;
 use formula_builder::words_of;
 ghost use Prim.Native.Nat.{_+_};
 ghost use Rattle.normal_form.specs.Builder.{plain};
-ghost use Rattle.formula_builder.specs.Held.{store, side, sized, stepped, framed};
-ghost use Rattle.images.specs.Images.{Asks, Images, Reaches, image-at};
+ghost use Rattle.formula_builder.specs.Inner.Held.{store, side, sized, stepped, framed};
+ghost use Rattle.images.specs.Inner.Images.{Asks, Images, Reaches, image-at};
 
 // The image of formula i, or its negated image: constant time if the memo has it, else what building it costs. The memo is looked at here,
 // so that what builds has two callers: the backend then copies the small `image` into its callers, and not what builds into `image`.

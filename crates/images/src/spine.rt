@@ -4,8 +4,8 @@ use crate::memo::word_of;
 use formula_builder::read_row;
 ghost use mathlib.Core.Path.{_≡_};
 ghost use Prim.Native.Nat.{_≤_, _<_};
-ghost use Rattle.formula_builder.specs.Held.{side, framed};
-ghost use Rattle.images.specs.Images.{keeps, AsksRow, Lower, Descends, row-over};
+ghost use Rattle.formula_builder.specs.Inner.Held.{side, framed};
+ghost use Rattle.images.specs.Inner.Images.{keeps, AsksRow, Lower, Descends, row-over};
 
 // Whether a row of this kind has its first operand on its own side.
 pub fn keeps_side(kind: u16, not: bool) -> bool

@@ -15,12 +15,13 @@ use Rattle.task.specs.Table.{Lent, Task}
 use Rattle.task.specs.Words.{joined, head-of}
 use Rattle.task.proofs.Words.{lent-in, length-words, length-operator-words}
 use Rattle.file_format.specs.Bytes.{word-bytes, head-fields}
-use Rattle.task_writer.specs.Putting.{Put}
+use Rattle.task_writer.specs.Inner.Putting.{Put}
 use Rattle.task_writer.proofs.Puts.{put-none, put-then, put-same, put-size}
 use Rattle.task_file.proofs.ReadWays.{zeros-of, drop-zeros}
 use Rattle.task.specs.Words.{padded}
 use Rattle.layouts.specs.Layout.{tables-bytes, laid-by, laid}
-use Rattle.layouts.specs.Giving.{Lays, flat-bytes}
+use Rattle.layouts.specs.Inner.Giving.{flat-bytes}
+use Rattle.layouts.specs.Layout.{Lays}
 
 -- what a loop has put after i bytes
 pub record BytesDone (bytes : List ℕ) (count at : ℕ) (before out : List ℕ) (i place : ℕ) : Type 0 where

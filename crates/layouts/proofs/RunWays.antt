@@ -12,11 +12,11 @@ use borrow.Author.Tests.{le-leb, lt-leb, eq-eqb, ne-eqb, leb-true}
 use Rattle.task.specs.Bounded.{every, upto}
 use Rattle.task.specs.Check.{state-kept, sequence-kept, unless}
 use Rattle.task.proofs.Bounded.{length-upto}
-use Rattle.task_writer.specs.Putting.{Put}
+use Rattle.task_writer.specs.Inner.Putting.{Put}
 use Rattle.task_writer.proofs.Puts.{put-none, put-then, put-same}
 use Rattle.plan.specs.declared.outcome.RunOutcome.{RunOutcome}
 use Rattle.layouts.specs.Layout.{low-bytes, numbers-of, run-number, flag}
-use Rattle.layouts.specs.Giving.{stop-of, plan-of, outcome-bytes, ResultGives}
+use Rattle.layouts.specs.Inner.Giving.{stop-of, plan-of, outcome-bytes, ResultGives}
 use Rattle.layouts.proofs.LayWays.{put-padded, size}
 
 -- the numbers of a sequence

@@ -11,6 +11,7 @@ use Rattle.task.specs.Words.{joined, words-of, operator-words, head-of}
 use Rattle.task.specs.Run.{Run, Stop, ended, stopped, is-plan}
 use Rattle.file_format.specs.Bytes.{word-bytes, head-fields}
 use Rattle.task.specs.Words.{padded}
+use mathlib.Core.Path.{_≡_}
 
 -- the n low bytes of a number, the lowest first
 unfoldable pub low-bytes : ℕ → ℕ → List ℕ
@@ -67,3 +68,7 @@ laid-by (suc k) bytes n = record { number = suc k; bytes = zeros n }
 -- 20: the output of n bytes is too short
 unfoldable pub laid : List ℕ → ℕ → Laid
 laid bytes n = laid-by (unless (leb (length bytes) n) 20 0) bytes n
+
+pub record Lays (w : Laid) (r : ℕ) (after : List ℕ) : Type 0 where
+  pub told : r ≡ w .number
+  pub held : after ≡ w .bytes

@@ -2,9 +2,10 @@
 ghost use Prim.Native.Nat.{_+_, _≤_};
 ghost use lib.ListN.{length, take};
 ghost use Rattle.task.specs.Table.{lent};
-ghost use Rattle.task_writer.specs.Putting.{Put};
+ghost use Rattle.task_writer.specs.Inner.Putting.{Put};
 ghost use Rattle.layouts.specs.Layout.{laid};
-ghost use Rattle.layouts.specs.Giving.{Lays, LayIn, flat-bytes};
+ghost use Rattle.layouts.specs.Inner.Giving.{LayIn, flat-bytes};
+ghost use Rattle.layouts.specs.Layout.{Lays};
 use task::Head;
 use task::clear::clear_bytes;
 use task_writer::put::put_byte;

@@ -2,9 +2,9 @@
 ghost use mathlib.Core.Path.{_≡_};
 ghost use Prim.Native.Nat.{_+_, _≤_};
 ghost use lib.ListN.{length};
-ghost use Rattle.task_writer.specs.Putting.{Put};
+ghost use Rattle.task_writer.specs.Inner.Putting.{Put};
 ghost use Rattle.layouts.specs.Layout.{low-bytes, flag};
-ghost use Rattle.layouts.specs.Giving.{stop-of, plan-of, ResultGives};
+ghost use Rattle.layouts.specs.Inner.Giving.{stop-of, plan-of, ResultGives};
 use plan::End;
 use plan::RunOutcome;
 use task::clear::clear_bytes;

@@ -8,7 +8,8 @@ use Rattle.normal_form.specs.Finished.{finished}
 use Rattle.normal_form.specs.Compiled.{Room}
 use Rattle.task.specs.Words.{padded}
 use Rattle.lent_tables.specs.declared.Passes.{Passes}
-use Rattle.lent_tables.specs.Fills.{Tables, room-of, Blanked, Fills}
+use Rattle.lent_tables.specs.Inner.Fills.{Blanked, Fills}
+use Rattle.lent_tables.specs.Tables.{Tables, room-of}
 
 -- length by length
 pub as-long :

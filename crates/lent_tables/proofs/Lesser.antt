@@ -1,7 +1,7 @@
 -- The least of some numbers. Assumes nothing.
 use Prim.Native.Nat.{ℕ, _+_, _-_, _≤_}
 use native.Mathlib.Omega.{arith}
-use Rattle.lent_tables.specs.Sizes.{Least, MostTwins}
+use Rattle.lent_tables.specs.Inner.Sizes.{Least, MostTwins}
 
 pub most-twins :
     {variables values originals least r : ℕ}

@@ -1,2 +1,2 @@
-pub mod Fills
-pub mod Sizes
+pub mod Tables
+pub mod Inner

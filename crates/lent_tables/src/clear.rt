@@ -1,7 +1,8 @@
 // All six lent tables, cleared.
 use task::clear::clear_bytes;
 use task::clear::clear_words;
-ghost use Rattle.lent_tables.specs.Fills.{tables, Blanked};
+ghost use Rattle.lent_tables.specs.Inner.Fills.{Blanked};
+ghost use Rattle.lent_tables.specs.Tables.{tables};
 
 // All 0. Linear in what is lent.
 pub fn clear_all(

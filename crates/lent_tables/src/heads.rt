@@ -3,7 +3,7 @@ use crate::Passes;
 use task::Head;
 ghost use Prim.Native.Nat.{_+_, _≤_};
 ghost use mathlib.Core.Path.{_≡_};
-ghost use Rattle.lent_tables.specs.Fills.{head-after};
+ghost use Rattle.lent_tables.specs.Inner.Fills.{head-after};
 
 // The source's head, after what filling answered. Constant cost.
 pub fn compiled_head(head: Head, p: Passes) -> Head

@@ -1,7 +1,7 @@
 // How much is tried, and how much the lent tables allow.
 use task::Head;
 ghost use Prim.Native.Nat.{_≤_};
-ghost use Rattle.lent_tables.specs.Sizes.{Small, Least, MostTwins};
+ghost use Rattle.lent_tables.specs.Inner.Sizes.{Small, Least, MostTwins};
 
 // The lesser of two. Constant cost.
 pub fn least(a: usize, b: usize) -> usize

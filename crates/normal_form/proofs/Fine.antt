@@ -9,7 +9,7 @@ use lib.Dec.{eqb}
 use borrow.Author.Tests.{eqb-false}
 use Rattle.task.specs.Table.{Row, formula-kind}
 use Rattle.task.specs.Rules.{no-row}
-use Rattle.task.proofs.Trees.{FormulaKept, FormulasDown}
+use Rattle.task.specs.Inner.Rows.{FormulaKept, FormulasDown}
 use Rattle.task.proofs.Down.{formulas-none, formulas-more, formulas-wider}
 use Rattle.normal_form.specs.Builder.{St, including, same-row, row, twin, start}
 pub use Rattle.normal_form.specs.Positive.{PositiveKind}

@@ -12,7 +12,8 @@ use Rattle.task.specs.Rules.{no-row}
 use Rattle.task.specs.Semantics.{Formula, holds}
 use Rattle.task.specs.Tree.{formula-node, formula-of}
 use Rattle.task.specs.Corresponding.{Corresponding}
-use Rattle.task.proofs.Trees.{FormulaKept, FormulasDown, formula-unfolds, formula-grows}
+use Rattle.task.proofs.Trees.{formula-unfolds, formula-grows}
+use Rattle.task.specs.Inner.Rows.{FormulaKept, FormulasDown}
 use Rattle.normal_form.specs.Builder.{St, Got, Build, give, bind, row, Polarity, plain, negated, image-of-false, image-of-true, join-kind, Choice, absorbed, only-left, only-right, own-row, choice, join-as, join, pair}
 use Rattle.normal_form.specs.Growth.{Prefix, Grows, Steady}
 pub use Rattle.normal_form.proofs.Growth.{longer, prefix-at}

@@ -11,7 +11,8 @@ use Rattle.task.specs.Rules.{no-row, FormulaRule, EffectRule, Checked}
 use Rattle.task.specs.Semantics.{Formula, holds, Effect}
 use Rattle.task.specs.Tree.{formula-node, formula-within, formula-of, effect-node, effect-within, effect-of}
 use Rattle.task.specs.Run.{operator-of, effect-of-operator}
-use Rattle.task.proofs.Trees.{FormulasDown, EffectsDown, rules-formulas, rules-effects}
+use Rattle.task.proofs.Trees.{rules-formulas, rules-effects}
+use Rattle.task.specs.Inner.Rows.{FormulasDown, EffectsDown}
 use Rattle.normal_form.specs.Builder.{St, Build, give, bind, each, start, plain}
 use Rattle.normal_form.specs.Growth.{Grows, Steady}
 use Rattle.normal_form.specs.Image.{image}

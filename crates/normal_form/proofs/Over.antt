@@ -1,6 +1,6 @@
 -- How many rows, twins and effect rows the limits and the lent tables leave room for: if the finished task fits, no moment of building or of writing
 -- has more. So whoever stops at the first without room answers 15 rightly. Assumes nothing.
-use Prim.Native.Nat.{ℕ, _+_, _*_, _≤_, _<_}
+use Prim.Native.Nat.{ℕ, _≤_, _<_}
 use native.Mathlib.Omega.{arith}
 use lib.ListN.{length, take}
 use Rattle.task.specs.Table.{Task}
@@ -14,12 +14,7 @@ use Rattle.normal_form.proofs.ShapeAssembled.{unwritten}
 use Rattle.normal_form.proofs.ShapeFinished.{built-at}
 use Rattle.normal_form.proofs.ShapeSizes.{grows-fewer}
 use Rattle.normal_form.proofs.Assembling.{assembled-before, moment-effects}
-
--- no smaller than what the limits and the lent tables allow over n source variables
-pub record Allows (n : ℕ) (room : Room) (rows twins effects : ℕ) : Type 0 where
-  pub rows-allowed : (k : ℕ) → k ≤ 4096 → 3 * k ≤ room .formulas → k ≤ rows
-  pub twins-allowed : (k : ℕ) → n + k ≤ 512 → n + k ≤ room .initial → k ≤ room .twins → k ≤ twins
-  pub effects-allowed : (k : ℕ) → k ≤ 4096 → 3 * k ≤ room .effects → k ≤ effects
+use Rattle.normal_form.specs.Inner.Allowed.{Allows}
 
 -- rows and twins within what is allowed
 pub record WithinRoom (rows twins : ℕ) (s : St) : Type 0 where

@@ -12,6 +12,7 @@ use Rattle.task.specs.Words.{joined, row-words, operator-row-words, words-of, o
 use Rattle.task.proofs.Words.{length-words, length-operator-words, words-append, operator-words-append}
 use Rattle.normal_form.specs.Assembly.{unassembled}
 use Rattle.task.specs.Words.{padded}
+use Rattle.normal_form.specs.Inner.Stored.{three}
 
 -- nothing held
 pub padded-none : (n : ℕ) → padded n [] ≡ replicate n 0
@@ -53,10 +54,6 @@ padded-word n words i x e h =
     let here : n - length words ≡ suc m = omega arith in
     let more : n - length (words ++ (x ∷ [])) ≡ m = omega (arith, length-append words (x ∷ [])) in
     rw (here, more) (set-at words 0 (replicate m 0) x i e ∙ sym (append-snoc words x (replicate m 0)))
-
--- three words x, y, z stored as row i
-abbrev pub three : List ℕ → (i x y z : ℕ) → List ℕ
-three t i x y z = set (set (set t (3 * i) x) (3 * i + 1) y) (3 * i + 2) z
 
 padded-three :
     (n : ℕ) (words : List ℕ) (i x y z : ℕ)

@@ -11,7 +11,7 @@ use Rattle.task.specs.Check.{refusal}
 use Rattle.task.specs.Rules.{no-operator, OperatorRule, Limits, Checked}
 use Rattle.task.specs.Words.{lent-of}
 use Rattle.task.proofs.Down.{effects-none, effects-more}
-use Rattle.task.proofs.Trees.{EffectsDown}
+use Rattle.task.specs.Inner.Rows.{EffectsDown}
 use Rattle.task.proofs.Words.{lent-kept}
 use Rattle.normal_form.specs.Operators.{Changes}
 use Rattle.normal_form.specs.Assembly.{rules, unassembled}

@@ -12,7 +12,8 @@ use Rattle.task.specs.Table.{Row, effect-kind}
 use Rattle.task.specs.Rules.{no-row}
 use Rattle.task.specs.Semantics.{Formula, Atom, sets, clears, Effect, atomic, both, under}
 use Rattle.task.specs.Tree.{formula-of, effect-node, effect-of}
-use Rattle.task.proofs.Trees.{EffectKept, EffectsDown, effect-unfolds, effect-appends}
+use Rattle.task.proofs.Trees.{effect-unfolds, effect-appends}
+use Rattle.task.specs.Inner.Rows.{EffectKept, EffectsDown}
 use Rattle.task.proofs.Down.{effects-more}
 use Rattle.normal_form.specs.Growth.{Prefix}
 use Rattle.normal_form.specs.Assembly.{Rule, Written, atom-row, rule-rows, write-rule}

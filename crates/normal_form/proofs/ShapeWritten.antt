@@ -8,7 +8,8 @@ use Rattle.task.specs.Table.{Row, effect-kind}
 use Rattle.task.specs.Rules.{no-row}
 use Rattle.task.specs.Semantics.{Effect, empty, both}
 use Rattle.task.specs.Tree.{effect-node, effect-within, effect-of}
-use Rattle.task.proofs.Trees.{EffectsDown, effect-appends}
+use Rattle.task.proofs.Trees.{effect-appends}
+use Rattle.task.specs.Inner.Rows.{EffectsDown}
 use Rattle.task.proofs.Down.{effects-wider}
 use Rattle.normal_form.specs.Growth.{Prefix}
 use Rattle.normal_form.specs.Assembly.{Rule, Written, write-rule, write-rules}

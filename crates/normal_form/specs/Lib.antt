@@ -9,3 +9,4 @@ pub mod Positive
 pub mod Flat
 pub mod Alike
 pub mod Compiled
+pub mod Inner

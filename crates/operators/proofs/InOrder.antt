@@ -10,8 +10,8 @@ use Rattle.normal_form.proofs.Steady.{steady-changes}
 use Rattle.normal_form.proofs.ShapeSizes.{each-grows}
 use Rattle.formula_builder.specs.declared.Frame.{Frame}
 use Rattle.images.proofs.Memos.{steady-image-at}
-use Rattle.conditions.specs.Conditions.{effect-tree}
-use Rattle.operators.specs.Operator.{all-changes, operator-built, operator-here, operators-built}
+use Rattle.conditions.specs.Inner.Conditions.{effect-tree}
+use Rattle.operators.specs.Inner.Operator.{all-changes, operator-built, operator-here, operators-built}
 
 pub steady-operator-built :
     (frame : Frame) (formulas effects : List ℕ) (p e : ℕ) → Steady (operator-built frame formulas effects p e)

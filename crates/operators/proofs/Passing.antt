@@ -10,14 +10,14 @@ use Rattle.normal_form.specs.Builder.{St, Got, Build, give, bind, each}
 use Rattle.normal_form.specs.Operators.{Changes, deletes-of, changes-of}
 use Rattle.formula_builder.specs.declared.Frame.{Frame}
 use Rattle.formula_builder.specs.declared.Size.{Size}
-use Rattle.formula_builder.specs.Held.{Store, held}
-use Rattle.conditions.specs.Conditions.{effect-tree, condition-at, Unnamed}
-use Rattle.changes.specs.Stands.{Reaches}
-use Rattle.atom_sets.specs.Sets.{lacks, set-from}
+use Rattle.formula_builder.specs.Inner.Held.{Store, held}
+use Rattle.conditions.specs.Inner.Conditions.{effect-tree, condition-at, Unnamed}
+use Rattle.changes.specs.Inner.Stands.{Reaches}
+use Rattle.atom_sets.specs.Inner.Sets.{lacks, set-from}
 use Rattle.atom_sets.proofs.Places.{none-from, none-lowest, some-lowest}
-use Rattle.records.specs.Recorded.{idle, acting, Recorded}
+use Rattle.records.specs.Inner.Recorded.{idle, acting, Recorded}
 use Rattle.records.proofs.Keeping.{acting-append}
-use Rattle.operators.specs.Operator.{all-changes, Passes, NextTouched}
+use Rattle.operators.specs.Inner.Operator.{all-changes, Passes, NextTouched}
 
 -- What is passed over at v, by the word from v on.
 module _ (frame : Frame) (notes : List ℕ) (e v rest : ℕ) (r : rest ≡ set-from frame notes v e) where

@@ -16,20 +16,20 @@ use Rattle.normal_form.proofs.Steady.{steady-changes}
 use Rattle.formula_builder.specs.declared.Frame.{Frame}
 use Rattle.formula_builder.specs.declared.Size.{Size}
 use Rattle.formula_builder.specs.declared.Step.{Step}
-use Rattle.formula_builder.specs.Held.{Store, held, size-of}
+use Rattle.formula_builder.specs.Inner.Held.{Store, held, size-of}
 use Rattle.formula_builder.proofs.Steps.{within-before}
-use Rattle.images.specs.Images.{image-at, Images, Asks}
+use Rattle.images.specs.Inner.Images.{image-at, Images, Asks}
 use Rattle.images.proofs.Memos.{steady-image-at}
-use Rattle.conditions.specs.Conditions.{effect-tree, Unnamed, Noted}
-use Rattle.changes.specs.Stands.{Stands, StandsAt, Leaves, Reaches, Makes, made}
+use Rattle.conditions.specs.Inner.Conditions.{effect-tree, Unnamed, Noted}
+use Rattle.changes.specs.Inner.Stands.{Stands, StandsAt, Leaves, Reaches, Makes, made}
 use Rattle.conditions.proofs.Memos.{conditions-of-images}
 use Rattle.changes.proofs.Standing.{stands-next, stands-at-next}
-use Rattle.atom_sets.specs.Sets.{lacks, InSet}
+use Rattle.atom_sets.specs.Inner.Sets.{lacks, InSet}
 use Rattle.changes.specs.declared.Change.{Change}
-use Rattle.records.specs.Recorded.{Keeps, Opens, Recorded}
+use Rattle.records.specs.Inner.Recorded.{Keeps, Opens, Recorded}
 use Rattle.records.proofs.Keeping.{recorded-none, recorded-few, recorded-more}
 use Rattle.operators.specs.declared.Tally.{Tally}
-use Rattle.operators.specs.Operator.{all-changes, operator-built, LooksOn, NextTouched, BuildsOperator, size-behind, Walked, OperatorWalked}
+use Rattle.operators.specs.Inner.Operator.{all-changes, operator-built, LooksOn, NextTouched, BuildsOperator, size-behind, Walked, OperatorWalked}
 use Rattle.operators.proofs.Passing.{stretch-passed, reaches-alike, recorded-alike}
 
 -- One variable's change asks and leaves the same for a frame that is the same, as five numbers.

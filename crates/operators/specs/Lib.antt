@@ -1,1 +1,1 @@
-pub mod Operator
+pub mod Inner

@@ -4,10 +4,10 @@ use crate::walk::build_changes;
 use formula_builder::Frame;
 use formula_builder::Size;
 use images::image_from;
-ghost use Rattle.formula_builder.specs.Held.{store};
-ghost use Rattle.changes.specs.Stands.{Leaves};
-ghost use Rattle.records.specs.Recorded.{Opens};
-ghost use Rattle.operators.specs.Operator.{BuildsOperator, operator-built, OperatorWalked, size-behind};
+ghost use Rattle.formula_builder.specs.Inner.Held.{store};
+ghost use Rattle.changes.specs.Inner.Stands.{Leaves};
+ghost use Rattle.records.specs.Inner.Recorded.{Opens};
+ghost use Rattle.operators.specs.Inner.Operator.{BuildsOperator, operator-built, OperatorWalked, size-behind};
 
 // Builds the operator with precondition p and effect e, and records its changes behind those that are.
 pub fn build_operator(

@@ -10,11 +10,11 @@ use records::keep_change;
 use rule_writer::Changes;
 ghost use Prim.Native.Nat.{_≤_};
 ghost use lib.ListN.{length};
-ghost use Rattle.formula_builder.specs.Held.{store};
-ghost use Rattle.atom_sets.specs.Sets.{InSet, sets-end};
-ghost use Rattle.changes.specs.Stands.{StandsAt, Leaves};
-ghost use Rattle.records.specs.Recorded.{Opens};
-ghost use Rattle.operators.specs.Operator.{Passes, LooksOn, NextTouched, Walked, all-changes, size-behind};
+ghost use Rattle.formula_builder.specs.Inner.Held.{store};
+ghost use Rattle.atom_sets.specs.Inner.Sets.{InSet, sets-end};
+ghost use Rattle.changes.specs.Inner.Stands.{StandsAt, Leaves};
+ghost use Rattle.records.specs.Inner.Recorded.{Opens};
+ghost use Rattle.operators.specs.Inner.Operator.{Passes, LooksOn, NextTouched, Walked, all-changes, size-behind};
 
 // How many variables from v on are passed over at once: none, if effect e names an atom of v; those left of v's word, if it names none of theirs
 // either; else v alone. Constant cost: one word is read.

@@ -7,13 +7,13 @@ use mathlib.Core.Path.{_≡_}
 use mathlib.Core.Bool.{Bool, true}
 use lib.ListN.{replicate, length-replicate}
 use Rattle.task.specs.Table.{Lent}
-use Rattle.lent_tables.specs.Fills.{Tables}
+use Rattle.lent_tables.specs.Tables.{Tables}
 use Rattle.lent_tables.proofs.Source.{few-variables, few-effects}
-use Rattle.atom_sets.specs.Sets.{sets-end, set-words}
-use Rattle.finishing.specs.Ends.{frame-of}
+use Rattle.atom_sets.specs.Inner.Sets.{sets-end, set-words}
+use Rattle.finishing.specs.Inner.Ends.{frame-of}
 use Rattle.finishing.proofs.Blank.{zero-at}
-use Rattle.filling.specs.Begins.{Begins, Owns}
-use Rattle.own_tables.specs.Few.{Few, BeginsSmall, BeginsFew}
+use Rattle.filling.specs.Inner.Begins.{Begins, Owns}
+use Rattle.own_tables.specs.Inner.Few.{Few, BeginsSmall, BeginsFew}
 
 -- so much room the sets take, with the words before them and the path
 sets-room :

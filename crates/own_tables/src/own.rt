@@ -5,9 +5,10 @@ use lent_tables::Passes;
 use task::Head;
 ghost use Prim.Native.Nat.{_≤_};
 ghost use Rattle.task.specs.Table.{lent};
-ghost use Rattle.lent_tables.specs.Fills.{tables, Fills};
-ghost use Rattle.filling.specs.Begins.{Begins};
-ghost use Rattle.own_tables.specs.Few.{Few, BeginsSmall, BeginsFew};
+ghost use Rattle.lent_tables.specs.Inner.Fills.{Fills};
+ghost use Rattle.lent_tables.specs.Tables.{tables};
+ghost use Rattle.filling.specs.Inner.Begins.{Begins};
+ghost use Rattle.own_tables.specs.Inner.Few.{Few, BeginsSmall, BeginsFew};
 
 // The first has the words of 4,096 rows, two links and four heads for each, and a word for each of 512 variables: 73 KiB, cleared. The second has three words for
 // each of 256 operators and 2,048 changes: 13.5 KiB, cleared. The third has for each of 4,096 effects four words, a set of two bits for each of

@@ -6,11 +6,12 @@ use mathlib.Core.List.{List}
 use lib.ListN.{length, replicate}
 use Rattle.task.specs.Table.{Lent}
 use Rattle.task.specs.Run.{Run}
-use Rattle.steps.specs.Steps.{running}
+use Rattle.steps.specs.Inner.Steps.{running}
 use Rattle.stepper.proofs.Calls.{same-run}
 use Rattle.plan.specs.declared.outcome.RunOutcome.{RunOutcome}
 use Rattle.plan.specs.declared.outcome.End.the-variants.{Refused}
-use Rattle.plan.specs.Outcome.{run-refusal, cleared, run-refused, run-answer, run-told, run-by, ran, RunDone, RunGives}
+use Rattle.plan.specs.Outcome.{run-refusal, cleared, run-refused, run-answer, run-told, run-by, ran, RunGives}
+use Rattle.plan.specs.Inner.Done.{RunDone}
 
 -- the ways out of `run`
 module _ (l : Lent) (s numbers scratch : List ℕ) (number : ℕ) (asked : number ≡ run-refusal l s numbers scratch) where

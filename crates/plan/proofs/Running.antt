@@ -11,10 +11,11 @@ use Rattle.task.specs.declared.Head.{Head}
 use Rattle.task.specs.Table.{Task}
 use Rattle.task.specs.Run.{Run, Progress, ended, stopped, goal-holds, answer, run-on, plain-run}
 use Rattle.steps.specs.declared.Taken.{Taken}
-use Rattle.steps.specs.Steps.{StateReady, took, Takes}
+use Rattle.steps.specs.Inner.Steps.{StateReady, took, Takes}
 use Rattle.steps.proofs.Going.{goes-on, stops, taken-ready}
 use Rattle.plan.specs.declared.outcome.End.the-variants.{Ended, Stopped}
-use Rattle.plan.specs.Outcome.{end-of, run-answer, RunDone}
+use Rattle.plan.specs.Outcome.{end-of, run-answer}
+use Rattle.plan.specs.Inner.Done.{RunDone}
 
 -- the loop: what is left of the plain run stands before the numbers that are left
 pub record Goes (h : Head) (t : Task) (s numbers : List ℕ) (steps cost : ℕ) (now : List ℕ) : Type 0 where

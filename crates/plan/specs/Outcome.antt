@@ -4,7 +4,7 @@ use Prim.Native.Nat.{ℕ, zero, suc}
 use mathlib.Core.Path.{_≡_}
 use mathlib.Core.Bool.{Bool, false}
 use mathlib.Core.List.{List}
-use Rattle.task.specs.Table.{Lent, Task, task-of}
+use Rattle.task.specs.Table.{Lent, task-of}
 unfoldable pub use Rattle.task.specs.Check.{sequence-kept}
 use Rattle.task.specs.Check.{unless}
 use Rattle.task.specs.Run.{Run, Stop, ended, stopped, plain-run}
@@ -58,8 +58,3 @@ pub record RunGives (w : Ran) (r : RunOutcome) (after rest : List ℕ) : Type 0 
   pub answer : r ≡ w .answer
   pub state : after ≡ w .state
   pub scratch : rest ≡ w .scratch
-
--- What a run leaves where nothing refuses it: the plain run's answer and its state. Scratch is left open: `run` clears it.
-pub record RunDone (t : Task) (s numbers : List ℕ) (r : RunOutcome) (after : List ℕ) : Type 0 where
-  pub answer : r ≡ run-answer (plain-run t s numbers)
-  pub state : after ≡ plain-run t s numbers .state

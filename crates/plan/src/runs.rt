@@ -2,8 +2,9 @@
 ghost use Prim.Native.Nat.{_≤_};
 ghost use lib.ListN.{length};
 ghost use Rattle.task.specs.Table.{lent};
-ghost use Rattle.steps.specs.Steps.{running, Ready};
-ghost use Rattle.plan.specs.Outcome.{ran, RunDone, RunGives};
+ghost use Rattle.steps.specs.Inner.Steps.{running, Ready};
+ghost use Rattle.plan.specs.Outcome.{ran, RunGives};
+ghost use Rattle.plan.specs.Inner.Done.{RunDone};
 use crate::outcome::End;
 use crate::outcome::RunOutcome;
 use evaluating::holds;

@@ -6,7 +6,7 @@ use mathlib.Core.Path.{_≡_, refl, sym, ap, ap₂, subst, _∙_}
 use mathlib.Core.List.{List, [], _∷_, _++_}
 use lib.ListN.{length, set, length-append}
 use lib.Seq.{sets, set-out, length-sets}
-use Rattle.printing.specs.Put.{Put}
+use Rattle.printing.specs.Inner.Put.{Put}
 
 sets-append : (vs ws l : List ℕ) (i : ℕ) → sets l i (vs ++ ws) ≡ sets (sets l i vs) (i + length vs) ws
 sets-append [] ws l i = ap (λ (k : ℕ). sets l k ws) (sym (add-zero i))

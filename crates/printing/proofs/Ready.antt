@@ -5,7 +5,7 @@ use Rattle.task.specs.Table.{Lent}
 use Rattle.task.specs.Check.{refusal}
 use Rattle.task.specs.Rules.{LongEnough}
 use Rattle.task.proofs.Passed.{passed, counts-tested, lengths-tested, initial-tested}
-use Rattle.printing.specs.Put.{FrontReady, TablesReady}
+use Rattle.printing.specs.Inner.Put.{FrontReady, TablesReady}
 
 module _ (l : Lent) (e : refusal l ≡ 0) where
   pub long-tables : LongEnough l

@@ -17,7 +17,7 @@ use Rattle.printing.specs.declared.PrintAnswer.{PrintAnswer}
 use Rattle.printing.specs.declared.PrintAnswer.the-variants.{Printed, Refused}
 use Rattle.printing.specs.Lines.{lines}
 use Rattle.printing.specs.Printing.{PrintOutcome, PrintGives, not-printed, placed, printing}
-use Rattle.printing.specs.Put.{Put}
+use Rattle.printing.specs.Inner.Put.{Put}
 use Rattle.printing.proofs.Puts.{put-length}
 
 -- Clearing from the front.

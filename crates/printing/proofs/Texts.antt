@@ -15,7 +15,7 @@ use Rattle.task.specs.Words.{joined, row-words, operator-row-words}
 use Rattle.task.proofs.Bounded.{length-upto}
 use Rattle.task.proofs.Held.{length-initial, length-originals, length-formulas, length-effects, length-operators}
 use Rattle.printing.specs.Lines.{newline, blank, digit, word, line, numbered, values, initial-line, head-line, twin-lines, lines}
-use Rattle.printing.specs.Put.{Put, counts-of, words-at, original-at, front-text, tables-text}
+use Rattle.printing.specs.Inner.Put.{Put, counts-of, words-at, original-at, front-text, tables-text}
 use Rattle.printing.proofs.Puts.{nothing-put, then-put, put-as}
 
 -- Lines of one, two and four numbers.

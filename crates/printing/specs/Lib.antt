@@ -1,4 +1,4 @@
 -- Definitions that the contracts of printing cite.
 pub mod Lines
 pub mod Printing
-pub mod Put
+pub mod Inner

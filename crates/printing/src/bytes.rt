@@ -5,7 +5,7 @@ ghost use mathlib.Core.List.{[], _∷_, _++_};
 ghost use lib.ListN.{length, replicate};
 ghost use Rattle.task.specs.Words.{joined};
 ghost use Rattle.printing.specs.Lines.{decimal, word as word-text};
-ghost use Rattle.printing.specs.Put.{Put};
+ghost use Rattle.printing.specs.Inner.Put.{Put};
 
 // All 0. Linear.
 pub fn clear(out: &mut [u8])

@@ -5,7 +5,7 @@ ghost use Prim.Native.Nat.{ℕ};
 ghost use lib.ListN.{length, replicate};
 ghost use lib.Seq.{sets};
 ghost use Rattle.task.specs.Table.{lent};
-ghost use Rattle.printing.specs.Put.{Put};
+ghost use Rattle.printing.specs.Inner.Put.{Put};
 ghost use Rattle.printing.specs.Printing.{PrintGives, placed, printing, printing-refusal};
 use crate::PrintAnswer;
 use crate::bytes::clear;

@@ -8,7 +8,7 @@ ghost use Rattle.task.specs.Words.{joined};
 ghost use Rattle.task.specs.Table.{lent, task-of};
 ghost use Rattle.task.specs.Check.{refusal};
 ghost use Rattle.printing.specs.Lines.{digit, word as word-text, line, numbered, values as values-text, initial-line, lines};
-ghost use Rattle.printing.specs.Put.{Put, counts-of, words-at, original-at, front-text, tables-text, BitsReady, TwinsReady, RowsReady, FrontReady, TablesReady};
+ghost use Rattle.printing.specs.Inner.Put.{Put, counts-of, words-at, original-at, front-text, tables-text, BitsReady, TwinsReady, RowsReady, FrontReady, TablesReady};
 use crate::bytes::put;
 use crate::bytes::three;
 use crate::bytes::word;

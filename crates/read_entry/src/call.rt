@@ -1,8 +1,8 @@
 // Reading a task file into the layout of its tables.
 ghost use lib.ListN.{length};
 ghost use Rattle.file_format.specs.Reading.{reading};
-ghost use Rattle.task_file.specs.Answers.{lengths};
-ghost use Rattle.layouts.specs.Giving.{Lays};
+ghost use Rattle.task_file.specs.Outcome.{lengths};
+ghost use Rattle.layouts.specs.Layout.{Lays};
 ghost use Rattle.entry_tables.specs.Own.{small};
 ghost use Rattle.read_entry.specs.Entry.{read-entry, read-entry-by};
 use task::clear::clear_bytes;

@@ -16,7 +16,7 @@ use Rattle.normal_form.proofs.Assembling.{rules-none}
 use Rattle.normal_form.proofs.ShapeAssembled.{unwritten}
 use Rattle.normal_form.proofs.ShapeCounts.{rows-of-rules, written-length}
 use Rattle.normal_form.proofs.ShapeRules.{All, none, also}
-use Rattle.records.specs.Recorded.{idle, acting}
+use Rattle.records.specs.Inner.Recorded.{idle, acting}
 
 rule-one : (c : ℕ) (l : Atom) → 0 < c → length (rule c l) ≡ 1
 unfolding rule

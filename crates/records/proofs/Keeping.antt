@@ -10,10 +10,10 @@ use borrow.Author.Tests.{eq-eqb, ne-eqb}
 use Rattle.task.specs.Bounded.{upto}
 use Rattle.task.specs.Table.{Row, row-at}
 use Rattle.normal_form.specs.Operators.{Changes}
-use Rattle.normal_form.proofs.Padded.{three}
-use Rattle.formula_builder.specs.Index.{three as row-stored}
+use Rattle.normal_form.specs.Inner.Stored.{three}
+use Rattle.formula_builder.specs.Inner.Index.{three as row-stored}
 use Rattle.formula_builder.proofs.Stored.{upto-same, three-other, three-before, three-at}
-use Rattle.records.specs.Recorded.{idle, acting, change-at, changes-from, Recorded}
+use Rattle.records.specs.Inner.Recorded.{idle, acting, change-at, changes-from, Recorded}
 
 -- how the code tells
 pub is-added : (c : Changes) → (c .adds ≡ 0 → ⊥) → false ≡ idle c

@@ -1,1 +1,1 @@
-pub mod Recorded
+pub mod Inner

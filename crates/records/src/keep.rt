@@ -3,8 +3,8 @@ use rule_writer::Changes;
 use rule_writer::store;
 ghost use mathlib.Core.Path.{_≡_};
 ghost use mathlib.Core.List.{[], _∷_};
-ghost use Rattle.rule_writer.specs.Writes.{changes-in};
-ghost use Rattle.records.specs.Recorded.{idle, Keeps, Recorded};
+ghost use Rattle.rule_writer.specs.Inner.Writes.{changes-in};
+ghost use Rattle.records.specs.Inner.Recorded.{idle, Keeps, Recorded};
 
 // Whether a change brings no rule.
 fn brings_none(c: Changes) -> bool

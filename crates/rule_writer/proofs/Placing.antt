@@ -11,7 +11,7 @@ use lib.Seq.{length-take-le, drop-length, drop-cons, drop-set-lt, getD-take, get
 use lib.Dec.{eqb}
 use borrow.Author.Tests.{eqb-true, eqb-false}
 use Rattle.normal_form.specs.Builder.{place}
-use Rattle.rule_writer.specs.Places.{PlacesReady, AllPast, Placed}
+use Rattle.rule_writer.specs.Inner.Places.{PlacesReady, AllPast, Placed}
 
 -- The first i places are past the twins.
 pub record Cleared (places : List ℕ) (v past : ℕ) (now : List ℕ) (i : ℕ) : Type 0 where

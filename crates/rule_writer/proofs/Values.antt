@@ -8,7 +8,7 @@ use lib.ListN.{length, getD, take, drop, set, length-map, length-set}
 use lib.Seq.{length-take-le, take-all, take-at, take-suc, drop-cons, drop-append-add, drop-drop, getD-take, append-snoc, set-at, paste, paste-zero, paste-suc}
 use Rattle.normal_form.specs.Finished.{twin-values}
 use Rattle.normal_form.proofs.Demand.{map-at}
-use Rattle.rule_writer.specs.Writes.{InitialReady}
+use Rattle.rule_writer.specs.Inner.Writes.{InitialReady}
 
 copy-more :
     (d s : List ℕ) (i : ℕ)

@@ -17,7 +17,8 @@ use Rattle.normal_form.specs.Assembly.{Rule, rule, with-twin, rules-of, rules, 
 use Rattle.task.specs.Words.{padded}
 use Rattle.normal_form.proofs.Assembling.{rules-none}
 use Rattle.normal_form.proofs.Growth.{longer}
-use Rattle.normal_form.proofs.Padded.{padded-empty, three, padded-row, padded-operator}
+use Rattle.normal_form.proofs.Padded.{padded-empty, padded-row, padded-operator}
+use Rattle.normal_form.specs.Inner.Stored.{three}
 use Rattle.normal_form.proofs.ShapeAssembled.{unwritten}
 use Rattle.normal_form.proofs.ShapeCounts.{first-length, next-length, rules-split}
 use Rattle.normal_form.proofs.ShapeRules.{rules-snoc}
@@ -26,8 +27,9 @@ use Rattle.rule_writer.specs.declared.Chain.{Chain}
 use Rattle.rule_writer.specs.declared.Rule.{Rule as CodeRule}
 use Rattle.rule_writer.specs.declared.Frame.{Frame}
 use Rattle.rule_writer.specs.declared.Changes.{Changes as CodeChanges}
-use Rattle.rule_writer.specs.Places.{Placed}
-use Rattle.rule_writer.specs.Writes.{atom-of, kind-of, changes-in, alone, rule-in, twin-rule-in, opposed-in, all-in, two-rows, Holds, Ready, First, Next, Writes, OneMore}
+use Rattle.rule_writer.specs.Inner.Places.{Placed}
+use Rattle.rule_writer.specs.Inner.Writes.{atom-of, kind-of, changes-in, alone, rule-in, twin-rule-in, all-in, two-rows, Holds, Ready, First, Next, Writes, OneMore}
+use Rattle.rule_writer.specs.Inner.Places.{begun}
 
 abbrev pub filled : Chain → Chain
 filled at = record { rows = at .rows; stands = at .stands; full = true }
@@ -312,10 +314,6 @@ module _ (frame : Frame) (k : ℕ) (r : CodeRule) where
   pub twin-there :
       k < frame .twins → twin-rule-in frame k r ≡ rule (r .condition) (atom-of (not (r .sets)) (frame .variables + k))
   twin-there h = rw (lt-ltb k (frame .twins) h)
-
--- A cleared table holds the empty effect alone; and the next operator begins with nothing of its own.
-abbrev pub begun : ℕ → Chain
-begun rows = record { rows = rows; stands = 0; full = false }
 
 pub holds-begun : (n : ℕ) → 3 ≤ n → Holds (unwritten (unassembled .effects)) (begun 1) (replicate n 0)
 holds-begun n h =

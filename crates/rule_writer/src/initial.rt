@@ -5,7 +5,7 @@ ghost use Prim.Native.Nat.{_+_, _≤_};
 ghost use lib.ListN.{length, take, drop};
 ghost use lib.Seq.{paste};
 ghost use Rattle.normal_form.specs.Finished.{twin-values};
-ghost use Rattle.rule_writer.specs.Writes.{InitialReady};
+ghost use Rattle.rule_writer.specs.Inner.Writes.{InitialReady};
 
 // The source's values, v bytes.
 fn copy(source: &[u8], out: &mut [u8], v: usize)

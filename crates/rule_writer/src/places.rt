@@ -2,7 +2,7 @@
 ghost use mathlib.Core.Path.{_≡_};
 ghost use Prim.Native.Nat.{_≤_};
 ghost use lib.ListN.{length, take, drop};
-ghost use Rattle.rule_writer.specs.Places.{PlacesReady, AllPast, Placed};
+ghost use Rattle.rule_writer.specs.Inner.Places.{PlacesReady, AllPast, Placed};
 
 // No variable has a twin: each of v places is past them. v steps.
 fn clear(places: &mut [u16], v: usize, past: u16)

@@ -8,7 +8,7 @@ ghost use mathlib.Core.Path.{_≡_};
 ghost use mathlib.Core.Bool.{true};
 ghost use Prim.Native.Nat.{_+_, _*_, _≤_, _<_};
 ghost use lib.ListN.{length, getD};
-ghost use Rattle.rule_writer.specs.Writes.{kind-of, alone, rule-in, twin-rule-in, opposed-in, all-in, two-rows, Ready, FrameReady, First, Next, Writes};
+ghost use Rattle.rule_writer.specs.Inner.Writes.{kind-of, alone, rule-in, twin-rule-in, opposed-in, all-in, two-rows, Ready, FrameReady, First, Next, Writes};
 
 // No room: what stands stays.
 fn full(at: Chain) -> Chain

@@ -8,6 +8,7 @@ use Rattle.file_format.specs.Reading.{Verdict, accepted, rejected, reading}
 use Rattle.task.specs.Words.{padded}
 use Rattle.entry_tables.specs.Own.{own}
 use Rattle.layouts.specs.Layout.{numbers-of, run-number, stop-number, run-bytes, zeros}
+use mathlib.Core.Path.{_≡_}
 
 pub record RunEntry : Type 0 where
   pub number : ℕ
@@ -27,3 +28,8 @@ run-entry-by (rejected k) state sequence r = record { number = k; state = state;
 
 unfoldable pub run-entry : (file state sequence : List ℕ) → ℕ → RunEntry
 run-entry file state sequence r = run-entry-by (reading own file) state sequence r
+
+pub record RunEntryGives (w : RunEntry) (r : ℕ) (after result : List ℕ) : Type 0 where
+  pub told : r ≡ w .number
+  pub left : after ≡ w .state
+  pub held : result ≡ w .result

@@ -15,12 +15,13 @@ use Rattle.task.specs.Words.{padded}
 use Rattle.normal_form.proofs.Compiled.{length-padded}
 use Rattle.normal_form.proofs.Padded.{padded-over}
 use Rattle.lent_tables.specs.declared.Passes.{Passes}
-use Rattle.lent_tables.specs.Fills.{Tables, room-of, Blanked, Fills}
-use Rattle.lent_tables.specs.Sizes.{Least, MostTwins}
+use Rattle.lent_tables.specs.Inner.Fills.{Blanked, Fills}
+use Rattle.lent_tables.specs.Tables.{Tables, room-of}
+use Rattle.lent_tables.specs.Inner.Sizes.{Least, MostTwins}
 use Rattle.lent_tables.proofs.AsLong.{same-room, blanked-self, filled-as}
-use Rattle.filling.specs.Begins.{Begins}
-use Rattle.own_tables.specs.Few.{BeginsSmall}
-use Rattle.sizing.specs.Asks.{Roomy, Tries}
+use Rattle.filling.specs.Inner.Begins.{Begins}
+use Rattle.own_tables.specs.Inner.Few.{BeginsSmall}
+use Rattle.sizing.specs.Inner.Asks.{Roomy, Tries}
 
 -- what was cleared again is as it was lent
 pub cleared : {l : Lent} {x y z : Tables} → Roomy l x → room-of y ≡ room-of x → Blanked y z → Roomy l z

@@ -9,8 +9,9 @@ use own_tables::fill_small;
 use task::Head;
 ghost use Prim.Native.Nat.{_≤_};
 ghost use Rattle.task.specs.Table.{lent};
-ghost use Rattle.lent_tables.specs.Fills.{tables, Fills};
-ghost use Rattle.sizing.specs.Asks.{Roomy, Tries};
+ghost use Rattle.lent_tables.specs.Inner.Fills.{Fills};
+ghost use Rattle.lent_tables.specs.Tables.{tables};
+ghost use Rattle.sizing.specs.Inner.Asks.{Roomy, Tries};
 
 // As many rows as the limits and the lent tables allow. Clears large tables of its own: costs that, and what filling does.
 fn fill_whole(

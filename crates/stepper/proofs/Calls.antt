@@ -8,10 +8,11 @@ use lib.ListN.{length, replicate}
 use Rattle.task.specs.Table.{Lent, Task, task-of}
 use Rattle.task.specs.Run.{Run, Progress, Stop, ended, stopped, goal-holds, operator-of, effect-of-operator, applicable, charge, after-step, answer, run-on, plain-run}
 use Rattle.steps.specs.declared.Taken.{Taken}
-use Rattle.steps.specs.Steps.{running, took, Takes}
+use Rattle.steps.specs.Inner.Steps.{running, took, Takes}
 use Rattle.steps.proofs.Going.{goes-on, stops}
 use Rattle.stepper.specs.declared.StepOutcome.{StepOutcome}
-use Rattle.stepper.specs.Stepped.{early-refusal, cleared, step-refused, step-told, step-by, stepped, StepDone, StepGives}
+use Rattle.stepper.specs.Stepped.{early-refusal, cleared, step-refused, step-told, step-by, stepped, StepGives}
+use Rattle.stepper.specs.Inner.Done.{StepDone}
 
 -- the initial state and the twins play no part in a run
 module _ (l : Lent) where

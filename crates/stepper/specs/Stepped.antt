@@ -7,7 +7,7 @@ use mathlib.Core.List.{List, [], _∷_}
 use lib.ListN.{length, replicate}
 use lib.Dec.{leb}
 use Rattle.task.specs.declared.Head.{Head}
-use Rattle.task.specs.Table.{Lent, Task, task-of}
+use Rattle.task.specs.Table.{Lent, task-of}
 unfoldable pub use Rattle.task.specs.Check.{state-kept}
 use Rattle.task.specs.Check.{refusal, unless}
 use Rattle.task.specs.Run.{Run, Stop, ended, stopped, plain-run}
@@ -71,8 +71,3 @@ pub record StepGives (w : Stepped) (r : StepOutcome) (after rest : List ℕ) : T
   pub answer : r ≡ w .answer
   pub state : after ≡ w .state
   pub scratch : rest ≡ w .scratch
-
--- What a step leaves where nothing before its operator refuses it: the plain run's answer and its state. Scratch is left open: `step` clears it.
-pub record StepDone (t : Task) (s : List ℕ) (o : ℕ) (r : StepOutcome) (after : List ℕ) : Type 0 where
-  pub answer : let w = plain-run t s (o ∷ []) in r ≡ step-told (w .stop) w s [] .answer
-  pub state : let w = plain-run t s (o ∷ []) in after ≡ step-told (w .stop) w s [] .state

@@ -12,7 +12,7 @@ use Rattle.task.specs.Semantics.{effcond, sets, clears, value-after, apply}
 use Rattle.task.specs.Run.{Progress, stopped, effect-of-operator, applicable, after-step, answer, run-on}
 use Rattle.task.proofs.Bounded.{length-upto, getD-upto}
 use Rattle.steps.specs.declared.Taken.{Taken}
-use Rattle.steps.specs.Steps.{StateReady, Took, took-by, took, Takes}
+use Rattle.steps.specs.Inner.Steps.{StateReady, Took, took-by, took, Takes}
 
 -- a step of the plain run, by what a step gives
 module _ (t : Task) (p : Progress) (o : ℕ) (rest : List ℕ) where

@@ -7,10 +7,10 @@ use lib.ListN.{length, drop}
 use lib.Seq.{drop-drop}
 use Rattle.task.specs.declared.Head.{Head}
 use Rattle.task.specs.Table.{operator-at}
-use Rattle.evaluating.specs.Values.{Valued}
-use Rattle.applying.specs.Carrying.{Decided}
+use Rattle.evaluating.specs.Inner.Values.{Valued}
+use Rattle.applying.specs.Inner.Carrying.{Decided}
 use Rattle.steps.specs.declared.Taken.{Taken}
-use Rattle.steps.specs.Steps.{asked, Scratched}
+use Rattle.steps.specs.Inner.Steps.{asked, Scratched}
 
 -- what is the same behind m is the same behind more
 drop-more : (m n : ℕ) (a b : List ℕ) → m ≤ n → drop m a ≡ drop m b → drop n a ≡ drop n b

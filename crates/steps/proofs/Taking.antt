@@ -16,12 +16,13 @@ use Rattle.task.specs.Semantics.{holds, apply}
 use Rattle.task.specs.Tree.{formula-of, effect-of}
 use Rattle.task.specs.Run.{operator-of, effect-of-operator, goal-holds, applicable, charge}
 use Rattle.task.proofs.Bounded.{length-upto, getD-upto}
-use Rattle.task.proofs.Trees.{EffectsDown}
-use Rattle.task.proofs.Values.{Values, values-none}
-use Rattle.evaluating.specs.Values.{rows-of, Valuable}
-use Rattle.applying.specs.Marks.{changed, Markable}
-use Rattle.applying.specs.Carrying.{ConditionsReady, Carried}
-use Rattle.steps.specs.Steps.{running, StateReady, Ready, Took, stayed, took-by, took, Takes}
+use Rattle.task.specs.Inner.Rows.{EffectsDown}
+use Rattle.task.proofs.Values.{values-none}
+use Rattle.task.specs.Inner.Values.{Values}
+use Rattle.evaluating.specs.Inner.Values.{rows-of, Valuable}
+use Rattle.applying.specs.Inner.Marks.{changed, Markable}
+use Rattle.applying.specs.Inner.Carrying.{ConditionsReady, Carried}
+use Rattle.steps.specs.Inner.Steps.{running, StateReady, Ready, Took, stayed, took-by, took, Takes}
 use Rattle.evaluating.proofs.Valuing.{same-holds, same-values}
 use Rattle.applying.proofs.Applying.{applied}
 

@@ -6,7 +6,7 @@ ghost use Rattle.task.specs.Bounded.{upto};
 ghost use Rattle.task.specs.Check.{unless};
 ghost use Rattle.task.specs.Rules.{no-operator};
 ghost use Rattle.task.specs.Table.{operator-at};
-ghost use Rattle.steps.specs.Steps.{running, Ready, Takes, Scratched};
+ghost use Rattle.steps.specs.Inner.Steps.{running, Ready, Takes, Scratched};
 use crate::Taken;
 use task::Head;
 

@@ -17,8 +17,8 @@ use Rattle.task.specs.Rules.{no-row}
 use Rattle.task.specs.Semantics.{Atom, sets, clears, effcond, value-after, apply}
 use Rattle.task.specs.Tree.{effect-of}
 use Rattle.task.proofs.Bounded.{and-left, and-right, and-both, length-upto, getD-upto}
-use Rattle.task.proofs.Trees.{EffectsDown}
-use Rattle.task.proofs.Values.{told, bit}
+use Rattle.task.specs.Inner.Rows.{EffectsDown}
+use Rattle.task.specs.Inner.Values.{told, bit}
 use Rattle.task.proofs.Marks.{or-left, or-right, or-cases, kind-is, row-is, Marked, Found, marked-in, effcond-marked}
 
 -- one of the marked rows below n is the atom

@@ -9,7 +9,7 @@ use lib.ListN.{length, getD, length-append, List·getD-append}
 use lib.Seq.{getD-at}
 use Rattle.task.specs.Table.{Row, FormulaKind, false-kind, true-kind, variable-kind, not-kind, and-kind, or-kind, implies-kind, equivalent-kind, unknown-formula, formula-kind, EffectKind, empty-kind, set-kind, clear-kind, both-kind, under-kind, unknown-effect, effect-kind}
 use Rattle.task.specs.Rules.{no-row, FormulaRule, EffectRule}
-use Rattle.task.proofs.Trees.{FormulaKept, FormulasDown, EffectKept, EffectsDown}
+use Rattle.task.specs.Inner.Rows.{FormulaKept, FormulasDown, EffectKept, EffectsDown}
 
 -- what each row keeps, one more row keeps too
 one-more :

@@ -13,7 +13,8 @@ use Rattle.task.specs.Rules.{no-row, EffectRule}
 use Rattle.task.specs.Semantics.{Formula, Effect, Atom, sets, clears, holds, same-atom, effcond}
 use Rattle.task.specs.Tree.{formula-of, effect-node, effect-of}
 use Rattle.task.proofs.Bounded.{and-left, and-right, and-both}
-use Rattle.task.proofs.Trees.{EffectsDown, effect-unfolds}
+use Rattle.task.proofs.Trees.{effect-unfolds}
+use Rattle.task.specs.Inner.Rows.{EffectsDown}
 
 -- either side of a disjunction
 pub or-left : (a b : Bool) → a ≡ true → (a || b) ≡ true

@@ -12,7 +12,7 @@ use Rattle.task.specs.declared.Head.{Head}
 use Rattle.task.specs.declared.Table.{Table}
 use Rattle.task.specs.declared.Table.the-variants.{Formulas, Effects, Operators}
 use Rattle.task.specs.Table.{Lent, formula-kind, effect-kind, row-at, operator-at, row-part}
-use Rattle.task.specs.Tables.{words-kept, row-kept}
+use Rattle.task.specs.Inner.Tables.{words-kept, row-kept}
 use Rattle.task.specs.Check.{counts-kept, long-enough, room, twin-kept, formula-words-kept, effect-words-kept}
 use Rattle.task.proofs.Bounded.{and-both}
 

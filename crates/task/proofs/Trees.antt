@@ -9,20 +9,7 @@ use Rattle.task.specs.Table.{Row, Task, FormulaKind, false-kind, true-ki
 use Rattle.task.specs.Rules.{no-row, FormulaRule, EffectRule, Checked}
 use Rattle.task.specs.Semantics.{Formula, negation, conjunction, disjunction, implication, equivalence, Effect, both, under}
 use Rattle.task.specs.Tree.{formula-node, formula-within, formula-of, effect-node, effect-within, effect-of}
-
--- Row i keeps the rule of formulas over v variables; each row of a table does.
-abbrev pub FormulaKept : (v i : ℕ) → Row → Type 0
-FormulaKept v i r = FormulaRule v i (formula-kind (r .kind)) (r .a) (r .b)
-
-pub record FormulasDown (v : ℕ) (rows : List Row) : Type 0 where
-  pub row : (i : ℕ) → i < length rows → FormulaKept v i (getD rows i no-row)
-
--- Row i keeps the rule of effects over v variables and f formulas; each row of a table does.
-abbrev pub EffectKept : (v f i : ℕ) → Row → Type 0
-EffectKept v f i r = EffectRule v f i (effect-kind (r .kind)) (r .a) (r .b)
-
-pub record EffectsDown (v f : ℕ) (rows : List Row) : Type 0 where
-  pub row : (i : ℕ) → i < length rows → EffectKept v f i (getD rows i no-row)
+use Rattle.task.specs.Inner.Rows.{FormulasDown, EffectsDown}
 
 pub rules-formulas : (t : Task) → Checked t → FormulasDown (length (t .initial)) (t .formulas)
 rules-formulas t r = record { row = r .formula }

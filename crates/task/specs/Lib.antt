@@ -1,10 +1,10 @@
 pub mod Bounded
 pub mod Table
 pub mod Check
-pub mod Tables
 pub mod Rules
 pub mod Semantics
 pub mod Tree
 pub mod Run
 pub mod Corresponding
 pub mod Words
+pub mod Inner

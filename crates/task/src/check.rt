@@ -6,7 +6,7 @@ ghost use lib.Dec.{leb};
 ghost use Rattle.task.specs.Bounded.{every};
 ghost use Rattle.task.specs.Table.{lent};
 ghost use Rattle.task.specs.Check.{twin-kept, refusal};
-ghost use Rattle.task.specs.Tables.{words-kept, row-kept};
+ghost use Rattle.task.specs.Inner.Tables.{words-kept, row-kept};
 use crate::Head;
 use crate::Table;
 

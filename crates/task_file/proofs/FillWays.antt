@@ -11,9 +11,9 @@ use Rattle.task_file.specs.declared.Place.{Place}
 use Rattle.task_file.specs.declared.Place.the-variants.{At, Nowhere}
 use Rattle.file_format.specs.Parse.{Parsed, parsed, unparsed, next, table-read}
 use Rattle.file_format.specs.Reading.{initial-read, twin-read, formula-read, effect-read, operator-read, tables-read}
-use Rattle.task_file.specs.Tables.{words-read}
-use Rattle.task_file.specs.Answers.{ReadPart, place-told}
-use Rattle.task_file.specs.Filling.{RowTables, rows-behind, AllTables, all-behind, all-words, part-told, RowsFilled, AllFilled}
+use Rattle.task_file.specs.Inner.Tables.{words-read}
+use Rattle.task_file.specs.Inner.Answers.{ReadPart, place-told}
+use Rattle.task_file.specs.Inner.Filling.{RowTables, rows-behind, AllTables, all-behind, all-words, part-told, RowsFilled, AllFilled}
 
 -- what a part's answer says of its outcome
 part-lost : {n k : ℕ} {file : List ℕ} {o : Parsed (List ℕ)} {r : Place} {b a : List ℕ} → ReadPart n file o r b a → r ≡ Nowhere k → o ≡ unparsed k

@@ -15,10 +15,10 @@ use Rattle.task.specs.Words.{joined, row-words, operator-row-words, words-of, o
 use Rattle.task.proofs.Words.{joined-append}
 use Rattle.file_format.specs.Parse.{Parsed, parsed, unparsed, next, table-read}
 use Rattle.file_format.specs.Reading.{row-read, operator-fields-read, formula-read, effect-read, operator-read}
-use Rattle.task_file.specs.Tables.{kept-words-read, words-read}
+use Rattle.task_file.specs.Inner.Tables.{kept-words-read, words-read}
 use Rattle.task_file.specs.declared.Place.{Place}
 use Rattle.task_file.specs.declared.Place.the-variants.{At, Nowhere}
-use Rattle.task_file.specs.Answers.{ReadPart, place-told}
+use Rattle.task_file.specs.Inner.Answers.{ReadPart, place-told}
 
 -- a table of n rows is one of n - 1 rows and the last row
 module _ (p : ℕ → Parsed (List ℕ)) (q : ℕ → List ℕ → List ℕ → Parsed (List ℕ)) (step : (i : ℕ) → p (suc i) ≡ next (p i) (λ ws rest. next (q i ws rest) (λ x. parsed (ws ++ x)))) where

@@ -20,9 +20,11 @@ use Rattle.task_file.specs.declared.ReadAnswer.{ReadAnswer}
 use Rattle.task_file.specs.declared.ReadAnswer.the-variants.{Read, Refused}
 use Rattle.file_format.specs.Parse.{Parsed, parsed, unparsed, next, kept}
 use Rattle.file_format.specs.Reading.{Lengths, room, head-read, head-kept, tables-read, task-read, Verdict, accepted, rejected, at-end, reading}
-use Rattle.task_file.specs.Answers.{lengths, Cleared}
-use Rattle.task_file.specs.Filling.{RowTables, AllTables, all-behind, all-words, part-told, RowsRoom, AllRoom, AllFilled}
-use Rattle.task_file.specs.Outcome.{ReadOutcome, outcome-of, read-outcome, read-left, read-answer, Holds, Filled}
+use Rattle.task_file.specs.Inner.Answers.{Cleared}
+use Rattle.task_file.specs.Outcome.{lengths}
+use Rattle.task_file.specs.Inner.Filling.{RowTables, AllTables, all-behind, all-words, part-told, RowsRoom, AllRoom, AllFilled}
+use Rattle.task_file.specs.Outcome.{ReadOutcome, outcome-of, read-outcome, read-left}
+use Rattle.task_file.specs.Inner.Filled.{read-answer, Holds, Filled}
 use Rattle.task.specs.Words.{padded}
 use Rattle.file_format.proofs.Parse.{Bytes, bytes-behind, parsed-value, parsed-rest, refused-parsed, Steps, next-parsed, Kept, kept-parsed}
 use Rattle.task_file.proofs.FillWays.{all-read}

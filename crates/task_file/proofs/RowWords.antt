@@ -12,12 +12,12 @@ use Rattle.task.specs.declared.Table.{Table}
 use Rattle.task.specs.declared.Table.the-variants.{Formulas, Effects, Operators}
 use Rattle.task.specs.Table.{Row, Operator}
 use Rattle.task.specs.Check.{formula-kept, effect-kept, operator-kept}
-use Rattle.task.specs.Tables.{words-kept}
+use Rattle.task.specs.Inner.Tables.{words-kept}
 use Rattle.task.specs.Words.{row-words, operator-row-words}
 use Rattle.file_format.specs.Parse.{Parsed, parsed, unparsed, next, kept, byte-read, word-read, field-read, fields-read, mapped-read}
 use Rattle.file_format.specs.Reading.{row-clear, row-from, row-read, operator-from, operator-clear, operator-fields-read, formula-read, effect-read, operator-read}
-use Rattle.task_file.specs.Tables.{map-clear, own-number, row-words-read, kept-words-read}
-use Rattle.task_file.specs.Answers.{row-told, arranged-row}
+use Rattle.task_file.specs.Inner.Tables.{map-clear, own-number, row-words-read, kept-words-read}
+use Rattle.task_file.specs.Inner.Answers.{row-told, arranged-row}
 use Rattle.file_format.proofs.Parse.{parsed-value, parsed-rest, refused-parsed}
 
 -- three fields

@@ -18,7 +18,7 @@ use Rattle.task_file.specs.declared.Place.the-variants.{At, Nowhere}
 use Rattle.file_format.specs.Bytes.{bytes-for}
 use Rattle.file_format.specs.Parse.{Parsed, parsed, unparsed, next, kept, byte-read, table-read}
 use Rattle.file_format.specs.Reading.{bit-of, spare-clear, initial-read}
-use Rattle.task_file.specs.Answers.{ReadPart, place-told, Unpacked}
+use Rattle.task_file.specs.Inner.Answers.{ReadPart, place-told, Unpacked}
 use Rattle.file_format.proofs.Fields.{byte-reads}
 use Rattle.file_format.proofs.Table.{table-reads}
 use Rattle.file_format.proofs.Tables.{one-byte, bytes-joined, plain-byte}

@@ -17,7 +17,7 @@ use Rattle.task_file.specs.declared.Place.{Place}
 use Rattle.task_file.specs.declared.Place.the-variants.{At, Nowhere}
 use Rattle.file_format.specs.Parse.{Parsed, parsed, unparsed, next, kept, word-read, table-read}
 use Rattle.file_format.specs.Reading.{twin-read}
-use Rattle.task_file.specs.Answers.{ReadPart, place-told}
+use Rattle.task_file.specs.Inner.Answers.{ReadPart, place-told}
 use Rattle.task_file.proofs.Loops.{Done, done-refused, done-end, done-more}
 
 -- it looks at the rows up to its own

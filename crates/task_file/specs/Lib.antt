@@ -1,4 +1,2 @@
-pub mod Answers
-pub mod Tables
-pub mod Filling
 pub mod Outcome
+pub mod Inner

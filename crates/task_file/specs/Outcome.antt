@@ -1,10 +1,8 @@
 -- What the call that reads leaves: its answer and each lent table (01, "Where each number is given": after a refusal every output buffer is all 0; after
 -- success, all past the answer is 0).
-use Prim.Native.Nat.{ℕ, _-_}
-use mathlib.Core.Path.{_≡_}
-use mathlib.Core.List.{List, [], _++_}
-use lib.ListN.{length, drop, replicate}
-use Rattle.task.specs.Table.{Task}
+use Prim.Native.Nat.{ℕ}
+use mathlib.Core.List.{List}
+use lib.ListN.{replicate}
 use Rattle.task.specs.Words.{padded, head-of, words-of, operator-words}
 use Rattle.task_file.specs.declared.ReadAnswer.{ReadAnswer}
 use Rattle.task_file.specs.declared.ReadAnswer.the-variants.{Read, Refused}
@@ -47,19 +45,6 @@ abbrev pub read-left : ReadAnswer → (initial twins formulas effects operators 
 read-left r initial twins formulas effects operators =
     record { answer = r; initial = initial; twins = twins; formulas = formulas; effects = effects; operators = operators }
 
-abbrev pub read-answer : Verdict → ReadAnswer
-read-answer (accepted t) = Read (head-of t)
-read-answer (rejected n) = Refused n
-
--- a task's words in front of tables, and all behind them as it was
-pub record Holds (t : Task) (i w f e o i′ w′ f′ e′ o′ : List ℕ) : Type 0 where
-  pub initial : i′ ≡ t .initial ++ drop (length (t .initial)) i
-  pub twins : w′ ≡ t .originals ++ drop (length (t .originals)) w
-  pub formulas : f′ ≡ words-of (t .formulas) ++ drop (length (words-of (t .formulas))) f
-  pub effects : e′ ≡ words-of (t .effects) ++ drop (length (words-of (t .effects))) e
-  pub operators : o′ ≡ operator-words (t .operators) ++ drop (length (operator-words (t .operators))) o
-
--- what filling leaves: the answer, and on success the task's words. After a refusal the tables are left open: `read` clears them all.
-pub record Filled (l : Lengths) (file : List ℕ) (r : ReadAnswer) (i w f e o i′ w′ f′ e′ o′ : List ℕ) : Type 0 where
-  pub answer : r ≡ read-answer (reading l file)
-  pub tables : (t : Task) → reading l file ≡ accepted t → Holds t i w f e o i′ w′ f′ e′ o′
+abbrev pub lengths : (initial twins formulas effects operators : ℕ) → Lengths
+lengths initial twins formulas effects operators =
+    record { initial = initial; twins = twins; formulas = formulas; effects = effects; operators = operators }

@@ -1,5 +1,5 @@
 // Clearing lent tables.
-ghost use Rattle.task_file.specs.Answers.{Cleared};
+ghost use Rattle.task_file.specs.Inner.Answers.{Cleared};
 
 // Every table of a task all 0. Linear.
 pub fn clear_tables(

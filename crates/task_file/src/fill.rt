@@ -2,7 +2,7 @@
 ghost use mathlib.Core.Path.{_≡_};
 ghost use Prim.Native.Nat.{_*_, _≤_};
 ghost use lib.ListN.{length, drop};
-ghost use Rattle.task_file.specs.Filling.{RowsRoom, RowsFilled, AllRoom, AllFilled};
+ghost use Rattle.task_file.specs.Inner.Filling.{RowsRoom, RowsFilled, AllRoom, AllFilled};
 use crate::Place;
 use task::Head;
 use task::Table;

@@ -1,8 +1,10 @@
 // Reading a task file.
 ghost use mathlib.Core.Path.{_≡_};
 ghost use lib.ListN.{length};
-ghost use Rattle.task_file.specs.Answers.{no-task, lost-place, lengths};
-ghost use Rattle.task_file.specs.Outcome.{Filled, read-left, read-outcome};
+ghost use Rattle.task_file.specs.Inner.Answers.{no-task, lost-place};
+ghost use Rattle.task_file.specs.Outcome.{lengths};
+ghost use Rattle.task_file.specs.Outcome.{read-left, read-outcome};
+ghost use Rattle.task_file.specs.Inner.Filled.{Filled};
 use crate::HeadAnswer;
 use crate::Place;
 use crate::ReadAnswer;

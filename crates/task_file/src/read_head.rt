@@ -2,7 +2,8 @@
 ghost use mathlib.Core.Path.{_≡_};
 ghost use Rattle.file_format.specs.Parse.{next};
 ghost use Rattle.file_format.specs.Reading.{room, head-read, head-kept};
-ghost use Rattle.task_file.specs.Answers.{head-told, lost-head, lengths};
+ghost use Rattle.task_file.specs.Inner.Answers.{head-told, lost-head};
+ghost use Rattle.task_file.specs.Outcome.{lengths};
 use crate::HeadAnswer;
 use crate::Row;
 use task::Head;

@@ -1,8 +1,8 @@
 // Rows of three words.
 ghost use mathlib.Core.Path.{_≡_};
 ghost use lib.ListN.{drop};
-ghost use Rattle.task_file.specs.Answers.{row-told, arranged-row};
-ghost use Rattle.task_file.specs.Tables.{map-clear, row-words-read, kept-words-read};
+ghost use Rattle.task_file.specs.Inner.Answers.{row-told, arranged-row};
+ghost use Rattle.task_file.specs.Inner.Tables.{map-clear, row-words-read, kept-words-read};
 use crate::Row;
 use task::Head;
 use task::Table;

@@ -2,8 +2,8 @@
 ghost use mathlib.Core.Path.{_≡_};
 ghost use Prim.Native.Nat.{_*_, _≤_};
 ghost use lib.ListN.{length, drop};
-ghost use Rattle.task_file.specs.Answers.{lost-row, ReadPart};
-ghost use Rattle.task_file.specs.Tables.{words-read};
+ghost use Rattle.task_file.specs.Inner.Answers.{lost-row, ReadPart};
+ghost use Rattle.task_file.specs.Inner.Tables.{words-read};
 use crate::Place;
 use crate::Row;
 use task::Head;

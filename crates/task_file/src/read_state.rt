@@ -5,7 +5,7 @@ ghost use lib.ListN.{length, take, drop};
 ghost use Rattle.task.specs.Bounded.{upto};
 ghost use Rattle.file_format.specs.Bytes.{bytes-for};
 ghost use Rattle.file_format.specs.Reading.{bit-of, spare-clear, initial-read};
-ghost use Rattle.task_file.specs.Answers.{ReadPart, Unpacked};
+ghost use Rattle.task_file.specs.Inner.Answers.{ReadPart, Unpacked};
 use crate::Place;
 
 // The bytes from `at` to the end. Constant time.

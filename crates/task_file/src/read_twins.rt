@@ -4,7 +4,7 @@ ghost use Prim.Native.Nat.{_≤_};
 ghost use lib.ListN.{length, drop};
 ghost use Rattle.file_format.specs.Parse.{table-read};
 ghost use Rattle.file_format.specs.Reading.{twin-read};
-ghost use Rattle.task_file.specs.Answers.{lost-word, ReadPart};
+ghost use Rattle.task_file.specs.Inner.Answers.{lost-word, ReadPart};
 use crate::Field;
 use crate::Place;
 

@@ -2,7 +2,7 @@
 ghost use mathlib.Core.Path.{_≡_};
 ghost use lib.ListN.{drop};
 ghost use Rattle.file_format.specs.Parse.{word-read, field-read, fields-read};
-ghost use Rattle.task_file.specs.Answers.{field-told, row-told, carried};
+ghost use Rattle.task_file.specs.Inner.Answers.{field-told, row-told, carried};
 use crate::Field;
 use crate::Row;
 

@@ -14,7 +14,7 @@ use Rattle.task.specs.Table.{row-at, operator-at}
 use Rattle.task.specs.Words.{joined}
 use Rattle.task.proofs.Words.{joined-append}
 use Rattle.file_format.specs.Bytes.{number, word-bytes, field-bytes, row-bytes, operator-bytes, operator-fields, packed, bytes-for}
-use Rattle.task_writer.specs.Putting.{Put, MapFits, three-bytes, rows-bytes, StateIn, byte-number}
+use Rattle.task_writer.specs.Inner.Putting.{Put, MapFits, three-bytes, rows-bytes, StateIn, byte-number}
 use Rattle.task_writer.proofs.Puts.{put-none, put-then, put-same, field-length}
 
 -- what a loop has put after i rows

@@ -11,7 +11,7 @@ use Rattle.task.specs.declared.Head.{Head}
 use Rattle.task.specs.Words.{joined}
 use Rattle.task.proofs.Words.{joined-append}
 use Rattle.file_format.specs.Bytes.{word-bytes, field-bytes, present, number, map-of, head-fields, head-bytes, row-bytes, operator-fields, operator-bytes}
-use Rattle.task_writer.specs.Putting.{Put}
+use Rattle.task_writer.specs.Inner.Putting.{Put}
 
 sets-append : (l : List ℕ) (i : ℕ) (xs ys : List ℕ) → sets l i (xs ++ ys) ≡ sets (sets l i xs) (i + length xs) ys
 sets-append l i [] ys = ap (λ (k : ℕ). sets l k ys) (sym (add-zero i))

@@ -25,8 +25,9 @@ use Rattle.task_writer.specs.declared.WriteAnswer.{WriteAnswer}
 use Rattle.task_writer.specs.declared.WriteAnswer.the-variants.{Written, NotWritten}
 use Rattle.file_format.specs.Bytes.{word-bytes, field-bytes, head-fields, head-bytes, row-bytes, operator-bytes, packed, bytes-for, file-of}
 use Rattle.task.specs.Words.{padded}
-use Rattle.task_writer.specs.Putting.{Put, MapFits, three-bytes, rows-bytes, RowsIn, StateIn}
-use Rattle.task_writer.specs.Writing.{WriteOutcome, wrote, file-outcome, write-outcome, WriteIn}
+use Rattle.task_writer.specs.Inner.Putting.{Put, MapFits, three-bytes, rows-bytes, RowsIn, StateIn}
+use Rattle.task_writer.specs.Writing.{WriteOutcome, wrote, file-outcome, write-outcome}
+use Rattle.task_writer.specs.Inner.Putting.{WriteIn}
 use Rattle.file_format.proofs.Initial.{packed-length}
 use Rattle.task_file.proofs.ReadWays.{zeros-of, drop-zeros}
 use Rattle.task_writer.proofs.Puts.{put-then, put-same, put-size, field-length}

@@ -1,19 +1,16 @@
 -- What the call that writes leaves: its answer and the output (01, "Where each number is given": the tables' own numbers, then 20; after a refusal the
 -- output is all 0, and past the file all is 0).
-use Prim.Native.Nat.{ℕ, _*_, _≤_, _<_}
+use Prim.Native.Nat.{ℕ}
 use mathlib.Core.Bool.{cond}
-use mathlib.Core.List.{List, []}
-use lib.ListN.{length, getD, replicate}
+use mathlib.Core.List.{List}
+use lib.ListN.{length, replicate}
 use lib.Dec.{leb, eqb}
-use Rattle.task.specs.declared.Table.the-variants.{Formulas, Effects}
 use Rattle.task.specs.Table.{Lent, task-of}
 use Rattle.task.specs.Check.{refusal}
-use Rattle.task.specs.Rules.{LongEnough}
 use Rattle.task_writer.specs.declared.WriteAnswer.{WriteAnswer}
 use Rattle.task_writer.specs.declared.WriteAnswer.the-variants.{Written, NotWritten}
 use Rattle.file_format.specs.Bytes.{file-of}
 use Rattle.task.specs.Words.{padded}
-use Rattle.task_writer.specs.Putting.{StateIn, MapFits}
 
 pub record WriteOutcome : Type 0 where
   pub answer : WriteAnswer
@@ -31,15 +28,3 @@ file-outcome file n =
 unfoldable pub write-outcome : Lent → ℕ → WriteOutcome
 write-outcome l n =
     cond (eqb (refusal l) 0) (file-outcome (file-of (task-of l)) n) (wrote (NotWritten (refusal l)) (replicate n 0))
-
--- what tables that pass the check bring to the writer
-pub record WriteIn (l : Lent) : Type 0 where
-  pub long : LongEnough l
-  pub variables : l .head .variables ≤ 512
-  pub twins : l .head .twins ≤ 512
-  pub formulas : l .head .formulas ≤ 4096
-  pub effects : l .head .effects ≤ 4096
-  pub operators : l .head .operators ≤ 256
-  pub state : StateIn (l .initial) (l .head .variables)
-  pub formula-maps : (i : ℕ) → i < l .head .formulas → MapFits Formulas (getD (l .formulas) (3 * i) 0)
-  pub effect-maps : (i : ℕ) → i < l .head .effects → MapFits Effects (getD (l .effects) (3 * i) 0)

@@ -4,7 +4,7 @@ ghost use mathlib.Core.List.{[], _∷_};
 ghost use Prim.Native.Nat.{_≤_};
 ghost use Rattle.task.specs.Words.{joined};
 ghost use Rattle.file_format.specs.Bytes.{word-bytes, field-bytes, present};
-ghost use Rattle.task_writer.specs.Putting.{Put};
+ghost use Rattle.task_writer.specs.Inner.Putting.{Put};
 
 // One byte. Constant time.
 pub fn put_byte(out: &mut [u8], at: usize, x: u8) -> usize

@@ -4,7 +4,7 @@ ghost use mathlib.Core.List.{[], _∷_};
 ghost use Prim.Native.Nat.{_≤_};
 ghost use Rattle.task.specs.Words.{joined};
 ghost use Rattle.file_format.specs.Bytes.{field-bytes, head-bytes};
-ghost use Rattle.task_writer.specs.Putting.{Put, MapFits, three-bytes};
+ghost use Rattle.task_writer.specs.Inner.Putting.{Put, MapFits, three-bytes};
 use task::Head;
 use task::Table;
 

@@ -4,7 +4,7 @@ ghost use Prim.Native.Nat.{ℕ, _+_, _*_, _≤_, _<_};
 ghost use lib.ListN.{length, getD, take};
 ghost use Rattle.task.specs.Words.{joined};
 ghost use Rattle.file_format.specs.Bytes.{word-bytes, packed};
-ghost use Rattle.task_writer.specs.Putting.{Put, RowsIn, StateIn, byte-number, rows-bytes};
+ghost use Rattle.task_writer.specs.Inner.Putting.{Put, RowsIn, StateIn, byte-number, rows-bytes};
 use task::Table;
 
 // The first `count` rows of a table. Linear.

@@ -4,7 +4,7 @@ use mathlib.Core.Path.{_≡_}
 use mathlib.Core.List.{List}
 use Rattle.task.specs.declared.Head.{Head}
 use Rattle.normal_form.specs.Compiled.{Answer, compiled-head, not-compiled, CompileOutcome}
-use Rattle.compiler.specs.Fills.{Tables}
+use Rattle.compiler.specs.Left.{Tables}
 use Rattle.test_calls.specs.Buffers.{told, head-words, no-head}
 
 abbrev pub compile-number : Answer → ℕ

@@ -2,7 +2,7 @@
 ghost use mathlib.Core.Path.{_≡_};
 ghost use Rattle.task.specs.Table.{lent};
 ghost use Rattle.normal_form.specs.Compiled.{compiling};
-ghost use Rattle.compiler.specs.Fills.{tables, room-of};
+ghost use Rattle.compiler.specs.Left.{tables, room-of};
 ghost use Rattle.compiler.specs.Left.{answer-of};
 ghost use Rattle.test_calls.specs.Compiling.{compile-number, compile-head, CompileLeaves};
 use compiler::CompileAnswer;

@@ -2,7 +2,7 @@
 ghost use mathlib.Core.Path.{_≡_};
 ghost use lib.ListN.{length};
 ghost use Rattle.task.specs.Table.{lent};
-ghost use Rattle.task_file.specs.Answers.{lengths};
+ghost use Rattle.task_file.specs.Outcome.{lengths};
 ghost use Rattle.task_file.specs.Outcome.{read-outcome};
 ghost use Rattle.task_writer.specs.Writing.{write-outcome};
 ghost use Rattle.test_calls.specs.Reading.{read-number, read-head, write-number, ReadLeaves, WriteLeaves};

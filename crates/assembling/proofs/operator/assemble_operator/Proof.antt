@@ -5,7 +5,7 @@ use Rattle.assembling.proofs.operator.assemble_operator.Reads as reads
 use Rattle.assembling.proofs.operator.assemble_operator.Lts as lts
 use Rattle.assembling.proofs.operator.write_records.Reads as write-records-reads
 use Rattle.rule_writer.proofs.write_operator.Reads as write-operator-reads
-use Rattle.formula_builder.specs.Held.{row-of}
+use Rattle.formula_builder.specs.Inner.Held.{row-of}
 use Rattle.assembling.proofs.Operators.{operator-written}
 
 cast-write-records : tie.Need-cast-write-records

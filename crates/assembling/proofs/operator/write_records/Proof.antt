@@ -9,9 +9,9 @@ use mathlib.Core.Path.{_≡_, refl, _∙_}
 use native.Mathlib.Omega.{arith}
 use lib.ListN.{length}
 use Rattle.normal_form.specs.Assembly.{rules}
-use Rattle.rule_writer.specs.Writes.{Ready, Writes}
+use Rattle.rule_writer.specs.Inner.Writes.{Ready, Writes}
 use Rattle.rule_writer.proofs.Writing.{writes-placed}
-use Rattle.assembling.specs.Assembles.{changes-between, ForTwins}
+use Rattle.assembling.specs.Inner.Assembles.{changes-between, ForTwins}
 use Rattle.assembling.proofs.Operators.{change-below, records-none, records-more, records-all}
 
 abbrev Inv-loop : tie.InvT-loop

@@ -8,7 +8,7 @@ use Prim.Native.Nat.{_+_, _-_, _≤_}
 use mathlib.Core.Path.{_≡_, refl, _∙_}
 use native.Mathlib.Omega.{arith}
 use lib.ListN.{length}
-use Rattle.assembling.specs.Assembles.{begins-at, assembled-in, ForTwins, Holding}
+use Rattle.assembling.specs.Inner.Assembles.{begins-at, assembled-in, ForTwins, Holding}
 use Rattle.assembling.proofs.Operators.{begins-none, begins-next, assembling-begun, asks-operator, assembling-more, assembling-stop, assembling-done}
 
 abbrev Inv-loop : tie.InvT-loop

@@ -7,7 +7,7 @@ use Prim.Native.Nat.{_+_, _-_, _%_, _≤_}
 use native.Mathlib.Omega.{arith}
 use mathlib.Core.Path.{_≡_, refl, _∙_}
 use lib.ListN.{length}
-use Rattle.atom_sets.specs.Finds.{united, Written}
+use Rattle.atom_sets.specs.Inner.Finds.{united, Written}
 use Rattle.atom_sets.proofs.Words.{written-none, room-four, united-more, written-all}
 
 abbrev Inv-loop : tie.InvT-loop

@@ -5,11 +5,11 @@ use Rattle.changes.proofs.conflict.deletes.Reads as reads
 use Rattle.changes.proofs.conflict.deletes.Lts as lts
 use Rattle.conditions.proofs.condition.Reads as condition-reads
 use Rattle.formula_builder.proofs.join.Reads as join-reads
-use Rattle.formula_builder.specs.Held.{store, framed}
-use Rattle.conditions.specs.Conditions.{condition-at}
+use Rattle.formula_builder.specs.Inner.Held.{store, framed}
+use Rattle.conditions.specs.Inner.Conditions.{condition-at}
 use Rattle.changes.proofs.Standing.{asks-condition, never-set, never-cleared, negated-full, negated-join-asks, negated-joined}
 use borrow.Author.Tests.{eq-eqb, ne-eqb}
-use Rattle.formula_builder.specs.Held.{sized}
+use Rattle.formula_builder.specs.Inner.Held.{sized}
 use mathlib.Core.Path.{refl}
 
 returns : tie.Need-returns

@@ -7,7 +7,7 @@ use Rattle.conditions.proofs.condition.Reads as condition-reads
 use Rattle.formula_builder.proofs.falsity.Reads as falsity-reads
 use Rattle.changes.proofs.Standing.{asks-condition, condition-unnamed}
 use borrow.Author.Tests.{eq-eqb, ne-eqb}
-use Rattle.formula_builder.specs.Held.{sized}
+use Rattle.formula_builder.specs.Inner.Held.{sized}
 
 condition-requires : tie.Need-condition-requires
 condition-requires c κs = asks-condition _ (c .before .before .before .before .before .before .before .before .before .before .before .before .before .pre .0) (c .before .before .before .before .before .before .before .before .before .before .before .before .before .pre .1)

@@ -6,10 +6,10 @@ use Rattle.changes.proofs.variable.change_of.Lts as lts
 use Rattle.changes.proofs.conflict.deletes.Reads as deletes-reads
 use Rattle.changes.proofs.named.condition_if.Reads as condition-if-reads
 use mathlib.Core.Path.{_∙_}
-use Rattle.conditions.specs.Conditions.{effect-tree, condition-at}
+use Rattle.conditions.specs.Inner.Conditions.{effect-tree, condition-at}
 use Rattle.changes.proofs.Standing.{leaves-full, set-full, clear-full, change-made, stands-at-next}
 use borrow.Author.Tests.{eq-eqb, ne-eqb}
-use Rattle.formula_builder.specs.Held.{sized, framed}
+use Rattle.formula_builder.specs.Inner.Held.{sized, framed}
 
 condition-if-requires : tie.Need-condition-if-requires
 condition-if-requires c κs = search needs

@@ -1,7 +1,7 @@
 use mathlib.Core.Path.{ap, _∙_}
 use borrow.Author.Needs.{needs}
 use Rattle.task_file.proofs.ReadWays.{bytes-from}
-use Rattle.entry_tables.specs.Answers.{refused-number}
+use Rattle.entry_tables.specs.Inner.Answers.{refused-number}
 use Rattle.compile_text.proofs.TextWays.{task-read, file-refused, text-refused, text-read}
 use Rattle.compile_text.proofs.text.text_through.Statement.{statement}
 use Rattle.compile_text.proofs.text.text_through.Tie as tie

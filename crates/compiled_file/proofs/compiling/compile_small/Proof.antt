@@ -1,4 +1,4 @@
-use Rattle.compiled_file.specs.Giving.{small-room}
+use Rattle.compiled_file.specs.Inner.Giving.{small-room}
 use borrow.Author.Needs.{needs}
 use Rattle.compiled_file.proofs.compiling.compile_small.Statement.{statement}
 use Rattle.compiled_file.proofs.compiling.compile_small.Tie as tie

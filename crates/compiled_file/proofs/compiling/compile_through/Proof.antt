@@ -1,10 +1,10 @@
 use mathlib.Core.Path.{ap, _∙_}
 use lib.ListN.{length}
 use Rattle.task.specs.Table.{lent}
-use Rattle.compiler.specs.Fills.{tables, room-of}
+use Rattle.compiler.specs.Left.{tables, room-of}
 use Rattle.compiler.specs.declared.CompileAnswer.{CompileAnswer}
 use Rattle.compiler.specs.Left.{answer-of}
-use Rattle.entry_tables.specs.Answers.{refused-compile}
+use Rattle.entry_tables.specs.Inner.Answers.{refused-compile}
 use Rattle.compiled_file.proofs.CompileWays.{no-task-compiled, compiled-kept, compiled-given}
 use borrow.Author.Needs.{needs}
 use Rattle.compiled_file.proofs.compiling.compile_through.Statement.{statement}

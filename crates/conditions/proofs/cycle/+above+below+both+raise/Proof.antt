@@ -26,8 +26,8 @@ use Prim.Native.Nat.{_+_, _-_, _*_}
 use native.Mathlib.Omega.{arith}
 use mathlib.Core.Path.{_≡_, refl, _∙_}
 use lib.ListN.{length}
-use Rattle.formula_builder.specs.Held.{store, sized, stepped, framed}
-use Rattle.conditions.specs.Paths.{Rising}
+use Rattle.formula_builder.specs.Inner.Held.{store, sized, stepped, framed}
+use Rattle.conditions.specs.Inner.Paths.{Rising}
 use Rattle.conditions.proofs.Notes.{small-row}
 use Rattle.conditions.proofs.Cases.{known-join-asks, right-known, right-full, right-join-asks, right-done, asks-on, climbs-on, kept-asks, pass-small, raised-pass, raised, right-lower, right-asks, climbs-both, under-asks, climbs-under}
 use Rattle.conditions.proofs.Descents.{path-read}

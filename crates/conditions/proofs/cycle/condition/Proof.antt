@@ -7,10 +7,10 @@ use Rattle.conditions.proofs.cycle.below.Reads as below-reads
 use Rattle.conditions.proofs.kept.recall.Reads as recall-reads
 use Prim.Native.Nat.{_-_}
 use native.Mathlib.Omega.{arith}
-use Rattle.formula_builder.specs.Held.{store, framed}
+use Rattle.formula_builder.specs.Inner.Held.{store, framed}
 use Rattle.conditions.proofs.Memos.{conditions-stands}
 use Rattle.conditions.proofs.Ascents.{asks-seen, asks-below}
-use Rattle.formula_builder.specs.Held.{sized}
+use Rattle.formula_builder.specs.Inner.Held.{sized}
 
 recall-requires : tie.Need-recall-requires
 recall-requires c κs = asks-seen (c .before .before .before .before .before .before .before .before .pre) .kept

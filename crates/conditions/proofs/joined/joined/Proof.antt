@@ -8,7 +8,7 @@ use Rattle.conditions.proofs.joined.last_join.Reads as last-join-reads
 use Rattle.formula_builder.proofs.join.Reads as join-reads
 use Rattle.conditions.proofs.Joins.{join-ready, join-small, joined-kept, joined-made}
 use mathlib.Core.Path.{refl}
-use Rattle.formula_builder.specs.Held.{framed}
+use Rattle.formula_builder.specs.Inner.Held.{framed}
 
 last-join-requires : tie.Need-last-join-requires
 last-join-requires c κs = c .before .before .before .pre .looks

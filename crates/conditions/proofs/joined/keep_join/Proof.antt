@@ -7,7 +7,7 @@ use native.Mathlib.Omega.{arith}
 use lib.ListN.{length-set}
 use Rattle.conditions.proofs.Joins.{join-room, keep-join-kept, keep-join-none}
 use borrow.Author.Tests.{ne-eqb}
-use Rattle.formula_builder.specs.Held.{framed}
+use Rattle.formula_builder.specs.Inner.Held.{framed}
 
 returns : tie.Need-returns
 returns c = keep-join-none (framed (c .before .args .frame .now)) (c .before .args .notes .now) (c .before .args .t) (c .before .args .e) (c .before .args .l) (c .before .args .r) (c .before .args .x)

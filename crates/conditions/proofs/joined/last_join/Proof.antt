@@ -5,7 +5,7 @@ use Rattle.conditions.proofs.joined.last_join.Reads as reads
 use Rattle.conditions.proofs.joined.last_join.Lts as lts
 use native.Mathlib.Omega.{arith}
 use Rattle.conditions.proofs.Joins.{rejoins-none, rejoins-kept, join-room}
-use Rattle.formula_builder.specs.Held.{framed}
+use Rattle.formula_builder.specs.Inner.Held.{framed}
 
 returns : tie.Need-returns
 returns c = rejoins-none (framed (c .before .args .frame .now)) (c .before .args .notes .now) (c .before .args .t) (c .before .args .e) (c .before .args .l) (c .before .args .r)

@@ -9,7 +9,7 @@ use native.Mathlib.Omega.{arith}
 use lib.ListN.{length-set}
 use Rattle.conditions.proofs.Notes.{keep-kept}
 use Rattle.conditions.proofs.Memos.{keep-row}
-use Rattle.formula_builder.specs.Held.{framed}
+use Rattle.formula_builder.specs.Inner.Held.{framed}
 
 place-requires : tie.Need-place-requires
 place-requires c κs = search needs

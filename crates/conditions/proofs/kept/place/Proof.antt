@@ -9,7 +9,7 @@ use Rattle.conditions.proofs.kept.width_of.Reads as width-of-reads
 use Rattle.formula_builder.proofs.frame_of.Reads as frame-of-reads
 use native.Mathlib.Omega.{arith}
 use lib.ListN.{getD}
-use Rattle.formula_builder.specs.Held.{framed}
+use Rattle.formula_builder.specs.Inner.Held.{framed}
 use Rattle.conditions.proofs.Notes.{place-none, place-small, word-small, place-sum, place-found}
 
 mul-c : tie.Need-mul-c

@@ -9,7 +9,7 @@ use native.Mathlib.Omega.{arith}
 use Rattle.conditions.proofs.Notes.{recall-kept}
 use Rattle.conditions.proofs.Memos.{recall-row, recall-none}
 use mathlib.Core.Path.{_∙_}
-use Rattle.formula_builder.specs.Held.{framed}
+use Rattle.formula_builder.specs.Inner.Held.{framed}
 
 place-requires : tie.Need-place-requires
 place-requires c κs = search needs

@@ -9,9 +9,9 @@ use Prim.Native.Nat.{_-_}
 use native.Mathlib.Omega.{arith}
 use mathlib.Core.Path.{_≡_, refl}
 use lib.ListN.{length, length-set}
-use Rattle.conditions.specs.Paths.{Descending}
+use Rattle.conditions.specs.Inner.Paths.{Descending}
 use Rattle.conditions.proofs.Descents.{descending-none, descending-room, descending-long, descending-turn, descending-asks, descending-more, descended}
-use Rattle.formula_builder.specs.Held.{framed}
+use Rattle.formula_builder.specs.Inner.Held.{framed}
 
 abbrev Inv-loop : tie.InvT-loop
 Inv-loop effects notes₀ scratch frame t e from base depth₀ i₀ known₀ notes depth i known =

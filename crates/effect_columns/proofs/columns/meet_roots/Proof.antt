@@ -7,7 +7,7 @@ use Rattle.effect_columns.proofs.columns.meet.Reads as meet-reads
 use native.Mathlib.Omega.{arith}
 use lib.ListN.{length}
 use borrow.Author.Needs.{needs}
-use Rattle.effect_columns.specs.Columns.{Elsewhere}
+use Rattle.effect_columns.specs.Inner.Columns.{Elsewhere}
 use Rattle.effect_columns.proofs.Settling.{elsewhere-none, elsewhere-then, meets-root}
 use Prim.Native.Nat.{_+_, _-_}
 use mathlib.Core.Path.{_≡_, refl, _∙_}

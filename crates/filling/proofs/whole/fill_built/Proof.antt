@@ -10,10 +10,10 @@ use Prim.Native.Nat.{_-_, _≤_}
 use mathlib.Core.Path.{_≡_, refl, _∙_}
 use native.Mathlib.Omega.{arith}
 use lib.ListN.{length}
-use Rattle.formula_builder.specs.Held.{store}
-use Rattle.building.specs.Taken.{size-at, Taken}
+use Rattle.formula_builder.specs.Inner.Held.{store}
+use Rattle.building.specs.Inner.Taken.{size-at, Taken}
 use Rattle.filling.proofs.Asked.{first-taken, next-asks, last-asks, fills-as}
-use Rattle.changes.specs.Stands.{Leaves}
+use Rattle.changes.specs.Inner.Stands.{Leaves}
 use Rattle.changes.proofs.Standing.{leaves-same}
 
 abbrev Inv-loop : tie.InvT-loop

@@ -5,7 +5,7 @@ use Rattle.formula_builder.proofs.index.head_word.Reads as reads
 use Rattle.formula_builder.proofs.index.head_word.Lts as lts
 use native.Mathlib.Omega.{arith}
 use mathlib.Core.Path.{refl}
-use Rattle.formula_builder.specs.Index.{head-of}
+use Rattle.formula_builder.specs.Inner.Index.{head-of}
 use Rattle.formula_builder.proofs.Indexing.{hash-small}
 
 -- src/index.rt:21:16

@@ -5,7 +5,7 @@ use Rattle.formula_builder.proofs.index.key.Reads as reads
 use Rattle.formula_builder.proofs.index.key.Lts as lts
 use native.Mathlib.Omega.{arith}
 use mathlib.Core.Path.{refl}
-use Rattle.formula_builder.specs.Index.{key-of}
+use Rattle.formula_builder.specs.Inner.Index.{key-of}
 
 -- src/index.rt:12:7
 cast-result : tie.Need-cast-result

@@ -8,7 +8,7 @@ use Rattle.formula_builder.proofs.joins.kind.Reads as kind-reads
 use Rattle.formula_builder.proofs.joins.truth.Reads as truth-reads
 use Rattle.formula_builder.proofs.rows.row.Reads as row-reads
 use Rattle.formula_builder.proofs.Steps.{builds-as, builds-stands, falsity-small, join-left-false, join-right-false, join-left-true, join-right-true, join-fresh}
-use Rattle.formula_builder.specs.Held.{side}
+use Rattle.formula_builder.specs.Inner.Held.{side}
 use Rattle.normal_form.specs.Builder.{row, image-of-false as false-row}
 use Prim.Native.Nat.{ℕ}
 use mathlib.Core.Path.{sym, ap, _∙_}

@@ -10,7 +10,7 @@ use borrow.Author.Needs.{needs}
 use Prim.Native.Nat.{suc, _+_, _-_, _*_}
 use mathlib.Core.Path.{_≡_, sym, _∙_}
 use native.Mathlib.Omega.{arith}
-use Rattle.formula_builder.specs.Held.{row-of}
+use Rattle.formula_builder.specs.Inner.Held.{row-of}
 use Rattle.formula_builder.proofs.Indexing.{Walks, remaining, walk-begins, walk-below, walk-less, walk-goes-on, walk-finds, walk-ends}
 
 abbrev Inv-loop : tie.InvT-loop

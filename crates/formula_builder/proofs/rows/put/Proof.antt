@@ -7,7 +7,7 @@ use Rattle.formula_builder.proofs.rows.append_row.Reads as append-row-r
 use Rattle.formula_builder.proofs.rows.find_word.Reads as find-word-reads
 use native.Mathlib.Omega.{arith}
 use mathlib.Core.Path.{refl}
-use Rattle.formula_builder.specs.Index.{stood, no-room, behind}
+use Rattle.formula_builder.specs.Inner.Index.{stood, no-room, behind}
 
 -- src/rows.rt:119:9
 find-word-requires : tie.Need-find-word-requires

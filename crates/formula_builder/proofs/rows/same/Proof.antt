@@ -7,7 +7,7 @@ use Rattle.formula_builder.proofs.rows.read_row.Reads as read-row-reads
 use mathlib.Core.Path.{ap, _∙_}
 use Rattle.task.specs.Table.{Row}
 use Rattle.normal_form.specs.Builder.{same-row}
-use Rattle.formula_builder.specs.Held.{row-of}
+use Rattle.formula_builder.specs.Inner.Held.{row-of}
 use Rattle.formula_builder.proofs.Found.{other-a, other-b, by-kind}
 
 -- src/rows.rt:30:9

@@ -5,7 +5,7 @@ use Rattle.formula_builder.proofs.twins.twin_row.Reads as reads
 use Rattle.formula_builder.proofs.twins.twin_row.Lts as lts
 use Rattle.formula_builder.proofs.rows.variable_row.Reads as variable-row-reads
 use Rattle.formula_builder.proofs.Named.{twin-known, twin-full, twin-over, twin-put}
-use Rattle.formula_builder.specs.Held.{framed}
+use Rattle.formula_builder.specs.Inner.Held.{framed}
 use native.Mathlib.Omega.{arith}
 use mathlib.Core.Path.{refl}
 

@@ -58,9 +58,9 @@ use lib.ListN.{getD}
 use Rattle.normal_form.specs.Builder.{plain, negated}
 use Rattle.normal_form.proofs.Growth.{steady-join}
 use Rattle.formula_builder.specs.declared.Size.{Size}
-use Rattle.formula_builder.specs.Held.{Store, store, side, sized, stepped, framed}
+use Rattle.formula_builder.specs.Inner.Held.{Store, store, side, sized, stepped, framed}
 use borrow.Author.Tests.{eq-eqb, ne-eqb}
-use Rattle.images.specs.Images.{equivalent-at as equivalent-built}
+use Rattle.images.specs.Inner.Images.{equivalent-at as equivalent-built}
 use Rattle.images.proofs.Memos.{steady-image-at, steady-pair-at, images-as, asks-next, images-leaf, pair-left-full, pair-right-full, pair-done, row-word}
 use Rattle.images.proofs.Cases.{join-asks, kept-refl, kept-then, kept-from, asks-lower, asks-row, reaches-known, up-asks, asks-join, asks-second, pair-left, pair-right, pair-read, past-three, left-lower, right-lower, leaf-ready, start-none, start-own, start-other}
 use Rattle.images.proofs.Rising.{up-full, up-not, up-leaf, up-right-full, up-join, up-equivalent}

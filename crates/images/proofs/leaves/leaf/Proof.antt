@@ -9,7 +9,7 @@ use mathlib.Core.Path.{refl}
 use Rattle.normal_form.specs.Builder.{plain, negated}
 use Rattle.formula_builder.proofs.Steps.{builds-as}
 use Rattle.images.proofs.Rising.{leaf-twin, leaf-copied, leaf-constant}
-use Rattle.formula_builder.specs.Held.{framed}
+use Rattle.formula_builder.specs.Inner.Held.{framed}
 
 twin-row-requires : tie.Need-twin-row-requires
 twin-row-requires c κs = (c .before .before .before .before .before .before .before .before .before .pre .ready, c .before .before .before .before .before .before .before .before .before .pre .variable (c .before .before .before .before .before .if1 .taken))

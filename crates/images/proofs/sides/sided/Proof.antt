@@ -11,9 +11,9 @@ use native.Mathlib.Omega.{arith}
 use mathlib.Core.Path.{refl, sym, _∙_}
 use lib.ListN.{getD}
 use Rattle.normal_form.specs.Builder.{plain, negated}
-use Rattle.formula_builder.specs.Held.{store, framed}
+use Rattle.formula_builder.specs.Inner.Held.{store, framed}
 use Rattle.images.proofs.Memos.{row-word, images-known}
-use Rattle.formula_builder.specs.Held.{sized}
+use Rattle.formula_builder.specs.Inner.Held.{sized}
 
 element-copy-out-known : tie.Need-element-copy-out-known
 element-copy-out-known c = search needs

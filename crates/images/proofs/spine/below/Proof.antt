@@ -9,7 +9,7 @@ use Rattle.images.proofs.memo.word_of.Reads as word-of-reads
 use Rattle.images.proofs.spine.keeps_side.Reads as keeps-side-reads
 use mathlib.Core.Path.{_≡_, refl, sym, _∙_}
 use native.Mathlib.Omega.{arith}
-use Rattle.formula_builder.specs.Held.{side, framed}
+use Rattle.formula_builder.specs.Inner.Held.{side, framed}
 use Rattle.images.proofs.Memos.{place-within}
 use Rattle.images.proofs.Climbing.{over-read, lower-none, lower-some}
 

@@ -6,10 +6,10 @@ use Rattle.images.proofs.memo.word_of.Reads as word-of-reads
 use Rattle.images.proofs.spine.below.Reads as below-reads
 use mathlib.Core.Path.{_≡_, refl, sym, _∙_}
 use native.Mathlib.Omega.{arith}
-use Rattle.formula_builder.specs.Held.{side, framed}
+use Rattle.formula_builder.specs.Inner.Held.{side, framed}
 use Rattle.images.proofs.Memos.{place-within}
 use lib.ListN.{length, length-set}
-use Rattle.images.specs.Images.{Lower, Descends}
+use Rattle.images.specs.Inner.Images.{Lower, Descends}
 use Rattle.images.proofs.Climbing.{climb-within, descend-begins, descend-more, asks-down}
 
 abbrev Inv-loop : tie.InvT-loop

@@ -3,7 +3,7 @@ use Rattle.images.proofs.spine.keeps_side.Tie as tie
 use Rattle.images.proofs.spine.keeps_side.Reads as reads
 use Rattle.images.proofs.spine.keeps_side.Lts as lts
 use borrow.Author.Tests.{le-ltb}
-use Rattle.formula_builder.specs.Held.{side}
+use Rattle.formula_builder.specs.Inner.Held.{side}
 use Rattle.images.proofs.Rows.{keeps-low}
 
 returns : tie.Need-returns

@@ -1,5 +1,5 @@
 use Rattle.task.specs.Table.{lent}
-use Rattle.layouts.specs.Giving.{flat-bytes}
+use Rattle.layouts.specs.Inner.Giving.{flat-bytes}
 use Rattle.layouts.proofs.LayWays.{too-short, fitted}
 use borrow.Author.Needs.{needs}
 use Rattle.layouts.proofs.laying.lay.Statement.{statement}

@@ -11,9 +11,9 @@ use Prim.Native.Nat.{_-_}
 use mathlib.Core.Path.{_≡_, refl, _∙_}
 use native.Mathlib.Omega.{arith}
 use lib.ListN.{length}
-use Rattle.formula_builder.specs.Held.{store, held}
+use Rattle.formula_builder.specs.Inner.Held.{store, held}
 use Rattle.operators.proofs.Walks.{change-asks, change-made, looks-on, looks-at, Walking, walking-begins, walking-asks, walking-keeps, walking-stops, walking-more, walking-ends}
-use Rattle.conditions.specs.Conditions.{Noted}
+use Rattle.conditions.specs.Inner.Conditions.{Noted}
 use Rattle.changes.proofs.Standing.{leaves-same, leaves-full}
 
 abbrev Inv-loop : tie.InvT-loop

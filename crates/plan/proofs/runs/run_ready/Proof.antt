@@ -6,7 +6,7 @@ use native.Mathlib.Omega.{arith}
 use mathlib.Core.Path.{_≡_, refl, _∙_}
 use lib.ListN.{length}
 use borrow.Author.Needs.{needs}
-use Rattle.steps.specs.Steps.{running}
+use Rattle.steps.specs.Inner.Steps.{running}
 use Rattle.steps.proofs.Taking.{valuable, goal-told, ready-again}
 use Rattle.plan.proofs.Running.{Goes, starts, one-more, after-ready, stopped-run, ended-run}
 

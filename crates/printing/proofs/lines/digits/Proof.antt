@@ -3,7 +3,7 @@ use native.Mathlib.Omega.{arith}
 use mathlib.Core.List.{map}
 use lib.ListN.{take}
 use Rattle.printing.specs.Lines.{digit}
-use Rattle.printing.specs.Put.{Put}
+use Rattle.printing.specs.Inner.Put.{Put}
 use Rattle.printing.proofs.Puts.{nothing-put, then-put, put-as, put-length, put-ends}
 use Rattle.printing.proofs.Texts.{digits-more}
 use Rattle.printing.proofs.lines.digits.Statement.{statement}

@@ -2,7 +2,7 @@ use native.Mathlib.Omega.{arith}
 use borrow.Author.Needs.{needs}
 use Rattle.printing.proofs.Puts.{then-put, put-as}
 use Rattle.printing.proofs.Texts.{line-counts}
-use Rattle.printing.specs.Put.{counts-of}
+use Rattle.printing.specs.Inner.Put.{counts-of}
 use Rattle.printing.proofs.lines.head_line.Statement.{statement}
 use Rattle.printing.proofs.lines.head_line.Tie as tie
 

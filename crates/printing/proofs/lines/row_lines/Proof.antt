@@ -4,7 +4,7 @@ use native.Mathlib.Nat.{zero-add}
 use mathlib.Core.Path.{sym}
 use Rattle.task.specs.Bounded.{upto}
 use Rattle.printing.specs.Lines.{numbered}
-use Rattle.printing.specs.Put.{Put, words-at}
+use Rattle.printing.specs.Inner.Put.{Put, words-at}
 use Rattle.printing.proofs.Puts.{put-length, put-ends}
 use Rattle.printing.proofs.Texts.{rows-none, rows-more}
 use Rattle.printing.proofs.lines.row_lines.Statement.{statement}

@@ -3,7 +3,7 @@ use native.Mathlib.Omega.{arith}
 use mathlib.Core.Path.{refl}
 use Rattle.task.specs.Bounded.{upto}
 use Rattle.printing.specs.Lines.{numbered}
-use Rattle.printing.specs.Put.{Put, original-at}
+use Rattle.printing.specs.Inner.Put.{Put, original-at}
 use Rattle.printing.proofs.Puts.{put-length, put-ends}
 use Rattle.printing.proofs.Texts.{rows-none, rows-more}
 use Rattle.printing.proofs.lines.twin_lines.Statement.{statement}

@@ -2,7 +2,7 @@ use Rattle.records.proofs.keep.brings_none.Statement.{statement}
 use Rattle.records.proofs.keep.brings_none.Tie as tie
 use Rattle.records.proofs.keep.brings_none.Reads as reads
 use Rattle.records.proofs.keep.brings_none.Lts as lts
-use Rattle.rule_writer.specs.Writes.{changes-in}
+use Rattle.rule_writer.specs.Inner.Writes.{changes-in}
 use Rattle.records.proofs.Keeping.{is-added, by-deletes}
 
 -- src/keep.rt:14:9

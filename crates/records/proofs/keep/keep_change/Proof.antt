@@ -7,7 +7,7 @@ use Rattle.records.proofs.keep.brings_none.Reads as brings-none-reads
 use Rattle.rule_writer.proofs.store.Reads as store-reads
 use mathlib.Core.Path.{sym, _∙_}
 use native.Mathlib.Omega.{arith}
-use Rattle.rule_writer.specs.Writes.{changes-in}
+use Rattle.rule_writer.specs.Inner.Writes.{changes-in}
 use Rattle.records.proofs.Keeping.{recorded-idle, recorded-past, recorded-one}
 
 -- src/keep.rt:24:9

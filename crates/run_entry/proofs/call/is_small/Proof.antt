@@ -1,6 +1,6 @@
 use native.Mathlib.Omega.{arith}
 use borrow.Author.Tests.{lt-leb, le-leb}
-use Rattle.run_entry.specs.Giving.{small-run}
+use Rattle.run_entry.specs.Inner.Giving.{small-run}
 use borrow.Author.Needs.{needs}
 use Rattle.run_entry.proofs.call.is_small.Statement.{statement}
 use Rattle.run_entry.proofs.call.is_small.Tie as tie

@@ -1,8 +1,8 @@
 use mathlib.Core.Path.{ap, _∙_}
 use lib.ListN.{length}
 use Rattle.task_file.proofs.ReadWays.{bytes-from}
-use Rattle.task_file.specs.Answers.{lengths}
-use Rattle.entry_tables.specs.Answers.{refused-number}
+use Rattle.task_file.specs.Outcome.{lengths}
+use Rattle.entry_tables.specs.Inner.Answers.{refused-number}
 use Rattle.entry_tables.proofs.Reading.{read-as, refused-as}
 use Rattle.run_entry.proofs.RunWays.{run-read, run-no-file}
 use borrow.Author.Needs.{needs}

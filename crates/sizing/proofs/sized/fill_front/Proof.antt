@@ -9,7 +9,7 @@ use Rattle.own_tables.proofs.fill_small.Reads as fill-small-reads
 use mathlib.Core.Path.{sym}
 use lib.Seq.{length-take-le}
 use Rattle.task.specs.Table.{lent}
-use Rattle.lent_tables.specs.Fills.{tables}
+use Rattle.lent_tables.specs.Tables.{tables}
 use Rattle.lent_tables.proofs.Source.{few-variables}
 use Rattle.sizing.proofs.Front.{front-begins, front-tried}
 

@@ -7,7 +7,7 @@ use Rattle.lent_tables.proofs.least.Reads as least-reads
 use Rattle.lent_tables.proofs.most_twins.Reads as most-twins-reads
 use Rattle.own_tables.proofs.fill.Reads as fill-reads
 use Rattle.task.specs.Table.{lent}
-use Rattle.lent_tables.specs.Fills.{tables}
+use Rattle.lent_tables.specs.Tables.{tables}
 use Rattle.lent_tables.proofs.Source.{few-variables}
 use Rattle.sizing.proofs.Front.{begins}
 

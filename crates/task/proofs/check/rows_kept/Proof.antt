@@ -5,7 +5,7 @@ use mathlib.Core.Bool.{true}
 use borrow.Author.Tests.{not-true, not-false}
 use borrow.Author.Needs.{needs}
 use Rattle.task.specs.Bounded.{every}
-use Rattle.task.specs.Tables.{row-kept}
+use Rattle.task.specs.Inner.Tables.{row-kept}
 use Rattle.task.proofs.Bounded.{every-none, every-more, every-stops, every-ends}
 use Rattle.task.proofs.Refusals.{row-by-words}
 use Rattle.task.proofs.check.rows_kept.Statement.{statement}

@@ -1,6 +1,7 @@
 use mathlib.Core.Path.{_≡_, refl, sym, ap, _∙_}
 use lib.ListN.{length}
-use Rattle.task_file.specs.Answers.{head-told, no-task, lost-place, lengths}
+use Rattle.task_file.specs.Inner.Answers.{head-told, no-task, lost-place}
+use Rattle.task_file.specs.Outcome.{lengths}
 use Rattle.task_file.proofs.ReadWays.{bytes-from, head-room, head-lost, table-lost, bytes-left, task-held, room-kept}
 use borrow.Author.Needs.{needs}
 use Rattle.task_file.proofs.read.fill.Statement.{statement}

@@ -1,5 +1,5 @@
 use mathlib.Core.Path.{_≡_, refl, sym, ap, _∙_}
-use Rattle.task_file.specs.Answers.{lost-place}
+use Rattle.task_file.specs.Inner.Answers.{lost-place}
 use borrow.Author.Needs.{needs}
 use Rattle.task_file.proofs.read.lost.Statement.{statement}
 use Rattle.task_file.proofs.read.lost.Tie as tie

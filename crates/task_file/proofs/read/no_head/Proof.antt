@@ -1,5 +1,5 @@
 use mathlib.Core.Path.{_≡_, refl, sym, ap, _∙_}
-use Rattle.task_file.specs.Answers.{no-task}
+use Rattle.task_file.specs.Inner.Answers.{no-task}
 use borrow.Author.Needs.{needs}
 use Rattle.task_file.proofs.read.no_head.Statement.{statement}
 use Rattle.task_file.proofs.read.no_head.Tie as tie

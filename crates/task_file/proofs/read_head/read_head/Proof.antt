@@ -1,6 +1,6 @@
 use mathlib.Core.Path.{_≡_, refl, sym, ap, _∙_}
 use native.Mathlib.Omega.{arith}
-use Rattle.task_file.specs.Answers.{row-told, head-told, lost-head}
+use Rattle.task_file.specs.Inner.Answers.{row-told, head-told, lost-head}
 use Rattle.task_file.proofs.HeadWays.{head-ends, head-unclear, lower-refused, upper-refused, head-there, pos}
 use borrow.Author.Needs.{needs}
 use Rattle.task_file.proofs.read_head.read_head.Statement.{statement}

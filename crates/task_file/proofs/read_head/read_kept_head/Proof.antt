@@ -1,6 +1,7 @@
 use mathlib.Core.Path.{_≡_, refl, sym, ap, _∙_}
 use borrow.Author.Tests.{not-true, not-false}
-use Rattle.task_file.specs.Answers.{head-told, lengths}
+use Rattle.task_file.specs.Inner.Answers.{head-told}
+use Rattle.task_file.specs.Outcome.{lengths}
 use Rattle.task_file.proofs.HeadWays.{no-head, six, seven, five, all-kept}
 use borrow.Author.Needs.{needs}
 use Rattle.task_file.proofs.read_head.read_kept_head.Statement.{statement}

@@ -1,5 +1,5 @@
 use mathlib.Core.Path.{_≡_, refl, sym, ap, _∙_}
-use Rattle.task_file.specs.Answers.{lost-head}
+use Rattle.task_file.specs.Inner.Answers.{lost-head}
 use borrow.Author.Needs.{needs}
 use Rattle.task_file.proofs.read_head.refused.Statement.{statement}
 use Rattle.task_file.proofs.read_head.refused.Tie as tie

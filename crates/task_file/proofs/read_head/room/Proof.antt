@@ -1,4 +1,4 @@
-use Rattle.task_file.specs.Answers.{lengths}
+use Rattle.task_file.specs.Outcome.{lengths}
 use Rattle.task_file.proofs.HeadWays.{room-last}
 use mathlib.Core.Path.{_≡_, refl, sym, ap, _∙_}
 use borrow.Author.Tests.{lt-leb, le-leb}

@@ -2,7 +2,7 @@ use mathlib.Core.Path.{_≡_, sym, ap, _∙_}
 use lib.ListN.{drop}
 use native.Mathlib.Omega.{arith}
 use borrow.Author.Tests.{not-true, not-false}
-use Rattle.task_file.specs.Answers.{row-told}
+use Rattle.task_file.specs.Inner.Answers.{row-told}
 use Rattle.task_file.proofs.Places.{byte-ends, byte-here}
 use Rattle.task_file.proofs.RowWords.{row-ends, row-unclear, row-refused, row-there}
 use borrow.Author.Needs.{needs}

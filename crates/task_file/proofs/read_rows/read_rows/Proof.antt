@@ -3,7 +3,7 @@ use lib.ListN.{length, drop, length-set}
 use Prim.Native.Nat.{_-_}
 use native.Mathlib.Omega.{arith}
 use borrow.Author.Needs.{needs}
-use Rattle.task_file.specs.Answers.{row-told, lost-row}
+use Rattle.task_file.specs.Inner.Answers.{row-told, lost-row}
 use Rattle.task_file.proofs.Loops.{RowsDone, rows-begin, rows-refused, rows-more, rows-end}
 use Rattle.task_file.proofs.read_rows.read_rows.Statement.{statement}
 use Rattle.task_file.proofs.read_rows.read_rows.Tie as tie

@@ -1,5 +1,5 @@
 use mathlib.Core.Path.{_≡_, refl, sym, ap, _∙_}
-use Rattle.task_file.specs.Answers.{lost-row}
+use Rattle.task_file.specs.Inner.Answers.{lost-row}
 use borrow.Author.Needs.{needs}
 use Rattle.task_file.proofs.read_rows.refused.Statement.{statement}
 use Rattle.task_file.proofs.read_rows.refused.Tie as tie

@@ -4,7 +4,7 @@ use Prim.Native.Nat.{_-_, _<_}
 use native.Mathlib.Omega.{arith}
 use borrow.Author.Needs.{needs}
 use Rattle.task.proofs.Named.{NamedBy, named-none}
-use Rattle.task_file.specs.Answers.{field-told, lost-word}
+use Rattle.task_file.specs.Inner.Answers.{field-told, lost-word}
 use Rattle.task_file.proofs.TwinRows.{twin-high, twin-before, twin-now, twin-marked, TwinsDone, twins-begin, twins-ended, twins-broken, twins-more, twins-end}
 use Rattle.task_file.proofs.read_twins.read_twins.Statement.{statement}
 use Rattle.task_file.proofs.read_twins.read_twins.Tie as tie

@@ -1,5 +1,5 @@
 use mathlib.Core.Path.{_≡_, refl, sym, ap, _∙_}
-use Rattle.task_file.specs.Answers.{lost-word}
+use Rattle.task_file.specs.Inner.Answers.{lost-word}
 use borrow.Author.Needs.{needs}
 use Rattle.task_file.proofs.read_twins.refused.Statement.{statement}
 use Rattle.task_file.proofs.read_twins.refused.Tie as tie

@@ -1,7 +1,7 @@
 use mathlib.Core.Path.{_≡_, sym, ap, _∙_}
 use lib.ListN.{drop}
 use borrow.Author.Needs.{needs}
-use Rattle.task_file.specs.Answers.{field-told}
+use Rattle.task_file.specs.Inner.Answers.{field-told}
 use Rattle.task_file.proofs.Places.{field-absent, field-refused, field-zero, field-there}
 use Rattle.task_file.proofs.word.read_field.Statement.{statement}
 use Rattle.task_file.proofs.word.read_field.Tie as tie

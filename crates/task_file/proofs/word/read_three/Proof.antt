@@ -1,6 +1,6 @@
 use mathlib.Core.Path.{_≡_, sym, ap, _∙_}
 use lib.ListN.{drop}
-use Rattle.task_file.specs.Answers.{field-told, row-told, carried}
+use Rattle.task_file.specs.Inner.Answers.{field-told, row-told, carried}
 use Rattle.task_file.proofs.RowWords.{first-refused, second-refused, third-refused, three-there}
 use borrow.Author.Needs.{needs}
 use Rattle.task_file.proofs.word.read_three.Statement.{statement}

@@ -1,5 +1,5 @@
 use mathlib.Core.Path.{sym, ap}
-use Rattle.task_file.specs.Answers.{carried}
+use Rattle.task_file.specs.Inner.Answers.{carried}
 use borrow.Author.Needs.{needs}
 use Rattle.task_file.proofs.word.refused.Statement.{statement}
 use Rattle.task_file.proofs.word.refused.Tie as tie

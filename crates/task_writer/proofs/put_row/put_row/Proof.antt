@@ -2,7 +2,7 @@ use mathlib.Core.Path.{_≡_, refl, sym, ap, subst, _∙_}
 use native.Mathlib.Omega.{arith}
 use Rattle.task.specs.declared.Table.{Table}
 use Rattle.task.specs.declared.Table.the-variants.{Formulas, Effects, Operators}
-use Rattle.task_writer.specs.Putting.{Put, MapFits, three-bytes}
+use Rattle.task_writer.specs.Inner.Putting.{Put, MapFits, three-bytes}
 use borrow.Author.Needs.{needs}
 use Rattle.task_writer.proofs.put_row.put_row.Statement.{statement}
 use Rattle.task_writer.proofs.put_row.put_row.Tie as tie
