@@ -7,3 +7,4 @@ pub mod Tables
 pub mod Whole
 pub mod RoundTrip
 pub mod Smallest
+pub mod Numbers

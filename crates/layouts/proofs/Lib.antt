@@ -1,2 +1,3 @@
 pub mod LayWays
 pub mod RunWays
+pub mod Sizes

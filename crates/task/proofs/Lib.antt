@@ -14,3 +14,4 @@ pub mod Marks
 pub mod Changes
 pub mod KindNumbers
 pub mod Cleared
+pub mod Stops
