@@ -19,7 +19,7 @@ use Rattle.file_format.proofs.RoundTrip.{read-written, written-read, cut-short,
 use Rattle.task_writer.proofs.Calls.{read-after-write, write-after-read}
 use Rattle.claims.specs.Statements.{OfBytes}
 
-of-bytes : (file : List ℕ) → ((i : ℕ) → i < length file → getD file i 0 < 256) → Bytes file
+pub of-bytes : (file : List ℕ) → ((i : ℕ) → i < length file → getD file i 0 < 256) → Bytes file
 of-bytes [] h = tt
 of-bytes (x ∷ rest) h = (h 0 (omega arith), of-bytes rest (λ i b. h (suc i) (omega arith)))
 

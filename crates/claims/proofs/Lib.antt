@@ -6,3 +6,4 @@ pub mod DemandTwoProgram
 pub mod DemandThree
 pub mod DemandThreeCalls
 pub mod Examples
+pub mod Refusals
