@@ -7,3 +7,4 @@ pub mod DemandThree
 pub mod DemandThreeCalls
 pub mod Examples
 pub mod Numbers
+pub mod Refusals

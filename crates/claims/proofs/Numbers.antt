@@ -36,7 +36,7 @@ use Rattle.compiled_file.specs.Filed.{filed-by, filed, compiled-file-by, compil
 use Rattle.compile_entry.specs.Entry.{compile-entry, compile-entry-by}
 use Rattle.run_entry.specs.Entry.{run-given, run-entry, run-entry-by}
 use Rattle.claims.specs.Statements.{OfBytes}
-use Rattle.claims.specs.Numbers.{Given, broken, keeps, no-rule-left, tables-numbers, write-number, compile-answer-number, end-number, write-numbers, compile-numbers, StateRule, state-numbers, step-numbers, run-numbers, FileGiven, not-read, was-read, read-entry-numbers, FileFits, compile-entry-numbers, SequenceRule, StopNumber, not-stopped, stopped-by, run-entry-numbers}
+use Rattle.claims.specs.Numbers.{Given, broken, keeps, no-rule-left, tables-numbers, write-number, compile-answer-number, end-number, write-numbers, compile-numbers, StateRule, state-numbers, step-numbers, run-numbers, FileNumber, not-read, was-read, read-entry-numbers, FileFits, compile-entry-numbers, SequenceRule, StopNumber, no-stop, stopped-by, run-entry-numbers}
 use Rattle.claims.proofs.DemandTwoFiles.{file-accepted-exactly-if}
 
 -- a test and its rule
@@ -305,7 +305,7 @@ run-told-number t s q r false b c = refl
 
 stop-told : (stop : Stop) → StopNumber stop (stop-number stop)
 unfolding stop-number
-stop-told ended = not-stopped refl refl
+stop-told ended = no-stop refl refl
 stop-told (stopped n) = stopped-by refl
 
 module _ (file : List ℕ) (bytes : OfBytes file) where
@@ -313,10 +313,10 @@ module _ (file : List ℕ) (bytes : OfBytes file) where
       (behind : Task → ℕ → Type 0) (number : Verdict → ℕ)
       → ((k : ℕ) → number (rejected k) ≡ k)
       → ((t : Task) → Rules t → behind t (number (accepted t)))
-      → FileGiven file behind (number (reading own file))
+      → FileNumber file behind (number (reading own file))
   file-given behind number refusal-told rest = go (reading own file) refl
     where
-      go : (o : Verdict) → reading own file ≡ o → FileGiven file behind (number (reading own file))
+      go : (o : Verdict) → reading own file ≡ o → FileNumber file behind (number (reading own file))
       go (accepted t) e =
           let a = file-accepted-exactly-if own file t bytes .0 e in
           was-read t (a .0) (a .1) (rw e (rest t (a .1)))

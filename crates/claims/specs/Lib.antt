@@ -2,3 +2,4 @@ pub mod Statements
 pub mod Told
 pub mod Examples
 pub mod Numbers
+pub mod Zero

@@ -96,13 +96,13 @@ run-numbers l s numbers scratch = state-numbers l s scratch (Given (length numbe
 
 -- The C entries. A file is refused with reading's number, which is never 0; or it is the file of a task that keeps the rules, and n is what the places
 -- behind reading give.
-pub data FileGiven (file : List ℕ) (behind : Task → ℕ → Type 0) (n : ℕ) : Type 0 where
-  not-read : reading own file ≡ rejected n → (n ≡ 0 → ⊥) → FileGiven file behind n
-  was-read : (t : Task) → file ≡ file-of t → Rules t → behind t n → FileGiven file behind n
+pub data FileNumber (file : List ℕ) (behind : Task → ℕ → Type 0) (n : ℕ) : Type 0 where
+  not-read : reading own file ≡ rejected n → (n ≡ 0 → ⊥) → FileNumber file behind n
+  was-read : (t : Task) → file ≡ file-of t → Rules t → behind t n → FileNumber file behind n
 
 -- pnf_read: 20, the buffer of n bytes shorter than the layout
 abbrev pub read-entry-numbers : (file : List ℕ) → (n : ℕ) → ℕ → Type 0
-read-entry-numbers file n = FileGiven file (λ t. Given (length (tables-bytes t) ≤ n) 20 no-rule-left)
+read-entry-numbers file n = FileNumber file (λ t. Given (length (tables-bytes t) ≤ n) 20 no-rule-left)
 
 -- pnf_compile: 13, 15, then 20, one of the outputs too short
 pub record FileFits (t : Task) (o r : ℕ) : Type 0 where
@@ -111,7 +111,7 @@ pub record FileFits (t : Task) (o r : ℕ) : Type 0 where
 
 abbrev pub compile-entry-numbers : (file : List ℕ) → (o r : ℕ) → ℕ → Type 0
 compile-entry-numbers file o r =
-    FileGiven file
+    FileNumber file
     (λ t. Given (length (t .originals) ≡ 0) 13 (Given (Limits (finished t)) 15 (Given (FileFits (finished t) o r) 20 no-rule-left)))
 
 -- pnf_run: 16, then 19, also for half a number, then 20
@@ -121,12 +121,12 @@ pub record SequenceRule (sequence : List ℕ) : Type 0 where
 
 -- a run that is not refused gives the number of its stop, 17 or 18, or 0
 pub data StopNumber (stop : Stop) (n : ℕ) : Type 0 where
-  not-stopped : stop ≡ ended → n ≡ 0 → StopNumber stop n
+  no-stop : stop ≡ ended → n ≡ 0 → StopNumber stop n
   stopped-by : stop ≡ stopped n → StopNumber stop n
 
 abbrev pub run-entry-numbers : (file state sequence : List ℕ) → (r : ℕ) → ℕ → Type 0
 run-entry-numbers file state sequence r =
-    FileGiven file
+    FileNumber file
     (λ t.
     Given (StateRule (length (t .initial)) state) 16
     (Given (SequenceRule sequence) 19

@@ -1,3 +1,4 @@
 pub mod LayWays
 pub mod RunWays
 pub mod RunBytes
+pub mod Sizes

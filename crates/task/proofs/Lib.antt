@@ -17,3 +17,4 @@ pub mod Cleared
 pub mod Sixteen
 pub mod Runs
 pub mod RowParts
+pub mod Stops
