@@ -1,2 +1,5 @@
 pub mod Statements
 pub mod Examples
+pub mod Order
+pub mod Files
+pub mod Program

@@ -6,4 +6,5 @@ pub mod Initial
 pub mod Tables
 pub mod Whole
 pub mod RoundTrip
+pub mod Numbers
 pub mod Smallest
