@@ -5,6 +5,7 @@ use mathlib.Core.Path.{_≡_, sym}
 use mathlib.Core.Logic.{_↔_}
 use mathlib.Core.List.{List, [], _∷_, _++_}
 use lib.ListN.{length, take}
+use Rattle.task.specs.declared.Head.{Head}
 use Rattle.task.specs.Table.{Lent, Task, lent, task-of}
 use Rattle.task.specs.Check.{refusal}
 use Rattle.task.specs.Rules.{Rules, HasRoom}
@@ -12,13 +13,17 @@ use Rattle.task.proofs.Sixteen.{rules-with-costs}
 use Rattle.task.specs.Words.{head-of}
 use Rattle.file_format.specs.Bytes.{file-of}
 use Rattle.file_format.specs.Reading.{Lengths, accepted, rejected, reading}
+use Rattle.task_file.specs.declared.ReadAnswer.the-variants.{Read}
 use Rattle.task_file.specs.Outcome.{outcome-of, read-outcome}
+use Rattle.task_writer.specs.declared.WriteAnswer.the-variants.{Written}
 use Rattle.task_writer.specs.Writing.{file-outcome, write-outcome}
 use Rattle.file_format.proofs.Parse.{Bytes}
 use Rattle.file_format.proofs.RoundTrip.{read-written, written-read, cut-short, bytes-follow, apart}
 use Rattle.file_format.proofs.OfBytes.{bytes-each, each-byte, file-is-bytes, costs-of-bytes}
 use Rattle.task_writer.proofs.Calls.{read-after-write, write-after-read}
+use Rattle.task_writer.proofs.Told.{head-again, initial-again, twins-again, formulas-again, effects-again, operators-again, length-again, bytes-again}
 use Rattle.claims.specs.Statements.{OfBytes}
+use Rattle.claims.specs.Files.{SameTables, SameFile}
 
 -- what was read of bytes keeps the rules
 read-rules : (l : Lengths) (file : List ℕ) (t : Task) → Bytes file → reading l file ≡ accepted t → Rules t
@@ -46,15 +51,31 @@ file-of-a-task t rules = record { byte = each-byte (file-of t) (file-is-bytes t 
 pub reading-what-was-written : (l : Lengths) (t : Task) → Rules t → HasRoom l t → reading l (file-of t) ≡ accepted t
 reading-what-was-written l t rules room = read-written l t (rules .checked) room
 
--- .. and of the two calls: tables that pass the check, written into an output that is long enough and read again into tables that are, give the same
--- head and the same words, and 0 behind them.
+-- .. and of the two calls: where writing answers "written, k bytes", those k bytes, read into tables that are long enough, give the same head and
+-- the same words.
 pub read-gives-what-was-written :
+    (l : Lent) (n k : ℕ) (lengths : Lengths)
+    → write-outcome l n .answer ≡ Written k
+    → HasRoom lengths (task-of l)
+    → SameTables l (read-outcome lengths (take k (write-outcome l n .out)))
+read-gives-what-was-written l n k lengths told room =
+    record {
+      head = head-again l n k lengths told room;
+      initial = initial-again l n k lengths told room;
+      twins = twins-again l n k lengths told room;
+      formulas = formulas-again l n k lengths told room;
+      effects = effects-again l n k lengths told room;
+      operators = operators-again l n k lengths told room;
+    }
+
+-- The whole outcome of that reading, with 0 behind the words.
+pub outcome-of-what-was-written :
     (l : Lent) (n : ℕ) (lengths : Lengths)
     → refusal l ≡ 0
     → length (file-of (task-of l)) ≤ n
     → HasRoom lengths (task-of l)
     → read-outcome lengths (take (length (file-of (task-of l))) (write-outcome l n .out)) ≡ outcome-of lengths (accepted (task-of l))
-read-gives-what-was-written l n lengths passed fits room = read-after-write l n lengths passed fits room
+outcome-of-what-was-written l n lengths passed fits room = read-after-write l n lengths passed fits room
 
 -- Writing what reading gave yields the same bytes, so one task has one file ..
 pub writing-what-was-read :
@@ -64,14 +85,30 @@ pub writing-what-was-read :
     → file-of t ≡ file
 writing-what-was-read l file t bytes e = sym (written-read l file t (bytes-each file (bytes .byte)) e .same)
 
--- .. and of the two calls: an accepted file, read and written again, gives the same bytes, or 20 if the output is shorter.
+-- .. and of the two calls: where reading answers "read, head h", the tables that it gave, written with that head into an output that is long enough,
+-- give the file's length and its bytes.
 pub write-gives-what-was-read :
+    (lengths : Lengths) (file : List ℕ) (h : Head) (n : ℕ)
+    → OfBytes file
+    → read-outcome lengths file .answer ≡ Read h
+    → length file ≤ n
+    → let o = read-outcome lengths file in
+    SameFile file (write-outcome (lent h (o .initial) (o .twins) (o .formulas) (o .effects) (o .operators)) n)
+write-gives-what-was-read lengths file h n bytes told fits =
+    let b = bytes-each file (bytes .byte) in
+    record {
+      written = length-again lengths file h n b told fits;
+      bytes = bytes-again lengths file h n b told fits;
+    }
+
+-- The whole outcome of that writing: the file and 0 behind it, or 20 if the output is shorter.
+pub outcome-of-what-was-read :
     (lengths : Lengths) (file : List ℕ) (t : Task) (n : ℕ)
     → OfBytes file
     → reading lengths file ≡ accepted t
     → let o = read-outcome lengths file in
     write-outcome (lent (head-of t) (o .initial) (o .twins) (o .formulas) (o .effects) (o .operators)) n ≡ file-outcome file n
-write-gives-what-was-read lengths file t n bytes e =
+outcome-of-what-was-read lengths file t n bytes e =
     write-after-read lengths file t n (bytes-each file (bytes .byte)) e
 
 -- A strict prefix of an accepted file gives 1.

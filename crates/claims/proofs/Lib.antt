@@ -2,6 +2,9 @@ pub mod DemandOne
 pub mod DemandTwoFiles
 pub mod DemandTwoRuns
 pub mod DemandTwoCompiled
+pub mod Ordered
+pub mod DemandTwoOrder
+pub mod OtherOrders
 pub mod DemandTwoProgram
 pub mod DemandThree
 pub mod DemandThreeCalls

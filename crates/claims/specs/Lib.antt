@@ -3,3 +3,6 @@ pub mod Told
 pub mod Examples
 pub mod Numbers
 pub mod Zero
+pub mod Order
+pub mod Files
+pub mod Program

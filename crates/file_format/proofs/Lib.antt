@@ -6,6 +6,6 @@ pub mod Initial
 pub mod Tables
 pub mod Whole
 pub mod RoundTrip
+pub mod Numbers
 pub mod Smallest
 pub mod OfBytes
-pub mod Numbers

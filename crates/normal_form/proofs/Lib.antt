@@ -30,4 +30,5 @@ pub mod Compiled
 pub mod Padded
 pub mod Assembling
 pub mod Over
+pub mod Order
 pub mod ExamplesCompiled

@@ -1,14 +1,14 @@
 -- Tables with 0 in all past what they hold: stores behind what stands, and tables of which rows and zeros are known. Assumes nothing.
 use Prim.Native.Nat.{ℕ, zero, suc, _+_, _-_, _*_, _≤_, _<_}
-use native.Mathlib.Numerals.{add-one}
 use native.Mathlib.Omega.{arith}
 use mathlib.Core.Path.{_≡_, refl, sym, ap, _∙_}
 use mathlib.Core.List.{List, [], _∷_, _++_, append-assoc}
 use lib.ListN.{length, getD, take, drop, set, replicate, length-append, length-drop, length-replicate, getD-replicate, take-append-drop}
-use lib.Seq.{append-snoc, set-at, drop-cons, take-add, length-take-le, getD-drop, ext-getD}
+use lib.Seq.{append-snoc, set-at, length-take-le, getD-drop, ext-getD}
 use Rattle.task.specs.Bounded.{upto}
 use Rattle.task.specs.Table.{Row, Operator, row-at}
 use Rattle.task.specs.Words.{joined, row-words, operator-row-words, words-of, operator-words}
+use Rattle.task.proofs.Fronts.{rows-front}
 use Rattle.task.proofs.Words.{length-words, length-operator-words, words-append, operator-words-append}
 use Rattle.normal_form.specs.Assembly.{unassembled}
 use Rattle.task.specs.Words.{padded}
@@ -118,39 +118,6 @@ module _ (t : List ℕ) (k : ℕ) (within : k ≤ length t) (past : (j : ℕ) �
   unfolding padded
   padded-front =
       rw (length-take-le k t within) (sym (take-append-drop k t) ∙ ap (λ (l : List ℕ). take k t ++ l) zero-tail)
-
-take-three :
-    (t : List ℕ) (k : ℕ)
-    → k + 3 ≤ length t
-    → take (k + 3) t ≡ take k t ++ (getD t k 0 ∷ getD t (k + 1) 0 ∷ getD t (k + 2) 0 ∷ [])
-take-three t k h =
-    let two : k + 2 ≡ suc (suc k) = omega arith in
-    take-add k 3 t
-    ∙ rw (
-      add-one k,
-      two,
-      drop-cons t k 0 (omega arith),
-      drop-cons t (suc k) 0 (omega arith),
-      drop-cons t (suc (suc k)) 0 (omega arith),
-    )
-
--- the words of the first n rows
-rows-front : (t : List ℕ) (n : ℕ) → 3 * n ≤ length t → take (3 * n) t ≡ words-of (upto n (row-at t))
-unfolding upto
-rows-front t zero h = unfold words-of joined in refl
-rows-front t (suc n) h =
-    let e : 3 * suc n ≡ 3 * n + 3 = omega arith in
-    let last : List ℕ = getD t (3 * n) 0 ∷ getD t (3 * n + 1) 0 ∷ getD t (3 * n + 2) 0 ∷ [] in
-    ap (λ (k : ℕ). take k t) e
-    ∙ take-three t (3 * n) (omega arith)
-    ∙ ap (λ (l : List ℕ). l ++ last) (rows-front t n (omega arith))
-    ∙ one
-    ∙ sym (words-append (upto n (row-at t)) (row-at t n ∷ []))
-  where
-    one :
-        words-of (upto n (row-at t)) ++ (getD t (3 * n) 0 ∷ getD t (3 * n + 1) 0 ∷ getD t (3 * n + 2) 0 ∷ [])
-        ≡ words-of (upto n (row-at t)) ++ words-of (row-at t n ∷ [])
-    one = unfold words-of joined row-words row-at in refl
 
 -- a table of n rows that is 0 past them
 pub padded-rows :

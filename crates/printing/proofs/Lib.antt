@@ -7,3 +7,4 @@ pub mod Ready
 pub mod Short
 pub mod Examples
 pub mod Suffices
+pub mod Apart

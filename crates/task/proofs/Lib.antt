@@ -7,6 +7,7 @@ pub mod Held
 pub mod Passed
 pub mod Kept
 pub mod Words
+pub mod Fronts
 pub mod Trees
 pub mod Down
 pub mod Values

@@ -2,3 +2,4 @@ pub mod Puts
 pub mod PutLoops
 pub mod WriteWays
 pub mod Calls
+pub mod Told

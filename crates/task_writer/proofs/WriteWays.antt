@@ -119,7 +119,7 @@ head-size h =
     let r2 = f (h .twins) ++ r3 in
     omega (arith, length-append (f (h .variables)) r2, length-append (f (h .twins)) r3, length-append (f (h .formulas)) r4, length-append (f (h .effects)) r5, length-append (f (h .operators)) r6, length-append (f (h .goal)) [], field-length (h .variables), field-length (h .twins), field-length (h .formulas), field-length (h .effects), field-length (h .operators), field-length (h .goal))
 
-same-head : (l : Lent) → LongEnough l → head-of (task-of l) ≡ l .head
+pub same-head : (l : Lent) → LongEnough l → head-of (task-of l) ≡ l .head
 unfolding head-of task-of
 same-head l long =
     λ j.
