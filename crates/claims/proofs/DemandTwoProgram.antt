@@ -26,7 +26,7 @@ use Rattle.claims.specs.Statements.{OfBytes, Compiles}
 use Rattle.claims.specs.Program.{PrintsCompiled, Prints, prints-task, prints-refusal}
 use Rattle.claims.proofs.DemandTwoFiles.{file-accepted-exactly-if}
 
-own-fits : (t : Task) → Rules t → HasRoom own t
+pub own-fits : (t : Task) → Rules t → HasRoom own t
 unfolding own
 own-fits t r =
     let l = r .checked .limits in

@@ -5,21 +5,23 @@ use native.Mathlib.Omega.{arith}
 use mathlib.Core.Path.{_≡_, refl, sym, ap, _∙_}
 use mathlib.Core.Logic.{_↔_}
 use mathlib.Core.Bool.{Bool, true, false, _&&_, false≢true}
-use mathlib.Core.List.{List}
+use mathlib.Core.List.{List, [], append-nil}
 use lib.ListN.{length, getD}
 use lib.Dec.{leb, ltb, eqb}
 use borrow.Author.Tests.{leb-true, le-leb, ltb-true, lt-ltb, eqb-true, eq-eqb, ne-eqb}
 use Rattle.task.specs.Bounded.{every}
 use Rattle.task.specs.Table.{Lent, Task, operator-at, task-of}
 use Rattle.task.specs.Check.{counts-kept, goal-kept, long-enough, initial-kept, twins-kept, formulas-kept, effects-kept, operators-kept, state-kept, sequence-kept, unless, refusal}
-use Rattle.task.specs.Rules.{Rules, Limits}
+use Rattle.task.specs.Rules.{Limits, Checked, Rules, LongEnough}
 use Rattle.task.specs.Words.{head-of}
 use Rattle.task.specs.Semantics.{holds}
 use Rattle.task.specs.Tree.{formula-of}
 use Rattle.task.specs.Run.{operator-of, applicable, answer, run-on, Stop, ended, stopped, plain-run}
 use Rattle.task.proofs.Bounded.{and-left, and-right, and-both, every-at, every-from}
 use Rattle.task.proofs.Held.{length-operators, operator-held}
-use Rattle.task.proofs.Passed.{counts-tested, goal-tested, lengths-tested, initial-tested, twins-tested, formulas-tested, effects-tested, operators-tested}
+use Rattle.task.proofs.Stops.{Stops, no-stop as no-stop-made, seventeen, eighteen, plain-run-stops}
+use Rattle.task.proofs.Kept.{kept-rules, rules-kept}
+use Rattle.task.proofs.Passed.{Passed, passed, not-refused, counts-tested, goal-tested, lengths-tested, initial-tested, twins-tested, formulas-tested, effects-tested, operators-tested}
 use Rattle.file_format.specs.Bytes.{file-of}
 use Rattle.file_format.specs.Reading.{accepted, rejected, Verdict, reading}
 use Rattle.task_writer.specs.Writing.{file-outcome, write-outcome}
@@ -36,8 +38,9 @@ use Rattle.compiled_file.specs.Filed.{filed-by, filed, compiled-file-by, compil
 use Rattle.compile_entry.specs.Entry.{compile-entry, compile-entry-by}
 use Rattle.run_entry.specs.Entry.{run-given, run-entry, run-entry-by}
 use Rattle.claims.specs.Statements.{OfBytes}
-use Rattle.claims.specs.Numbers.{Given, broken, keeps, no-rule-left, tables-numbers, write-number, compile-answer-number, end-number, write-numbers, compile-numbers, StateRule, state-numbers, step-numbers, run-numbers, FileNumber, not-read, was-read, read-entry-numbers, FileFits, compile-entry-numbers, SequenceRule, StopNumber, no-stop, stopped-by, run-entry-numbers}
-use Rattle.claims.proofs.DemandTwoFiles.{file-accepted-exactly-if}
+use Rattle.claims.specs.Numbers.{Given, broken, keeps, no-rule-left, tables-numbers, write-number, compile-answer-number, end-number, write-numbers, compile-numbers, StateRule, state-numbers, step-numbers, run-numbers, FileNumber, not-read, was-read, read-entry-numbers, FileFits, compile-entry-numbers, SequenceRule, StopNumber, no-stop, stopped-by, run-entry-numbers, WriteKept, StateKept, StepKept, RunKept, ReadEntryKept, CompileEntryKept, RunEntryKept}
+use Rattle.claims.proofs.DemandTwoFiles.{file-accepted-exactly-if, reading-what-was-written, no-file-begins-another}
+use Rattle.claims.proofs.DemandTwoProgram.{own-fits}
 
 -- a test and its rule
 given :
@@ -352,3 +355,194 @@ module _ (file : List ℕ) (bytes : OfBytes file) where
       (given (state-kept v state) 16 _ (state-tested v state) (λ _.
       given (eqb (length sequence % 2) 0 && sequence-kept (numbers-of sequence)) 19 _ (sequence-tested sequence) (λ _.
       given (leb 16 r) 20 _ (at-most 16 r) (λ _. stop-told (plain-run t state (numbers-of sequence) .stop))))))
+
+-- Refused by no number exactly if all rules are kept: read off the theorems above, since no rule has the number 0.
+passed-on : {rule : Type 0} (k : ℕ) {behind : ℕ → Type 0} {n : ℕ} → Given rule (suc k) behind n → n ≡ 0 → rule × behind n
+passed-on k (broken r e) z = absurd (omega arith)
+passed-on k (keeps r b) z = (r, b)
+
+behind-kept : {rule : Type 0} {k : ℕ} {behind : ℕ → Type 0} {n : ℕ} → Given rule k behind n → rule → behind n
+behind-kept (broken d e) r = absurd (d r)
+behind-kept (keeps r b) q = b
+
+module _ (l : Lent) {behind : ℕ → Type 0} {n : ℕ} (g : tables-numbers l behind n) where
+  tables-passed : n ≡ 0 → (LongEnough l × Checked (task-of l)) × behind n
+  tables-passed z =
+      let g6 = passed-on 5 g z in
+      let g7 = passed-on 6 (g6 .1) z in
+      let g5 = passed-on 4 (g7 .1) z in
+      let g8 = passed-on 7 (g5 .1) z in
+      let g9 = passed-on 8 (g8 .1) z in
+      let g10 = passed-on 9 (g9 .1) z in
+      let g11 = passed-on 10 (g10 .1) z in
+      let g12 = passed-on 11 (g11 .1) z in
+      let p : Passed l =
+      record {
+        counts = counts-tested (l .head) .1 (g6 .0);
+        goal = goal-tested (l .head) .1 (g7 .0);
+        lengths = lengths-tested l .1 (g5 .0);
+        initial = initial-tested l .1 (g8 .0);
+        twins = twins-tested l .1 (g9 .0);
+        formulas = formulas-tested l .1 (g10 .0);
+        effects = effects-tested l .1 (g11 .0);
+        operators = operators-tested l .1 (g12 .0);
+      }
+      in
+      (kept-rules l (not-refused l p), g12 .1)
+
+  tables-behind : LongEnough l × Checked (task-of l) → behind n
+  tables-behind k =
+      let p = passed l (rules-kept l (k .0) (k .1)) in
+      behind-kept
+      (behind-kept
+      (behind-kept
+      (behind-kept
+      (behind-kept
+      (behind-kept
+      (behind-kept (behind-kept g (counts-tested (l .head) .0 (p .counts))) (goal-tested (l .head) .0 (p .goal)))
+      (lengths-tested l .0 (p .lengths)))
+      (initial-tested l .0 (p .initial)))
+      (twins-tested l .0 (p .twins)))
+      (formulas-tested l .0 (p .formulas)))
+      (effects-tested l .0 (p .effects)))
+      (operators-tested l .0 (p .operators))
+
+module _ (l : Lent) (s scratch : List ℕ) {behind : ℕ → Type 0} {n : ℕ} (g : state-numbers l s scratch behind n) where
+  state-passed : n ≡ 0 → StateKept l s scratch × behind n
+  state-passed z =
+      let t = tables-passed l g z in
+      let g16 = passed-on 15 (t .1) z in
+      let g14 = passed-on 13 (g16 .1) z in
+      (record { tables = t .0; state = g16 .0; scratch-there = g14 .0 }, g14 .1)
+
+  state-behind : StateKept l s scratch → behind n
+  state-behind k = behind-kept (behind-kept (tables-behind l g (k .tables)) (k .state)) (k .scratch-there)
+
+pub written-exactly-if : (l : Lent) (n : ℕ) → write-number (write-outcome l n .answer) ≡ 0 ↔ WriteKept l n
+written-exactly-if l n =
+    let g = write-gives-the-first l n in (
+      λ z.
+          let t = tables-passed l g z in
+          record { tables = t .0; output = passed-on 19 (t .1) z .0 },
+      λ k. behind-kept (tables-behind l g (k .tables)) (k .output),
+    )
+
+pub stepped-exactly-if :
+    (l : Lent) (s : List ℕ) (o : ℕ) (scratch : List ℕ)
+    → stepped l s o scratch .answer .refusal ≡ 0
+    ↔ StepKept l s o scratch
+stepped-exactly-if l s o scratch =
+    let g = step-gives-the-first l s scratch o in (
+      λ z.
+          let t = state-passed l s scratch g z in
+          let g17 = passed-on 16 (t .1) z in
+          record { early = t .0; inside = g17 .0; precondition = passed-on 17 (g17 .1) z .0 },
+      λ k. behind-kept (behind-kept (state-behind l s scratch g (k .early)) (k .inside)) (k .precondition),
+    )
+
+pub ran-exactly-if :
+    (l : Lent) (s numbers scratch : List ℕ)
+    → end-number (ran l s numbers scratch .answer .end) ≡ 0
+    ↔ RunKept l s numbers scratch
+ran-exactly-if l s numbers scratch =
+    let g = run-gives-the-first l s scratch numbers in (
+      λ z.
+          let t = state-passed l s scratch g z in
+          record { early = t .0; few = passed-on 18 (t .1) z .0 },
+      λ k. behind-kept (state-behind l s scratch g (k .early)) (k .few),
+    )
+
+-- of the C entries
+same-task : (t u : Task) → Rules t → Rules u → file-of t ≡ file-of u → t ≡ u
+same-task t u r q e = no-file-begins-another t u [] r q (append-nil (file-of t) ∙ e) .0
+
+file-behind :
+    {file : List ℕ} {behind : Task → ℕ → Type 0} {n : ℕ}
+    → FileNumber file behind n
+    → (t : Task)
+    → file ≡ file-of t
+    → Rules t
+    → behind t n
+file-behind {file} (not-read e d) t same rules =
+    let q = reading-what-was-written own t rules (own-fits t rules) in
+    let z : accepted t ≡ rejected _ = sym q ∙ ap (reading own) (sym same) ∙ e in
+    absurd (let y : _≡_ {A = ℕ} 0 1 = cc in omega arith)
+file-behind (was-read u e r b) t same rules = rw (same-task u t r rules (sym e ∙ same)) at b
+
+stop-not-zero : (t : Task) (s numbers : List ℕ) {m : ℕ} → plain-run t s numbers .stop ≡ stopped m → m ≡ 0 → ⊥
+stop-not-zero t s numbers {m} e z = go (plain-run-stops t s numbers)
+  where
+    go : Stops (plain-run t s numbers .stop) → ⊥
+    go (no-stop-made q) = let y : _≡_ {A = ℕ} 0 1 = cc in omega arith
+    go (seventeen q) = let y : m ≡ 17 = cc in omega arith
+    go (eighteen q) = let y : m ≡ 18 = cc in omega arith
+
+module _ (file : List ℕ) (bytes : OfBytes file) where
+  pub read-for-c-exactly-if : (n : ℕ) → read-entry file n .number ≡ 0 ↔ ReadEntryKept file n
+  read-for-c-exactly-if n = (λ z. told (read-entry-gives-the-first file bytes n) z, λ k. kept-zero k)
+    where
+      told : {m : ℕ} → read-entry-numbers file n m → m ≡ 0 → ReadEntryKept file n
+      told (not-read e d) z = absurd (d z)
+      told (was-read t e r b) z = record { task = t; same = e; rules = r; output = passed-on 19 b z .0 }
+
+      kept-zero : ReadEntryKept file n → read-entry file n .number ≡ 0
+      kept-zero k = behind-kept (file-behind (read-entry-gives-the-first file bytes n) (k .task) (k .same) (k .rules)) (k .output)
+
+  pub compiled-for-c-exactly-if : (o r : ℕ) → compile-entry file o r .number ≡ 0 ↔ CompileEntryKept file o r
+  compiled-for-c-exactly-if o r = (λ z. told (compile-entry-gives-the-first file bytes o r) z, λ k. kept-zero k)
+    where
+      told : {m : ℕ} → compile-entry-numbers file o r m → m ≡ 0 → CompileEntryKept file o r
+      told (not-read e d) z = absurd (d z)
+      told (was-read t e q b) z =
+          let g13 = passed-on 12 b z in
+          let g15 = passed-on 14 (g13 .1) z in
+          record { task = t; same = e; rules = q; untwinned = g13 .0; limits = g15 .0; outputs = passed-on 19 (g15 .1) z .0 }
+
+      kept-zero : CompileEntryKept file o r → compile-entry file o r .number ≡ 0
+      kept-zero k =
+          behind-kept
+          (behind-kept
+          (behind-kept (file-behind (compile-entry-gives-the-first file bytes o r) (k .task) (k .same) (k .rules)) (k .untwinned))
+          (k .limits))
+          (k .outputs)
+
+  -- a run gives 0 exactly if its rules are kept and it is not stopped
+  pub run-for-c-exactly-if :
+      (state sequence : List ℕ) (r : ℕ)
+      → run-entry file state sequence r .number ≡ 0
+      ↔ RunEntryKept file state sequence r
+  run-for-c-exactly-if state sequence r = (λ z. told (run-entry-gives-the-first file bytes state sequence r) z, λ k. kept-zero k)
+    where
+      unstopped : (t : Task) {m : ℕ} → StopNumber (plain-run t state (numbers-of sequence) .stop) m → m ≡ 0 → plain-run t state (numbers-of sequence) .stop ≡ ended
+      unstopped t (no-stop e q) z = e
+      unstopped t (stopped-by e) z = absurd (stop-not-zero t state (numbers-of sequence) e z)
+
+      told : {m : ℕ} → run-entry-numbers file state sequence r m → m ≡ 0 → RunEntryKept file state sequence r
+      told (not-read e d) z = absurd (d z)
+      told (was-read t e q b) z =
+          let g16 = passed-on 15 b z in
+          let g19 = passed-on 18 (g16 .1) z in
+          let g20 = passed-on 19 (g19 .1) z in
+          record {
+            task = t;
+            same = e;
+            rules = q;
+            start = g16 .0;
+            numbers = g19 .0;
+            output = g20 .0;
+            unstopped = unstopped t (g20 .1) z;
+          }
+
+      number-zero : {stop : Stop} {m : ℕ} → StopNumber stop m → stop ≡ ended → m ≡ 0
+      number-zero (no-stop e q) z = q
+      number-zero (stopped-by e) z = absurd (let y : _≡_ {A = ℕ} 0 1 = cc in omega arith)
+
+      kept-zero : RunEntryKept file state sequence r → run-entry file state sequence r .number ≡ 0
+      kept-zero k =
+          number-zero
+          (behind-kept
+          (behind-kept
+          (behind-kept (file-behind (run-entry-gives-the-first file bytes state sequence r) (k .task) (k .same) (k .rules)) (k .start))
+          (k .numbers))
+          (k .output))
+          (k .unstopped)

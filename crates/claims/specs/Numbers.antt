@@ -6,7 +6,7 @@ use mathlib.Core.Bool.{true}
 use mathlib.Core.List.{List}
 use lib.ListN.{length, getD}
 use Rattle.task.specs.Table.{Lent, Task, row-at, operator-at, task-of, formula-kind, effect-kind}
-use Rattle.task.specs.Rules.{FormulaRule, EffectRule, OperatorRule, Counts, TwinRule, Limits, Rules, LongEnough}
+use Rattle.task.specs.Rules.{FormulaRule, EffectRule, OperatorRule, Counts, TwinRule, Limits, Checked, Rules, LongEnough}
 use Rattle.task.specs.Semantics.{holds}
 use Rattle.task.specs.Tree.{formula-of}
 use Rattle.task.specs.Run.{Stop, ended, stopped, plain-run}
@@ -131,3 +131,46 @@ run-entry-numbers file state sequence r =
     Given (StateRule (length (t .initial)) state) 16
     (Given (SequenceRule sequence) 19
     (Given (16 ≤ r) 20 (StopNumber (plain-run t state (numbers-of sequence) .stop)))))
+
+-- Where a call is refused by no number, all of its rules are kept, one by one; those of the tables are `LongEnough` and `Checked`.
+pub record WriteKept (l : Lent) (n : ℕ) : Type 0 where
+  pub tables : LongEnough l × Checked (task-of l)
+  pub output : length (file-of (task-of l)) ≤ n
+
+pub record StateKept (l : Lent) (s scratch : List ℕ) : Type 0 where
+  pub tables : LongEnough l × Checked (task-of l)
+  pub state : StateRule (l .head .variables) s
+  pub scratch-there : l .head .formulas + l .head .effects ≤ length scratch
+
+pub record StepKept (l : Lent) (s : List ℕ) (o : ℕ) (scratch : List ℕ) : Type 0 where
+  pub early : StateKept l s scratch
+  pub inside : o < l .head .operators
+  pub precondition : holds s (formula-of (task-of l .formulas) (operator-at (l .operators) o .precondition)) ≡ true
+
+pub record RunKept (l : Lent) (s numbers scratch : List ℕ) : Type 0 where
+  pub early : StateKept l s scratch
+  pub few : length numbers ≤ 65535
+
+pub record ReadEntryKept (file : List ℕ) (n : ℕ) : Type 0 where
+  pub task : Task
+  pub same : file ≡ file-of task
+  pub rules : Rules task
+  pub output : length (tables-bytes task) ≤ n
+
+pub record CompileEntryKept (file : List ℕ) (o r : ℕ) : Type 0 where
+  pub task : Task
+  pub same : file ≡ file-of task
+  pub rules : Rules task
+  pub untwinned : length (task .originals) ≡ 0
+  pub limits : Limits (finished task)
+  pub outputs : FileFits (finished task) o r
+
+-- of a run that is not stopped
+pub record RunEntryKept (file state sequence : List ℕ) (r : ℕ) : Type 0 where
+  pub task : Task
+  pub same : file ≡ file-of task
+  pub rules : Rules task
+  pub start : StateRule (length (task .initial)) state
+  pub numbers : SequenceRule sequence
+  pub output : 16 ≤ r
+  pub unstopped : plain-run task state (numbers-of sequence) .stop ≡ ended
