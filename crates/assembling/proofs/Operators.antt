@@ -1,5 +1,5 @@
 -- The operators one after another: each behind those before it, its rules and its row. Assumes nothing.
-use Prim.Native.Nat.{ℕ, zero, suc, _+_, _-_, _*_, _≤_, _<_}
+use Prim.Native.Nat.{ℕ, zero, suc, _+_, _-_, _≤_, _<_}
 use native.Mathlib.Omega.{arith}
 use native.Mathlib.Numerals.{add-one}
 use native.Mathlib.Decide.{decLe}
@@ -9,10 +9,9 @@ use mathlib.Core.List.{List, [], _∷_, _++_}
 use lib.ListN.{length, replicate, length-append}
 use Rattle.task.specs.Bounded.{upto}
 use Rattle.task.specs.Table.{Row, Operator, row-at}
-use Rattle.task.specs.Words.{joined, words-of, operator-words}
+use Rattle.task.specs.Words.{joined, operator-words, padded}
 use Rattle.normal_form.specs.Operators.{Changes, Built}
-use Rattle.normal_form.specs.Assembly.{Rule, rules-of, rules, write-rules, Assembled, assemble-operator, assemble, unassembled}
-use Rattle.task.specs.Words.{padded}
+use Rattle.normal_form.specs.Assembly.{rules-of, rules, write-rules, Assembled, assemble-operator, assemble, unassembled}
 use Rattle.normal_form.proofs.Growth.{longer}
 use Rattle.normal_form.proofs.Padded.{padded-none, padded-empty}
 use Rattle.normal_form.proofs.ShapeAssembled.{unwritten}
@@ -26,7 +25,7 @@ use Rattle.rule_writer.specs.Inner.Writes.{Holds, Writes, OneMore, Ready as Rul
 use Rattle.rule_writer.proofs.Writing.{writes-none, writes-as, writes-variable}
 use Rattle.rule_writer.specs.Inner.Places.{begun}
 use Rattle.records.specs.Inner.Recorded.{change-at, changes-from}
-use Rattle.assembling.specs.Inner.Assembles.{changes-between, built-of, begins-at, built-in, assembled-in, WritesRecords, WritesOperator, Holding, WroteOperator, InOrder, Assembles, AssembledAll}
+use Rattle.assembling.specs.Inner.Assembles.{changes-between, built-of, begins-at, built-in, assembled-in, WritesOperator, Holding, WroteOperator, InOrder, Assembles, AssembledAll}
 
 -- a change, as it is read
 abbrev change-in : Words → Changes

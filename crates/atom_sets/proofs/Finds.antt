@@ -14,7 +14,7 @@ use Rattle.task.specs.Table.{row-at}
 use Rattle.formula_builder.specs.declared.Words.{Words}
 use Rattle.formula_builder.specs.declared.Frame.{Frame}
 use Rattle.formula_builder.specs.Inner.Held.{row-of}
-use Rattle.atom_sets.specs.Inner.Sets.{set-words, set-place, sets-end, atom-bit, lacks, InSet, Sets}
+use Rattle.atom_sets.specs.Inner.Sets.{set-words, set-place, sets-end, atom-bit, lacks, InSet}
 use Rattle.atom_sets.specs.Inner.Finds.{set-start, united, copied, Room, Written, Within, FindsSets, FindsSet, SetOf, FoundSet, FoundSets}
 use Rattle.atom_sets.proofs.Places.{row-more, place-within, word-within, byte-small, bit-is}
 use Rattle.atom_sets.proofs.Words.{or-lacks, one-shifted, one-stands}

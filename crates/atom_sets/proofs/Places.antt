@@ -5,7 +5,7 @@ use native.Mathlib.Nat.{mul-le-mul, zero-div}
 use mathlib.Core.Path.{_≡_, refl, sym, _∙_}
 use mathlib.Core.Bool.{Bool, true, false, cond}
 use mathlib.Core.List.{List}
-use lib.ListN.{length, getD}
+use lib.ListN.{getD}
 use lib.Dec.{eqb}
 use mir.Val.{boolByte}
 use lib.Pow.{shr-shr}

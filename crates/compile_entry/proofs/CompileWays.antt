@@ -5,8 +5,7 @@ use mathlib.Core.List.{List}
 use Rattle.task.specs.Table.{Lent, task-of}
 use Rattle.file_format.specs.Reading.{Lengths, Verdict, rejected, reading}
 use Rattle.entry_tables.proofs.Reading.{ReadAs, same-reading}
-use Rattle.compiled_file.specs.Filed.{no-file, compiled-file}
-use Rattle.compiled_file.specs.Filed.{CompileGives}
+use Rattle.compiled_file.specs.Filed.{no-file, compiled-file, CompileGives}
 use Rattle.compile_entry.specs.Entry.{compile-entry-by, compile-entry}
 
 -- the two ways out by the file

@@ -10,15 +10,13 @@ use Rattle.normal_form.specs.Compiled.{compiled-head, not-compiled, CompileOutc
 use Rattle.normal_form.proofs.Compiled.{given-task, given-passes}
 use Rattle.compiler.specs.declared.CompileAnswer.{CompileAnswer}
 use Rattle.compiler.specs.declared.CompileAnswer.the-variants.{Compiled, Refused}
-use Rattle.compiler.specs.Left.{Tables, tables, room-of}
-use Rattle.compiler.specs.Left.{answer-of, compile-left}
+use Rattle.compiler.specs.Left.{Tables, tables, room-of, answer-of, compile-left}
 use Rattle.printing.specs.Lines.{lines, refusal-line}
 use Rattle.entry_tables.specs.Own.{own-room, compile-number}
 use Rattle.entry_tables.specs.Inner.Answers.{refused-compile}
 use Rattle.entry_tables.proofs.Compiling.{own-number, number-told, not-zero}
-use Rattle.compile_text.specs.Text.{compiled-text-by, compiled-text}
+use Rattle.compile_text.specs.Text.{compiled-text-by, compiled-text, TextGives}
 use Rattle.compile_text.specs.Inner.Giving.{CompileIn}
-use Rattle.compile_text.specs.Text.{TextGives}
 
 module _ (l : Lent) (kept : refusal l ≡ 0) where
   number-is : compile-number (task-of l) ≡ refused-compile (compiling l own-room .answer)

@@ -11,8 +11,7 @@ use Rattle.task.specs.Words.{padded}
 use Rattle.printing.specs.declared.PrintAnswer.{PrintAnswer}
 use Rattle.printing.specs.declared.PrintAnswer.the-variants.{Printed}
 use Rattle.printing.specs.Lines.{lines, refusal-line}
-use Rattle.printing.specs.Printing.{PrintOutcome, printing, printing-refusal}
-use Rattle.printing.specs.Printing.{PrintGives as Prints}
+use Rattle.printing.specs.Printing.{PrintOutcome, printing, printing-refusal, PrintGives as Prints}
 use Rattle.printing.proofs.Suffices.{task-printed, refusal-printed}
 use Rattle.compile_text.specs.Inner.Giving.{printed-length}
 use Rattle.compile_text.specs.Text.{most, TextGives}

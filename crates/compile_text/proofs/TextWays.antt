@@ -9,14 +9,12 @@ use Rattle.file_format.specs.Reading.{Lengths, rejected, reading}
 use Rattle.file_format.proofs.Parse.{Bytes}
 use Rattle.task_file.specs.declared.ReadAnswer.{ReadAnswer}
 use Rattle.task_file.specs.declared.ReadAnswer.the-variants.{Read, Refused}
-use Rattle.task_file.specs.Outcome.{lengths}
-use Rattle.task_file.specs.Outcome.{read-left, read-outcome}
+use Rattle.task_file.specs.Outcome.{lengths, read-left, read-outcome}
 use Rattle.printing.specs.Lines.{refusal-line}
 use Rattle.entry_tables.specs.Own.{own}
 use Rattle.entry_tables.proofs.Reading.{ReadAs, read-as, refused-as}
-use Rattle.compile_text.specs.Text.{compiled-text, text-by, text-of}
+use Rattle.compile_text.specs.Text.{compiled-text, text-by, text-of, TextGives}
 use Rattle.compile_text.specs.Inner.Giving.{Own}
-use Rattle.compile_text.specs.Text.{TextGives}
 use Rattle.compile_text.proofs.Cut.{cut-input}
 
 -- the two answers of reading, through tables with room for every task

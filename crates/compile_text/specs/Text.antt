@@ -1,13 +1,12 @@
 -- What the program prints, from the bytes of its input alone: the compiled task's lines t, i, w, f, e, o, or only r and the number (01, end of
 -- "Sheets to try").
-use Prim.Native.Nat.{ℕ, zero, suc}
+use Prim.Native.Nat.{ℕ, zero, suc, _≤_}
 use mathlib.Core.List.{List}
 use Rattle.task.specs.Table.{Task}
 use Rattle.file_format.specs.Reading.{Verdict, accepted, rejected, reading}
 use Rattle.normal_form.specs.Finished.{finished}
 use Rattle.printing.specs.Lines.{lines, refusal-line}
 use Rattle.entry_tables.specs.Own.{own, compile-number}
-use Prim.Native.Nat.{_≤_}
 use mathlib.Core.Path.{_≡_}
 use lib.ListN.{length, take}
 use Rattle.task.specs.Words.{padded}

@@ -15,14 +15,12 @@ use Rattle.normal_form.specs.Compiled.{Room, compile-scratch-kept, compile-refu
 use Rattle.normal_form.proofs.Compiled.{given-task, given-passes}
 use Rattle.compiler.specs.declared.CompileAnswer.{CompileAnswer}
 use Rattle.compiler.specs.declared.CompileAnswer.the-variants.{Compiled, Refused}
-use Rattle.compiler.specs.Left.{tables}
-use Rattle.compiler.specs.Left.{answer-of, compile-left}
+use Rattle.compiler.specs.Left.{tables, answer-of, compile-left}
 use Rattle.entry_tables.specs.Own.{own-room, compile-number}
 use Rattle.entry_tables.specs.Inner.Answers.{refused-compile}
 use Rattle.entry_tables.proofs.Compiling.{own-number, same-refusal, number-told, not-zero}
-use Rattle.compiled_file.specs.Filed.{no-file, filed, compiled-file-by, compiled-file}
+use Rattle.compiled_file.specs.Filed.{no-file, filed, compiled-file-by, compiled-file, CompileGives}
 use Rattle.compiled_file.specs.Inner.Giving.{compile-through, small-room, SmallSource}
-use Rattle.compiled_file.specs.Filed.{CompileGives}
 
 module _ (l : Lent) (kept : refusal l ≡ 0) (o n : ℕ) {code : ℕ} {out result : List ℕ} where
   by-number : (room : Room) → compile-refusal l room ≡ compile-number (task-of l) → CompileGives (compile-through l room o n) code out result → CompileGives (compiled-file (task-of l) o n) code out result

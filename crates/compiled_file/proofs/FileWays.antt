@@ -18,8 +18,7 @@ use Rattle.task.specs.Words.{padded}
 use Rattle.layouts.specs.Layout.{low-bytes}
 use Rattle.layouts.proofs.LayWays.{put-padded, size}
 use Rattle.layouts.proofs.RunWays.{low-next}
-use Rattle.compiled_file.specs.Filed.{CompileEntry, no-file, filed-by, filed}
-use Rattle.compiled_file.specs.Filed.{CompileGives}
+use Rattle.compiled_file.specs.Filed.{CompileEntry, no-file, filed-by, filed, CompileGives}
 
 and-false : (a : Bool) → a && false ≡ false
 and-false true = refl

@@ -12,7 +12,7 @@ use Rattle.task.specs.Table.{Row, row-at, effect-kind}
 use Rattle.task.specs.Semantics.{Formula}
 use Rattle.task.specs.Rules.{no-row, EffectRule}
 use Rattle.task.proofs.Bounded.{length-upto, getD-upto}
-use Rattle.normal_form.specs.Builder.{Build, give, bind, join, pair, Polarity, plain, negated, opposite, image-of-false, image-of-true}
+use Rattle.normal_form.specs.Builder.{Build, give, bind, pair, Polarity, plain, negated, opposite, image-of-false, image-of-true}
 use Rattle.normal_form.specs.Conditions.{guarded}
 use Rattle.formula_builder.specs.declared.Words.{Words}
 use Rattle.formula_builder.specs.declared.Frame.{Frame}

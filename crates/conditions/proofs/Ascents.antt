@@ -13,7 +13,7 @@ use Rattle.images.proofs.Memos.{done-known}
 use Rattle.conditions.specs.declared.Target.{Target}
 use Rattle.conditions.specs.declared.Bottom.{Bottom}
 use Rattle.conditions.specs.Inner.Conditions.{condition-at, path-at, PathStays, Asks, Conditions}
-use Rattle.conditions.specs.Inner.Paths.{onward, Leads, entry-row, entry-pass, AsksSeen, Sees, Descent, AsksDescent, Descended, AsksBelow, AsksOnward, Climbs, Rising}
+use Rattle.conditions.specs.Inner.Paths.{onward, Leads, entry-row, entry-pass, AsksSeen, Descent, AsksDescent, Descended, AsksBelow, AsksOnward, Climbs, Rising}
 use Rattle.conditions.proofs.Notes.{steady-condition-at, looks, stays-refl, stays-trans, stays-fewer}
 use Rattle.conditions.proofs.Memos.{conditions-as, asks-next, conditions-bind, conditions-stop, known-small, conditions-stands}
 use Rattle.conditions.proofs.Cases.{steady-onward}

@@ -1,17 +1,17 @@
 -- One more row in the pass that finds columns. Assumes nothing.
-use Prim.Native.Nat.{ℕ, _+_, _*_, _≤_, _<_}
+use Prim.Native.Nat.{ℕ, _+_, _≤_, _<_}
 use native.Mathlib.Omega.{arith}
 use native.Mathlib.Decide.{decLt}
 use mathlib.Core.Path.{_≡_, refl, sym, ap, _∙_}
 use mathlib.Core.List.{List}
-use lib.ListN.{length, getD, set, length-set}
+use lib.ListN.{length, getD, set}
 use lib.Seq.{getD-set-same, getD-set-other}
 use Rattle.task.specs.Table.{Row, row-at}
 use Rattle.formula_builder.specs.declared.Words.{Words}
 use Rattle.formula_builder.specs.declared.Frame.{Frame}
 use Rattle.formula_builder.specs.Inner.Held.{row-of}
 use Rattle.atom_sets.specs.Inner.Sets.{sets-end}
-use Rattle.conditions.specs.Inner.Conditions.{column, Columns, AtomSets}
+use Rattle.conditions.specs.Inner.Conditions.{column, AtomSets}
 use Rattle.conditions.proofs.Notes.{sets-stay}
 use Rattle.effect_columns.specs.Inner.Columns.{Elsewhere, Meets, HandsOn, FindsRoots, FindsColumns, Settles, Settled, Thins, FoundColumns}
 use Rattle.effect_columns.proofs.Finds.{both-lower, under-lower}

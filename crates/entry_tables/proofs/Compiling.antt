@@ -6,13 +6,12 @@ use mathlib.Core.Bool.{Bool, true, false}
 use lib.Dec.{eqb}
 use borrow.Author.Tests.{le-leb}
 use Rattle.task.specs.Table.{Lent, Task, task-of}
-use Rattle.task.specs.Check.{counts-kept, refusal}
+use Rattle.task.specs.Check.{counts-kept, refusal, room as has-room}
 use Rattle.task.specs.Words.{head-of}
 use Rattle.task.proofs.Bounded.{and-left}
 use Rattle.task.proofs.Held.{length-originals}
 use Rattle.task.proofs.Kept.{kept-rules}
 use Rattle.task.proofs.Passed.{passed, counts-tested}
-use Rattle.task.specs.Check.{room as has-room}
 use Rattle.normal_form.specs.Finished.{finished}
 use Rattle.normal_form.specs.Compiled.{Room, compile-scratch-kept, output-lengths, fits, compile-refusal, compiled-head, not-compiled, nothing-given, task-given, outcome-by, compiling}
 use Rattle.entry_tables.specs.Own.{own, own-room, compile-number}

@@ -9,7 +9,7 @@ use borrow.Author.Tests.{le-leb}
 use Rattle.task.specs.declared.Head.{Head}
 use Rattle.task.specs.Table.{Lent, Task, lent, task-of}
 use Rattle.task.specs.Check.{counts-kept, goal-kept, refusal}
-use Rattle.task.specs.Words.{head-of, words-of, operator-words}
+use Rattle.task.specs.Words.{head-of, words-of, operator-words, padded}
 use Rattle.task.proofs.Bounded.{and-both}
 use Rattle.task.proofs.Words.{lent-in, task-in, kept-in}
 use Rattle.task.proofs.Passed.{counts-tested}
@@ -18,7 +18,6 @@ use Rattle.task_file.specs.declared.ReadAnswer.the-variants.{Read, Refused}
 use Rattle.file_format.specs.Parse.{Parsed, parsed, unparsed, next, kept}
 use Rattle.file_format.specs.Reading.{Lengths, room, head-read, head-kept, Verdict, accepted, rejected, at-end, task-read, reading}
 use Rattle.task_file.specs.Outcome.{ReadOutcome, outcome-of, read-left, read-outcome}
-use Rattle.task.specs.Words.{padded}
 use Rattle.file_format.proofs.Parse.{Bytes}
 use Rattle.file_format.proofs.RoundTrip.{Accepted, written-read}
 use Rattle.entry_tables.specs.Own.{own}

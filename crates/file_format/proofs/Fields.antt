@@ -3,15 +3,14 @@ use Prim.Native.Nat.{ℕ, zero, suc, _+_, _*_, _/_, _%_, _^_, _<_, _≤_}
 use native.Mathlib.Nat.{pow-suc, mul-comm, mul-assoc}
 use native.Mathlib.Omega.{arith}
 use mathlib.Core.Path.{_≡_, refl, sym, ap, _∙_}
-use mathlib.Core.Bool.{Bool, true, false}
 use mathlib.Core.List.{List, [], _∷_, _++_, append-assoc, map}
-use lib.ListN.{length, getD}
+use lib.ListN.{length}
 use lib.Dec.{ltb}
 use borrow.Author.Tests.{ltb-true, lt-ltb}
 use Rattle.task.specs.Words.{joined}
 use Rattle.file_format.specs.Bytes.{number, word-bytes, field-bytes, present, map-of}
-use Rattle.file_format.specs.Parse.{Parsed, parsed, unparsed, next, kept, byte-read, word-read, field-read, fields-read}
-use Rattle.file_format.proofs.Parse.{Bytes, bytes-behind, parsed-value, parsed-rest, refused-parsed, Kept, kept-parsed, kept-true, Steps, next-parsed, next-to, Cut, short, whole, Stable, pure-stable, kept-stable, byte-stable, next-stable}
+use Rattle.file_format.specs.Parse.{Parsed, parsed, next, kept, byte-read, word-read, field-read, fields-read}
+use Rattle.file_format.proofs.Parse.{Bytes, bytes-behind, parsed-value, parsed-rest, refused-parsed, kept-parsed, kept-true, next-parsed, next-to, Stable, pure-stable, kept-stable, byte-stable, next-stable}
 
 -- a byte that was read stands in front of what is left
 pub byte-parsed : (bytes : List ℕ) {x : ℕ} {rest : List ℕ} → byte-read bytes ≡ parsed x rest → bytes ≡ x ∷ rest

@@ -1,13 +1,13 @@
 -- The initial state, packed and unpacked: each undoes the other. Assumes nothing.
 use Prim.Native.Nat.{ℕ, zero, suc, _+_, _-_, _*_, _/_, _%_, _^_, _<_, _≤_}
-use native.Mathlib.Nat.{pow-suc, mul-comm, div-div-eq-div-mul, div-lt-iff-lt-mul, zero-div, div-eq-of-lt, mod-eq-of-lt}
+use native.Mathlib.Nat.{pow-suc, mul-comm, div-div-eq-div-mul, zero-div, div-eq-of-lt, mod-eq-of-lt}
 use native.Mathlib.Numerals.{add-one}
 use native.Mathlib.Decide.{decLt}
 use native.Mathlib.Omega.{arith}
 use mathlib.Core.Path.{_≡_, refl, sym, ap, _∙_}
-use mathlib.Core.Bool.{Bool, true, false, _||_, false≢true}
+use mathlib.Core.Bool.{Bool, true, false, _||_}
 use mathlib.Core.List.{List, [], _∷_, _++_}
-use lib.ListN.{length, getD, length-append, List·getD-eq-default}
+use lib.ListN.{length, getD, List·getD-eq-default}
 use lib.Seq.{ext-getD}
 use lib.Pow.{pow-pos, mod-pow-add, shr-shr}
 use lib.Dec.{eqb}

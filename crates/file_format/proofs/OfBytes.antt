@@ -1,16 +1,16 @@
 -- A task's file is a list of bytes exactly as far as its words are unsigned 16-bit: of a task that keeps the rules it is, and where it is, no cost is above
 -- 65,535. Assumes nothing.
-use Prim.Native.Nat.{ℕ, zero, suc, _+_, _*_, _/_, _%_, _^_, _<_, _≤_}
+use Prim.Native.Nat.{ℕ, zero, suc, _<_, _≤_}
 use native.Mathlib.Nat.{not-suc-le-zero}
 use native.Mathlib.Omega.{arith}
-use mathlib.Core.Path.{_≡_, refl}
+use mathlib.Core.Path.{refl}
 use mathlib.Core.List.{List, [], _∷_, _++_}
 use lib.ListN.{length, getD}
 use Rattle.task.specs.Table.{Row, Operator, Task}
 use Rattle.task.specs.Rules.{no-row, no-operator, Rules, OperatorWords}
 use Rattle.task.specs.Words.{joined, head-of}
 use Rattle.task.proofs.Sixteen.{formula-known, effect-known}
-use Rattle.file_format.specs.Bytes.{word-bytes, field-bytes, map-of, head-fields, head-bytes, row-bytes, operator-fields, operator-bytes, packed, file-of}
+use Rattle.file_format.specs.Bytes.{word-bytes, field-bytes, head-fields, head-bytes, row-bytes, operator-fields, operator-bytes, packed, file-of}
 use Rattle.file_format.proofs.Parse.{Bytes, bytes-behind, bytes-front}
 use Rattle.file_format.proofs.Fields.{map-lt}
 use Rattle.file_format.proofs.Initial.{bits-of-state, packed-byte}

@@ -1,11 +1,11 @@
 -- Laws of taking values from the front of bytes: what a success says of its parts, and that a parse of a file cut short either
 -- goes as before or is refused by 1. Assumes nothing.
-use Prim.Native.Nat.{ℕ, zero, suc, _+_, _*_, _/_, _%_, _<_, _≤_}
+use Prim.Native.Nat.{ℕ, _<_}
 use native.Mathlib.Omega.{arith}
 use mathlib.Core.Path.{_≡_, refl, sym, ap, _∙_}
 use mathlib.Core.Bool.{Bool, true, false}
 use mathlib.Core.List.{List, [], _∷_, _++_}
-use Rattle.file_format.specs.Parse.{Parsed, parsed, unparsed, next, kept, byte-read, word-read, field-read, fields-read, table-read}
+use Rattle.file_format.specs.Parse.{Parsed, parsed, unparsed, next, kept, byte-read}
 
 -- each is a byte
 abbrev pub Bytes : List ℕ → Type 0

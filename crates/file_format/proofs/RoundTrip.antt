@@ -1,7 +1,7 @@
 -- Reading and writing undo each other (01, "The task file"). `file-of` is what writing gives (specs/Writing), `reading` what reading comes to. Assumes
 -- nothing.
 use Prim.Native.Nat.{ℕ, _+_, _*_}
-use mathlib.Core.Path.{_≡_, refl, sym, ap, _∙_}
+use mathlib.Core.Path.{_≡_, sym, ap, _∙_}
 use mathlib.Core.Logic.{_↔_}
 use mathlib.Core.List.{List, [], _∷_, _++_, append-nil}
 use native.Mathlib.Omega.{arith}
@@ -10,9 +10,9 @@ use Rattle.task.specs.Table.{Task}
 use Rattle.task.specs.Rules.{Checked, HasRoom}
 use Rattle.file_format.specs.Bytes.{file-of}
 use Rattle.file_format.specs.Parse.{Parsed, parsed, unparsed}
-use Rattle.file_format.specs.Reading.{Lengths, task-read, Verdict, accepted, rejected, at-end, reading}
+use Rattle.file_format.specs.Reading.{Lengths, task-read, accepted, rejected, at-end, reading}
 use Rattle.file_format.proofs.Parse.{Bytes, parsed-value, parsed-rest, Cut, short, whole}
-use Rattle.file_format.proofs.Whole.{task-reads, Task-read, task-parsed, task-stable}
+use Rattle.file_format.proofs.Whole.{task-reads, task-parsed, task-stable}
 
 -- reading what writing gives yields the task
 pub read-written : (l : Lengths) (t : Task) → Checked t → HasRoom l t → reading l (file-of t) ≡ accepted t

@@ -1,25 +1,23 @@
 -- The head and each kind of row: reading undoes writing and writing undoes reading. Assumes nothing.
-use Prim.Native.Nat.{ℕ, zero, suc, _+_, _*_, _/_, _%_, _^_, _<_, _≤_}
+use Prim.Native.Nat.{ℕ, zero, suc, _+_, _*_, _/_, _%_, _^_, _<_}
 use native.Mathlib.Nat.{mul-suc}
 use native.Mathlib.Omega.{arith}
 use mathlib.Core.Path.{_≡_, refl, sym, ap, _∙_}
-use mathlib.Core.Bool.{Bool, true, false}
-use mathlib.Core.List.{List, [], _∷_, _++_, map}
+use mathlib.Core.Bool.{Bool, true}
+use mathlib.Core.List.{List, [], _∷_, _++_}
 use lib.ListN.{length, getD}
 use lib.Seq.{ext-getD}
-use lib.Dec.{ltb, eqb}
 use borrow.Author.Tests.{ltb-true, lt-ltb, eqb-true, eq-eqb}
 use Rattle.task.specs.declared.Head.{Head}
 use Rattle.task.specs.Bounded.{upto}
 use Rattle.task.proofs.Bounded.{length-upto, getD-upto}
 use Rattle.task.specs.Table.{Row, Operator}
-use Rattle.task.specs.Check.{twin-kept, formula-kept, effect-kept, operator-kept}
 use Rattle.task.specs.Words.{joined}
-use Rattle.file_format.specs.Bytes.{number, word-bytes, field-bytes, present, map-of, head-fields, head-bytes, row-bytes, operator-fields, operator-bytes}
-use Rattle.file_format.specs.Parse.{Parsed, parsed, unparsed, next, kept, byte-read, word-read, fields-read, mapped-read}
-use Rattle.file_format.specs.Reading.{head-from, head-clear, head-read, row-from, row-clear, operator-from, operator-clear, twin-read, row-read, formula-read, effect-read, operator-fields-read, operator-read}
-use Rattle.file_format.proofs.Parse.{Bytes, bytes-behind, parsed-value, parsed-rest, refused-parsed, Kept, kept-parsed, kept-true, Steps, next-parsed, next-to, Stable, pure-stable, kept-stable, byte-stable, next-stable}
-use Rattle.file_format.proofs.Fields.{byte-parsed, byte-reads, Written, word-reads, word-parsed, word-stable, present-le, Mapped, mapped, map-lt, map-above, fields-reads, Fields, fields-parsed, fields-stable}
+use Rattle.file_format.specs.Bytes.{field-bytes, map-of, head-fields, head-bytes, row-bytes, operator-fields, operator-bytes}
+use Rattle.file_format.specs.Parse.{Parsed, parsed, next, kept, byte-read, fields-read, mapped-read}
+use Rattle.file_format.specs.Reading.{head-from, head-clear, head-read, row-from, row-clear, operator-from, operator-clear, row-read, operator-fields-read}
+use Rattle.file_format.proofs.Parse.{Bytes, parsed-value, parsed-rest, kept-parsed, kept-true, Steps, next-parsed, next-to, Stable, pure-stable, kept-stable, byte-stable, next-stable}
+use Rattle.file_format.proofs.Fields.{byte-parsed, byte-reads, Written, Mapped, mapped, map-lt, map-above, fields-reads, fields-parsed, fields-stable}
 
 -- a list of n words is its words
 listed : (n : ℕ) (ws : List ℕ) → length ws ≡ n → ws ≡ upto n (λ i. getD ws i 0)

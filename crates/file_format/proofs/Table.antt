@@ -1,5 +1,5 @@
 -- Tables of rows: if each row is read as it is written, so is the table. Assumes nothing.
-use Prim.Native.Nat.{ℕ, zero, suc, _+_, _<_, _≤_}
+use Prim.Native.Nat.{ℕ, zero, suc, _<_, _≤_}
 use native.Mathlib.Nat.{not-suc-le-zero}
 use native.Mathlib.Numerals.{add-one}
 use native.Mathlib.Decide.{decLt}
@@ -10,8 +10,8 @@ use lib.ListN.{length, getD, take, length-append, List·getD-append}
 use lib.Seq.{take-suc, take-append-le, take-length, take-append-seam, getD-append-seam}
 use Rattle.task.specs.Words.{joined}
 use Rattle.task.proofs.Words.{joined-append}
-use Rattle.file_format.specs.Parse.{Parsed, parsed, unparsed, next, table-read}
-use Rattle.file_format.proofs.Parse.{Bytes, bytes-behind, parsed-value, parsed-rest, Steps, next-parsed, next-to, Stable, pure-stable, next-stable}
+use Rattle.file_format.specs.Parse.{Parsed, parsed, next, table-read}
+use Rattle.file_format.proofs.Parse.{Bytes, bytes-behind, parsed-value, parsed-rest, next-parsed, next-to, Stable, pure-stable, next-stable}
 use Rattle.file_format.proofs.Fields.{Written}
 
 module _ {A : Type 0} (q : A → List ℕ) where

@@ -1,25 +1,24 @@
 -- The five parts behind the head: each is read as it is written, for a task that keeps the rules. Assumes nothing.
-use Prim.Native.Nat.{ℕ, zero, suc, _+_, _-_, _*_, _<_, _≤_}
+use Prim.Native.Nat.{ℕ, suc, _<_, _≤_}
 use native.Mathlib.Omega.{arith}
 use mathlib.Core.Path.{_≡_, refl, sym, ap, _∙_}
 use mathlib.Core.Logic.{_↔_}
-use mathlib.Core.Bool.{Bool, true, false}
-use mathlib.Core.List.{List, [], _∷_, _++_, append-nil}
+use mathlib.Core.Bool.{Bool, true}
+use mathlib.Core.List.{List, [], _∷_, _++_}
 use lib.ListN.{length, getD, take}
 use lib.Seq.{take-suc, getD-take}
 use Rattle.task.specs.Bounded.{upto}
 use Rattle.task.proofs.Bounded.{length-upto, getD-upto}
-use Rattle.task.specs.Table.{Row, Operator, Task, formula-kind, effect-kind}
+use Rattle.task.specs.Table.{Row, Operator}
 use Rattle.task.specs.Check.{twin-kept, formula-kept, effect-kept, operator-kept}
-use Rattle.task.specs.Rules.{no-row, no-operator, FormulaRule, EffectRule, OperatorRule, TwinRule}
+use Rattle.task.specs.Rules.{no-row, no-operator, TwinRule}
 use Rattle.task.specs.Words.{joined}
-use Rattle.task.proofs.RowRules.{formula-told, formula-passes, effect-told, effect-passes, operator-told, operator-passes}
 use Rattle.task.proofs.Passed.{twin-tested}
 use Rattle.file_format.specs.Bytes.{word-bytes, row-bytes, operator-bytes, bytes-for, packed}
-use Rattle.file_format.specs.Parse.{Parsed, parsed, unparsed, next, kept, byte-read, word-read, table-read}
+use Rattle.file_format.specs.Parse.{Parsed, parsed, next, kept, byte-read, word-read, table-read}
 use Rattle.file_format.specs.Reading.{initial-read, bit-of, spare-clear, twin-read, row-read, row-clear, row-from, formula-read, effect-read, operator-fields-read, operator-clear, operator-from, operator-read}
-use Rattle.file_format.proofs.Parse.{Bytes, bytes-behind, bytes-front, Kept, kept-parsed, kept-true, Steps, next-parsed, next-to, Stable, kept-stable, byte-stable, next-stable}
-use Rattle.file_format.proofs.Fields.{byte-parsed, byte-reads, Written, Word, word-reads, word-parsed, word-stable}
+use Rattle.file_format.proofs.Parse.{Bytes, bytes-front, kept-parsed, kept-true, Steps, next-parsed, Stable, kept-stable, byte-stable, next-stable}
+use Rattle.file_format.proofs.Fields.{byte-parsed, byte-reads, word-reads, word-parsed, word-stable}
 use Rattle.file_format.proofs.Table.{table-reads, Table, table-parsed, table-stable}
 use Rattle.file_format.proofs.Rows.{row-reads, row-parsed, operator-fields-reads, operator-fields-parsed, mapped-stable, ruled-reads, ruled-parsed, ruled-stable}
 use Rattle.file_format.proofs.Initial.{Bits, unpacked-packed, packed-clear, packed-length, packed-unpacked}

@@ -1,22 +1,21 @@
 -- A whole task: its file is read as the task, and only that; cut short it gives 1. Assumes nothing.
-use Prim.Native.Nat.{ℕ, zero, suc, _+_, _-_, _*_, _<_, _≤_}
-use native.Mathlib.Omega.{arith}
-use mathlib.Core.Path.{_≡_, refl, sym, ap, _∙_}
+use Prim.Native.Nat.{ℕ, _-_, _<_, _≤_}
+use mathlib.Core.Path.{_≡_, sym, ap, _∙_}
 use mathlib.Core.Logic.{_↔_}
-use mathlib.Core.Bool.{Bool, true, false}
-use mathlib.Core.List.{List, [], _∷_, _++_, append-assoc, append-nil}
-use lib.ListN.{length, getD, take}
+use mathlib.Core.Bool.{true}
+use mathlib.Core.List.{List, [], _∷_, _++_, append-assoc}
+use lib.ListN.{length, getD}
 use Rattle.task.specs.declared.Head.{Head}
 use Rattle.task.specs.Table.{Row, Operator, Task, formula-kind, effect-kind}
 use Rattle.task.specs.Check.{counts-kept, goal-kept, twin-kept, formula-kept, effect-kept, operator-kept}
-use Rattle.task.specs.Rules.{no-row, no-operator, FormulaRule, EffectRule, OperatorRule, Limits, Checked, HasRoom, TwinRule, Counts}
+use Rattle.task.specs.Rules.{no-row, no-operator, Checked, HasRoom, TwinRule, Counts}
 use Rattle.task.specs.Words.{joined, head-of}
 use Rattle.task.proofs.RowRules.{formula-told, formula-passes, effect-told, effect-passes, operator-told, operator-passes}
-use Rattle.task.proofs.Passed.{twin-tested, counts-tested, goal-tested, room-tested}
+use Rattle.task.proofs.Passed.{counts-tested, goal-tested, room-tested}
 use Rattle.file_format.specs.Bytes.{word-bytes, head-bytes, row-bytes, operator-bytes, packed, file-of}
-use Rattle.file_format.specs.Parse.{Parsed, parsed, unparsed, next, kept, table-read}
-use Rattle.file_format.specs.Reading.{Lengths, room, head-read, head-clear, head-from, head-kept, initial-read, twin-read, formula-read, effect-read, operator-read, tables-read, task-read}
-use Rattle.file_format.proofs.Parse.{Bytes, bytes-behind, parsed-value, parsed-rest, Kept, kept-parsed, kept-true, Steps, next-parsed, next-to, Stable, pure-stable, kept-stable, next-stable}
+use Rattle.file_format.specs.Parse.{parsed, next}
+use Rattle.file_format.specs.Reading.{Lengths, room, head-read, head-clear, head-from, head-kept, twin-read, formula-read, effect-read, operator-read, tables-read, task-read}
+use Rattle.file_format.proofs.Parse.{Bytes, bytes-behind, parsed-value, parsed-rest, kept-parsed, kept-true, next-parsed, Stable, pure-stable, kept-stable, next-stable}
 use Rattle.file_format.proofs.Table.{Table}
 use Rattle.file_format.proofs.Rows.{head-reads, head-parsed, mapped-stable}
 use Rattle.file_format.proofs.Initial.{bits-of-state}

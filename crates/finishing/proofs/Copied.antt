@@ -7,8 +7,7 @@ use lib.ListN.{length, getD, take, drop, replicate, List·getD-append}
 use lib.Seq.{length-take-le, length-front, getD-append-add, getD-take, getD-drop}
 use Rattle.task.specs.Bounded.{upto}
 use Rattle.task.specs.Table.{Row, row-at}
-use Rattle.task.specs.Words.{words-of}
-use Rattle.task.specs.Words.{padded}
+use Rattle.task.specs.Words.{words-of, padded}
 use Rattle.normal_form.proofs.Padded.{padded-rows}
 use Rattle.formula_builder.proofs.Stored.{upto-same}
 use Rattle.finishing.proofs.Blank.{zeros}

@@ -8,13 +8,12 @@ use lib.ListN.{length, getD, take, drop}
 use lib.Seq.{length-take-le, getD-take}
 use Rattle.task.specs.Bounded.{upto}
 use Rattle.task.specs.Table.{Row, Lent, Task, task-of, row-at}
-use Rattle.task.specs.Words.{words-of, operator-words, head-of}
+use Rattle.task.specs.Words.{words-of, operator-words, head-of, padded}
 use Rattle.task.proofs.Bounded.{length-upto}
 use Rattle.task.proofs.Held.{length-operators, initial-held}
 use Rattle.normal_form.specs.Builder.{St, start, plain}
 use Rattle.normal_form.specs.Finished.{built, assembled, twin-values, finished}
 use Rattle.normal_form.specs.Compiled.{Fits}
-use Rattle.task.specs.Words.{padded}
 use Rattle.normal_form.proofs.Growth.{grows-refl}
 use Rattle.normal_form.proofs.Over.{building-within}
 use Rattle.normal_form.specs.Inner.Allowed.{Allows}

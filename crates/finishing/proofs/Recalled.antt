@@ -3,7 +3,7 @@ use Prim.Native.Nat.{ℕ, zero, suc, _+_, _-_, _*_, _≤_, _<_}
 use native.Mathlib.Omega.{arith}
 use native.Mathlib.Nat.{not-suc-le-zero}
 use mathlib.Core.Path.{_≡_, refl, sym, ap, ap₂, _∙_}
-use mathlib.Core.List.{List, [], _∷_, _++_}
+use mathlib.Core.List.{List, [], _∷_}
 use lib.ListN.{length, getD}
 use Rattle.task.specs.Bounded.{upto}
 use Rattle.task.specs.Table.{row-at}
@@ -16,7 +16,7 @@ use Rattle.normal_form.proofs.ShapeRules.{All, none, also}
 use Rattle.formula_builder.specs.declared.Frame.{Frame}
 use Rattle.records.specs.Inner.Recorded.{acting, change-at, changes-from}
 use Rattle.records.proofs.Acting.{acting-operator, operator-more}
-use Rattle.building.specs.Inner.Taken.{changes-here, many, Kept, AllKept}
+use Rattle.building.specs.Inner.Taken.{changes-here, many, Kept}
 use Rattle.building.proofs.Kept.{many-suc, many-fewer, acting-below}
 use Rattle.building.proofs.Parts.{made-here}
 use Rattle.assembling.specs.Inner.Assembles.{changes-between, built-of, begins-at, built-in, assembled-in, InOrder}

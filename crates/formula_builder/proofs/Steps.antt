@@ -4,7 +4,7 @@ use native.Mathlib.Omega.{arith}
 use mathlib.Core.Path.{_≡_, refl, sym, ap, ap₂, _∙_}
 use mathlib.Core.Bool.{Bool, true, false, true≢false}
 use mathlib.Core.List.{List, [], _∷_, _++_}
-use lib.ListN.{length, getD, take, set, length-append}
+use lib.ListN.{length, getD, take, length-append}
 use lib.Dec.{eqb}
 use Rattle.task.specs.Bounded.{upto}
 use Rattle.task.specs.Table.{Row, row-at}

@@ -1,27 +1,25 @@
 -- Laying bytes out: how far each part reaches, and the ways out of the call. Assumes nothing.
-use Prim.Native.Nat.{ℕ, zero, suc, _+_, _-_, _*_, _<_, _≤_}
+use Prim.Native.Nat.{ℕ, _+_, _-_, _*_, _<_, _≤_}
 use native.Mathlib.Nat.{zero-add}
 use native.Mathlib.Numerals.{add-one}
 use native.Mathlib.Omega.{arith}
-use mathlib.Core.Path.{_≡_, refl, sym, ap, _∙_}
-use mathlib.Core.Bool.{Bool, true, false}
+use mathlib.Core.Path.{_≡_, sym, ap, _∙_}
+use mathlib.Core.Bool.{true, false}
 use mathlib.Core.List.{List, [], _∷_, _++_}
-use lib.ListN.{length, getD, take, drop, replicate, length-append, length-replicate}
-use lib.Seq.{sets, sets-eq, length-sets, take-suc, take-at, take-append-seam, length-take-le}
+use lib.ListN.{length, getD, take, drop, replicate, length-replicate}
+use lib.Seq.{sets-eq, take-suc, take-at, take-append-seam}
 use lib.Dec.{leb}
 use borrow.Author.Tests.{le-leb, lt-leb}
 use Rattle.task.specs.declared.Head.{Head}
 use Rattle.task.specs.Table.{Lent, Task}
-use Rattle.task.specs.Words.{joined, head-of}
+use Rattle.task.specs.Words.{joined, head-of, padded}
 use Rattle.task.proofs.Words.{lent-in, length-words, length-operator-words}
 use Rattle.file_format.specs.Bytes.{word-bytes, head-fields}
 use Rattle.task_writer.specs.Inner.Putting.{Put}
 use Rattle.task_writer.proofs.Puts.{put-none, put-then, put-same, put-size}
 use Rattle.task_file.proofs.ReadWays.{zeros-of, drop-zeros}
-use Rattle.task.specs.Words.{padded}
-use Rattle.layouts.specs.Layout.{tables-bytes, laid-by, laid}
+use Rattle.layouts.specs.Layout.{tables-bytes, laid-by, laid, Lays}
 use Rattle.layouts.specs.Inner.Giving.{flat-bytes}
-use Rattle.layouts.specs.Layout.{Lays}
 
 -- what a loop has put after i bytes
 pub record BytesDone (bytes : List ℕ) (count at : ℕ) (before out : List ℕ) (i place : ℕ) : Type 0 where

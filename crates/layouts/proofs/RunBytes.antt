@@ -1,5 +1,4 @@
 -- Bytes of a run's result: byte 12 is whether the goal holds, byte 13 whether the run is a plan. Assumes nothing.
-use Prim.Native.Nat.{ℕ}
 use mathlib.Core.Path.{_≡_, refl}
 use lib.ListN.{getD}
 use Rattle.task.specs.Run.{Run, is-plan}

@@ -1,5 +1,5 @@
 -- The layouts that cross to C: all integers little-endian, a task as its file, operator numbers as 16 bits.
-use Prim.Native.Nat.{ℕ, zero, suc, _+_, _-_, _*_, _/_, _%_}
+use Prim.Native.Nat.{ℕ, zero, suc, _+_, _*_, _/_, _%_}
 use mathlib.Core.Bool.{Bool, true, false, _&&_}
 use mathlib.Core.List.{List, [], _∷_, _++_}
 use lib.ListN.{length, getD, replicate}
@@ -7,10 +7,9 @@ use lib.Dec.{leb, eqb}
 use Rattle.task.specs.Bounded.{upto}
 use Rattle.task.specs.Table.{Task}
 use Rattle.task.specs.Check.{state-kept, sequence-kept, unless}
-use Rattle.task.specs.Words.{joined, words-of, operator-words, head-of}
+use Rattle.task.specs.Words.{joined, words-of, operator-words, head-of, padded}
 use Rattle.task.specs.Run.{Run, Stop, ended, stopped, is-plan}
 use Rattle.file_format.specs.Bytes.{word-bytes, head-fields}
-use Rattle.task.specs.Words.{padded}
 use mathlib.Core.Path.{_≡_}
 
 -- the n low bytes of a number, the lowest first

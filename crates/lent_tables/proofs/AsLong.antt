@@ -3,10 +3,9 @@ use Prim.Native.Nat.{ℕ}
 use mathlib.Core.Path.{_≡_, sym, ap, _∙_}
 use lib.ListN.{length, replicate, length-replicate}
 use Rattle.task.specs.Table.{Lent, task-of}
-use Rattle.task.specs.Words.{words-of, operator-words}
+use Rattle.task.specs.Words.{words-of, operator-words, padded}
 use Rattle.normal_form.specs.Finished.{finished}
 use Rattle.normal_form.specs.Compiled.{Room}
-use Rattle.task.specs.Words.{padded}
 use Rattle.lent_tables.specs.declared.Passes.{Passes}
 use Rattle.lent_tables.specs.Inner.Fills.{Blanked, Fills}
 use Rattle.lent_tables.specs.Tables.{Tables, room-of}

@@ -1,5 +1,5 @@
 -- The least of some numbers. Assumes nothing.
-use Prim.Native.Nat.{ℕ, _+_, _-_, _≤_}
+use Prim.Native.Nat.{ℕ, _-_, _≤_}
 use native.Mathlib.Omega.{arith}
 use Rattle.lent_tables.specs.Inner.Sizes.{Least, MostTwins}
 

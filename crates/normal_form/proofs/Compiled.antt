@@ -15,7 +15,7 @@ use Rattle.task.specs.Check.{counts-kept, goal-kept, room as has-room, long-eno
 use Rattle.task.specs.Rules.{Checked}
 use Rattle.task.specs.Run.{plain-run, effect-of-operator}
 use Rattle.task.specs.Corresponding.{Corresponding}
-use Rattle.task.specs.Words.{words-of, operator-words, head-of}
+use Rattle.task.specs.Words.{words-of, operator-words, head-of, padded}
 use Rattle.task.proofs.Bounded.{and-left, and-right, and-both}
 use Rattle.task.proofs.Held.{length-initial}
 use Rattle.task.proofs.Kept.{kept-rules}
@@ -26,7 +26,6 @@ use Rattle.normal_form.specs.Flat.{Flat}
 use Rattle.normal_form.specs.Positive.{Positive}
 use Rattle.normal_form.specs.Alike.{Alike}
 use Rattle.normal_form.specs.Compiled.{Room, compile-scratch-kept, output-lengths, fits, Fits, compile-refusal, compiled-head, not-compiled, CompileOutcome, nothing-given, task-given, outcome-by, compiling, given}
-use Rattle.task.specs.Words.{padded}
 use Rattle.normal_form.proofs.ShapePassed.{finished-variables, finished-rules, positive}
 use Rattle.normal_form.proofs.ShapeFinished.{finished-operators, flat}
 use Rattle.normal_form.proofs.ShapeLimits.{finished-limits}

@@ -4,9 +4,8 @@ use mathlib.Core.List.{[], _∷_}
 use Rattle.task.specs.Bounded.{every}
 use Rattle.task.specs.Table.{Lent, formula-kind, effect-kind, row-at, operator-at}
 use Rattle.task.specs.Check.{counts-kept, goal-kept, room as has-room, long-enough, initial-kept, twin-kept, twins-kept, formula-words-kept, formula-kept, formulas-kept, effect-words-kept, effect-kept, effects-kept, operator-kept, operators-kept, refusal}
-use Rattle.task.specs.Words.{joined, row-words, operator-row-words, words-of, operator-words, head-of}
+use Rattle.task.specs.Words.{joined, row-words, operator-row-words, words-of, operator-words, head-of, padded}
 use Rattle.normal_form.specs.Compiled.{Room, compile-scratch-kept, fits, compile-refusal, compiled-head, not-compiled, CompileOutcome, nothing-given, task-given, outcome-by, compiling}
-use Rattle.task.specs.Words.{padded}
 use Rattle.normal_form.proofs.Examples.{source, whole}
 
 -- the definition, computed

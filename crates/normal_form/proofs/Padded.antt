@@ -7,11 +7,10 @@ use lib.ListN.{length, getD, take, drop, set, replicate, length-append, length-d
 use lib.Seq.{append-snoc, set-at, length-take-le, getD-drop, ext-getD}
 use Rattle.task.specs.Bounded.{upto}
 use Rattle.task.specs.Table.{Row, Operator, row-at}
-use Rattle.task.specs.Words.{joined, row-words, operator-row-words, words-of, operator-words}
+use Rattle.task.specs.Words.{joined, row-words, operator-row-words, words-of, operator-words, padded}
 use Rattle.task.proofs.Fronts.{rows-front}
 use Rattle.task.proofs.Words.{length-words, length-operator-words, words-append, operator-words-append}
 use Rattle.normal_form.specs.Assembly.{unassembled}
-use Rattle.task.specs.Words.{padded}
 use Rattle.normal_form.specs.Inner.Stored.{three}
 
 -- nothing held

@@ -13,7 +13,6 @@ use Rattle.task.specs.Words.{lent-of}
 use Rattle.task.proofs.Down.{effects-none, effects-more}
 use Rattle.task.specs.Inner.Rows.{EffectsDown}
 use Rattle.task.proofs.Words.{lent-kept}
-use Rattle.normal_form.specs.Operators.{Changes}
 use Rattle.normal_form.specs.Assembly.{rules, unassembled}
 use Rattle.normal_form.specs.Finished.{built, assembled, twin-values, finished}
 use Rattle.normal_form.specs.Positive.{Positive, PositiveTask}

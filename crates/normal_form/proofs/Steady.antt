@@ -1,6 +1,5 @@
 -- Images, effect conditions, operators and the whole of building are steady: what makes a memo right. Assumes nothing.
 use Prim.Native.Nat.{ℕ}
-use mathlib.Core.Bool.{cond}
 use lib.ListN.{length}
 use lib.Dec.{eqb}
 use Rattle.task.specs.Table.{Task}

@@ -1,6 +1,6 @@
 -- Building the new formula table (01, "Building the compiled task"): a state of rows and twins, and steps that answer a value and the state after.
 use Prim.Native.Nat.{ℕ, zero, suc, _+_}
-use mathlib.Core.Bool.{Bool, true, false, cond, _&&_}
+use mathlib.Core.Bool.{Bool, cond, _&&_}
 use mathlib.Core.List.{List, [], _∷_, _++_}
 use lib.Dec.{eqb}
 use Rattle.task.specs.Table.{Row}

@@ -1,8 +1,8 @@
 -- 01's lines, computed: the whole example, and the edges of a line.
 use Prim.Native.Nat.{ℕ}
 use mathlib.Core.Path.{_≡_, refl}
-use mathlib.Core.List.{List, [], _∷_}
-use Rattle.task.specs.Table.{Row, Operator, Task}
+use mathlib.Core.List.{[], _∷_}
+use Rattle.task.specs.Table.{Row, Task}
 use Rattle.task.specs.Words.{joined, row-words, operator-row-words}
 use Rattle.printing.specs.Lines.{bytes, digits-within, decimal, word, line, numbered, values, initial-line, head-line, twin-lines, lines, refusal-line}
 

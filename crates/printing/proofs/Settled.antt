@@ -2,12 +2,11 @@
 use Prim.Native.Nat.{ℕ, zero, suc, _+_, _-_, _≤_, _<_}
 use native.Mathlib.Nat.{zero-add}
 use native.Mathlib.Omega.{arith}
-use mathlib.Core.Path.{_≡_, refl, sym, ap, _∙_}
-use mathlib.Core.Bool.{Bool, true, false, cond}
-use mathlib.Core.List.{List, [], _∷_, _++_, append-nil}
+use mathlib.Core.Path.{_≡_, refl, ap, _∙_}
+use mathlib.Core.Bool.{Bool, cond}
+use mathlib.Core.List.{List, _++_, append-nil}
 use lib.ListN.{length, set, drop, replicate, length-append, length-replicate, length-drop, drop-of-length-le}
-use lib.Seq.{sets, sets-eq, length-sets}
-use lib.Dec.{leb, eqb}
+use lib.Seq.{sets-eq}
 use borrow.Author.Fill.{fill-more}
 use borrow.Author.Tests.{le-leb, lt-leb, eq-eqb, ne-eqb}
 use Rattle.task.specs.Table.{Lent, task-of}
@@ -16,7 +15,7 @@ use Rattle.task.specs.Words.{padded}
 use Rattle.printing.specs.declared.PrintAnswer.{PrintAnswer}
 use Rattle.printing.specs.declared.PrintAnswer.the-variants.{Printed, Refused}
 use Rattle.printing.specs.Lines.{lines}
-use Rattle.printing.specs.Printing.{PrintOutcome, PrintGives, not-printed, placed, printing}
+use Rattle.printing.specs.Printing.{PrintGives, not-printed, placed, printing}
 use Rattle.printing.specs.Inner.Put.{Put}
 use Rattle.printing.proofs.Puts.{put-length}
 

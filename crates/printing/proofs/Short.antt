@@ -1,15 +1,15 @@
 -- The lines of a task that keeps the rules, with costs of 16 bits, take at most 164,384 bytes: a buffer of that length always suffices.
-use Prim.Native.Nat.{ℕ, zero, suc, _+_, _-_, _*_, _^_, _≤_, _<_}
-use native.Mathlib.Nat.{not-suc-le-zero, add-zero, suc-mul}
+use Prim.Native.Nat.{ℕ, suc, _+_, _-_, _*_, _^_, _≤_, _<_}
+use native.Mathlib.Nat.{add-zero, suc-mul}
 use native.Mathlib.Omega.{arith}
-use mathlib.Core.Path.{_≡_, refl, sym, ap, _∙_}
+use mathlib.Core.Path.{_≡_, refl}
 use mathlib.Core.List.{List, [], _∷_, _++_, map}
 use lib.ListN.{length, getD, length-append, length-map, List·getD-map}
-use Rattle.task.specs.Table.{Row, Operator, Lent, Task, FormulaKind, false-kind, true-kind, variable-kind, not-kind, and-kind, or-kind, implies-kind, equivalent-kind, unknown-formula, formula-kind, EffectKind, empty-kind, set-kind, clear-kind, both-kind, under-kind, unknown-effect, effect-kind, task-of}
+use Rattle.task.specs.Table.{Task, FormulaKind, false-kind, true-kind, variable-kind, not-kind, and-kind, or-kind, implies-kind, equivalent-kind, unknown-formula, formula-kind, EffectKind, empty-kind, set-kind, clear-kind, both-kind, under-kind, unknown-effect, effect-kind}
 use Rattle.task.specs.Rules.{no-row, no-operator, FormulaRule, EffectRule, Checked}
 use Rattle.task.specs.Words.{joined, row-words, operator-row-words}
 use Rattle.task.proofs.KindNumbers.{HasFormulaNumber, HasEffectNumber, formula-number, effect-number}
-use Rattle.printing.specs.Lines.{newline, blank, digit, decimal, word, line, numbered, values, initial-line, head-line, twin-lines, lines, refusal-line}
+use Rattle.printing.specs.Lines.{newline, blank, digit, word, line, numbered, values, initial-line, head-line, twin-lines, lines, refusal-line}
 use Rattle.printing.proofs.Decimal.{decimal-short}
 
 -- a number below 10, 100, 1,000 .. takes at most 2, 3, 4 .. bytes with its blank

@@ -1,9 +1,8 @@
 -- A buffer of 164,384 bytes has room for the lines of any tables that pass the check, and one of 8 bytes for any refusal of 16 bits.
-use Prim.Native.Nat.{ℕ, _+_, _-_, _*_, _≤_, _<_}
+use Prim.Native.Nat.{ℕ, _+_, _*_, _≤_, _<_}
 use native.Mathlib.Omega.{arith}
 use mathlib.Core.Path.{_≡_, _∙_}
-use mathlib.Core.List.{[], _∷_, _++_}
-use lib.ListN.{length, getD, replicate}
+use lib.ListN.{length, getD}
 use Rattle.task.specs.Table.{Lent, operator-at, task-of}
 use Rattle.task.specs.Check.{refusal}
 use Rattle.task.specs.Words.{padded}

@@ -9,9 +9,8 @@ use Rattle.task.proofs.Kept.{kept-rules}
 use Rattle.task.proofs.Passed.{passed, counts-tested}
 use Rattle.file_format.specs.Reading.{Lengths, Verdict, rejected, reading}
 use Rattle.entry_tables.proofs.Reading.{ReadAs, same-reading}
-use Rattle.layouts.specs.Layout.{tables-bytes, laid}
+use Rattle.layouts.specs.Layout.{tables-bytes, laid, Lays}
 use Rattle.layouts.specs.Inner.Giving.{flat-bytes, LayIn}
-use Rattle.layouts.specs.Layout.{Lays}
 use Rattle.layouts.proofs.LayWays.{flat-in}
 use Rattle.read_entry.specs.Entry.{read-entry, read-entry-by}
 

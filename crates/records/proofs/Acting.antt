@@ -11,9 +11,8 @@ use borrow.Author.Tests.{eqb-true, eq-eqb, ne-eqb}
 use Rattle.task.specs.Semantics.{Atom, sets, clears}
 use Rattle.task.proofs.Bounded.{and-left, and-right}
 use Rattle.normal_form.specs.Operators.{Changes, Built}
-use Rattle.normal_form.specs.Assembly.{Rule, rule, with-twin, rules-of, rules, write-rules, Assembled, assemble-operator}
+use Rattle.normal_form.specs.Assembly.{Rule, rule, rules-of, rules, Assembled, assemble-operator}
 use Rattle.normal_form.proofs.Assembling.{rules-none}
-use Rattle.normal_form.proofs.ShapeAssembled.{unwritten}
 use Rattle.normal_form.proofs.ShapeCounts.{rows-of-rules, written-length}
 use Rattle.normal_form.proofs.ShapeRules.{All, none, also}
 use Rattle.records.specs.Inner.Recorded.{idle, acting}

@@ -10,11 +10,10 @@ use lib.Dec.{eqb, ltb}
 use borrow.Author.Tests.{eq-eqb, ne-eqb, lt-ltb, le-ltb}
 use Rattle.task.specs.Table.{Row, Operator}
 use Rattle.task.specs.Semantics.{sets, clears}
-use Rattle.task.specs.Words.{words-of}
+use Rattle.task.specs.Words.{words-of, padded}
 use Rattle.normal_form.specs.Builder.{place}
 use Rattle.normal_form.specs.Operators.{Changes}
 use Rattle.normal_form.specs.Assembly.{Rule, rule, with-twin, rules-of, rules, Written, atom-row, rule-rows, write-rule, write-rules, unassembled}
-use Rattle.task.specs.Words.{padded}
 use Rattle.normal_form.proofs.Assembling.{rules-none}
 use Rattle.normal_form.proofs.Growth.{longer}
 use Rattle.normal_form.proofs.Padded.{padded-empty, padded-row, padded-operator}
@@ -27,9 +26,8 @@ use Rattle.rule_writer.specs.declared.Chain.{Chain}
 use Rattle.rule_writer.specs.declared.Rule.{Rule as CodeRule}
 use Rattle.rule_writer.specs.declared.Frame.{Frame}
 use Rattle.rule_writer.specs.declared.Changes.{Changes as CodeChanges}
-use Rattle.rule_writer.specs.Inner.Places.{Placed}
+use Rattle.rule_writer.specs.Inner.Places.{Placed, begun}
 use Rattle.rule_writer.specs.Inner.Writes.{atom-of, kind-of, changes-in, alone, rule-in, twin-rule-in, all-in, two-rows, Holds, Ready, First, Next, Writes, OneMore}
-use Rattle.rule_writer.specs.Inner.Places.{begun}
 
 abbrev pub filled : Chain → Chain
 filled at = record { rows = at .rows; stands = at .stands; full = true }

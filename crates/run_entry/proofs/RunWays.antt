@@ -23,9 +23,8 @@ use Rattle.layouts.specs.Layout.{low-bytes, numbers-of, run-number, flag, stop-
 use Rattle.layouts.specs.Inner.Giving.{stop-of, plan-of, outcome-bytes, ResultGives}
 use Rattle.layouts.proofs.RunWays.{numbers-length, free-of}
 use Rattle.entry_tables.proofs.Reading.{ReadAs, same-reading}
-use Rattle.run_entry.specs.Entry.{run-given, run-entry, run-entry-by}
+use Rattle.run_entry.specs.Entry.{run-given, run-entry, run-entry-by, RunEntryGives}
 use Rattle.run_entry.specs.Inner.Giving.{FreeRun, RunIn, small-run, SmallRun}
-use Rattle.run_entry.specs.Entry.{RunEntryGives}
 
 -- room for a run that nothing refuses: by its limits, or by its few numbers and rows
 pub full-room :

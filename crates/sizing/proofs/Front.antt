@@ -7,11 +7,10 @@ use mathlib.Core.List.{List, _∷_, _++_, append-assoc}
 use lib.ListN.{length, take, drop, replicate, replicate-append-replicate}
 use lib.Seq.{length-take-le}
 use Rattle.task.specs.Table.{Lent, task-of}
-use Rattle.task.specs.Words.{words-of, operator-words}
+use Rattle.task.specs.Words.{words-of, padded}
 use Rattle.task.proofs.Words.{length-words}
 use Rattle.normal_form.specs.Finished.{finished}
 use Rattle.normal_form.specs.Compiled.{Room}
-use Rattle.task.specs.Words.{padded}
 use Rattle.normal_form.proofs.Compiled.{length-padded}
 use Rattle.normal_form.proofs.Padded.{padded-over}
 use Rattle.lent_tables.specs.declared.Passes.{Passes}

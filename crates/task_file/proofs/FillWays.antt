@@ -1,8 +1,8 @@
 -- Filling the tables: one law for each way out. Assumes nothing.
-use Prim.Native.Nat.{ℕ, _+_, _-_, _*_, _≤_}
+use Prim.Native.Nat.{ℕ, _-_, _*_}
 use mathlib.Core.Path.{_≡_, refl, sym, ap, _∙_}
-use mathlib.Core.List.{List, [], _∷_, _++_}
-use lib.ListN.{length, take, drop}
+use mathlib.Core.List.{List}
+use lib.ListN.{take, drop}
 use Rattle.task.specs.declared.Head.{Head}
 use Rattle.task.specs.declared.Table.the-variants.{Formulas, Effects, Operators}
 use Rattle.task.specs.Table.{Row, Operator, Task}
@@ -13,7 +13,7 @@ use Rattle.file_format.specs.Parse.{Parsed, parsed, unparsed, next, table-read}
 use Rattle.file_format.specs.Reading.{initial-read, twin-read, formula-read, effect-read, operator-read, tables-read}
 use Rattle.task_file.specs.Inner.Tables.{words-read}
 use Rattle.task_file.specs.Inner.Answers.{ReadPart, place-told}
-use Rattle.task_file.specs.Inner.Filling.{RowTables, rows-behind, AllTables, all-behind, all-words, part-told, RowsFilled, AllFilled}
+use Rattle.task_file.specs.Inner.Filling.{rows-behind, AllTables, all-behind, all-words, RowsFilled, AllFilled}
 
 -- what a part's answer says of its outcome
 part-lost : {n k : ℕ} {file : List ℕ} {o : Parsed (List ℕ)} {r : Place} {b a : List ℕ} → ReadPart n file o r b a → r ≡ Nowhere k → o ≡ unparsed k

@@ -1,16 +1,16 @@
 -- Reading the head: one law for each way out. Assumes nothing.
-use Prim.Native.Nat.{ℕ, zero, suc, _+_, _*_, _/_, _%_, _<_, _≤_}
+use Prim.Native.Nat.{ℕ, suc, _*_, _/_, _%_, _<_, _≤_}
 use native.Mathlib.Omega.{arith}
-use mathlib.Core.Path.{_≡_, refl, sym, ap, _∙_}
-use mathlib.Core.Bool.{Bool, true, false}
+use mathlib.Core.Path.{_≡_, refl}
+use mathlib.Core.Bool.{true, false}
 use mathlib.Core.List.{List, [], _∷_, _++_}
 use lib.ListN.{length, getD, drop}
-use lib.Dec.{ltb, leb}
+use lib.Dec.{leb}
 use borrow.Author.Tests.{le-ltb, lt-ltb, le-leb}
 use Rattle.task.specs.declared.Head.{Head}
 use Rattle.task.specs.Check.{counts-kept, goal-kept}
-use Rattle.file_format.specs.Parse.{Parsed, parsed, unparsed, next, kept, byte-read, field-read, fields-read, mapped-read}
-use Rattle.file_format.specs.Reading.{Lengths, room, head-clear, head-from, head-read, head-kept}
+use Rattle.file_format.specs.Parse.{Parsed, parsed, unparsed, next, kept, field-read, fields-read, mapped-read}
+use Rattle.file_format.specs.Reading.{Lengths, room, head-read, head-kept}
 use Rattle.task_file.proofs.Places.{byte-ends, byte-here}
 
 -- three fields, and then the others

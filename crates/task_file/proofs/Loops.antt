@@ -1,12 +1,11 @@
 -- Loops that read a table row by row into words. Assumes nothing.
 use Prim.Native.Nat.{ℕ, zero, suc, _+_, _*_, _<_, _≤_}
-use native.Mathlib.Nat.{not-suc-le-zero}
 use native.Mathlib.Numerals.{add-one}
 use native.Mathlib.Decide.{decLt}
 use native.Mathlib.Omega.{arith}
 use mathlib.Core.Path.{_≡_, refl, sym, ap, _∙_}
 use mathlib.Core.List.{List, [], _∷_, _++_, append-assoc, append-nil}
-use lib.ListN.{length, getD, take, drop, set, length-set}
+use lib.ListN.{length, take, drop, set, length-set}
 use lib.Seq.{take-suc-set, drop-set-lt}
 use Rattle.task.specs.declared.Head.{Head}
 use Rattle.task.specs.declared.Table.{Table}
@@ -14,7 +13,7 @@ use Rattle.task.specs.declared.Table.the-variants.{Formulas, Effects, Operators
 use Rattle.task.specs.Words.{joined, row-words, operator-row-words, words-of, operator-words}
 use Rattle.task.proofs.Words.{joined-append}
 use Rattle.file_format.specs.Parse.{Parsed, parsed, unparsed, next, table-read}
-use Rattle.file_format.specs.Reading.{row-read, operator-fields-read, formula-read, effect-read, operator-read}
+use Rattle.file_format.specs.Reading.{formula-read, effect-read, operator-read}
 use Rattle.task_file.specs.Inner.Tables.{kept-words-read, words-read}
 use Rattle.task_file.specs.declared.Place.{Place}
 use Rattle.task_file.specs.declared.Place.the-variants.{At, Nowhere}

@@ -1,16 +1,15 @@
 -- Reading at a place of a file: what stands at `at` and behind it. Assumes nothing.
-use Prim.Native.Nat.{ℕ, zero, suc, _+_, _-_, _*_, _/_, _%_, _<_, _≤_}
+use Prim.Native.Nat.{ℕ, zero, suc, _+_, _*_, _<_, _≤_}
 use native.Mathlib.Omega.{arith}
 use native.Mathlib.Numerals.{add-one}
 use native.Mathlib.Decide.{decLt}
-use mathlib.Core.Path.{_≡_, refl, sym, ap, _∙_}
-use mathlib.Core.Bool.{Bool, true, false}
-use mathlib.Core.List.{List, [], _∷_, _++_}
+use mathlib.Core.Path.{_≡_, refl}
+use mathlib.Core.List.{List}
 use lib.ListN.{length, getD, drop, drop-of-length-le}
 use lib.Seq.{drop-cons}
 use lib.Dec.{ltb}
-use borrow.Author.Tests.{le-ltb, lt-ltb}
-use Rattle.file_format.specs.Parse.{Parsed, parsed, unparsed, next, kept, byte-read, word-read, field-read, fields-read}
+use borrow.Author.Tests.{lt-ltb}
+use Rattle.file_format.specs.Parse.{parsed, unparsed, next, kept, byte-read, word-read, field-read}
 
 -- nothing stands behind the end
 pub byte-ends : (file : List ℕ) (at : ℕ) → length file ≤ at → byte-read (drop at file) ≡ unparsed 1

@@ -1,34 +1,32 @@
 -- The call that reads: one law for each way out. Assumes nothing.
-use Prim.Native.Nat.{ℕ, zero, suc, _+_, _-_, _*_, _<_, _≤_}
+use Prim.Native.Nat.{ℕ, zero, suc, _-_, _*_, _<_, _≤_}
 use native.Mathlib.Nat.{sub-zero, zero-sub, suc-sub-suc}
 use native.Mathlib.Omega.{arith}
 use mathlib.Core.Path.{_≡_, refl, sym, ap, subst, _∙_}
-use mathlib.Core.Bool.{Bool, true, false}
+use mathlib.Core.Bool.{true}
 use mathlib.Core.List.{List, [], _∷_, _++_}
 use lib.ListN.{length, getD, take, drop, replicate, take-append-drop, drop-of-length-le, length-replicate}
-use lib.Seq.{drop-cons, length-take-le, drop-append-seam}
+use lib.Seq.{drop-cons, length-take-le}
 use borrow.Author.Tests.{leb-true}
 use Rattle.task.specs.declared.Head.{Head}
 use Rattle.task.specs.Table.{Task}
 use Rattle.task.specs.Check.{counts-kept, goal-kept}
-use Rattle.task.specs.Words.{head-of, words-of, operator-words}
+use Rattle.task.specs.Words.{head-of, words-of, operator-words, padded}
 use Rattle.task.proofs.Bounded.{and-left, and-right}
 use Rattle.task.proofs.Passed.{counts-tested}
 use Rattle.task_file.specs.declared.Place.{Place}
 use Rattle.task_file.specs.declared.Place.the-variants.{At, Nowhere}
 use Rattle.task_file.specs.declared.ReadAnswer.{ReadAnswer}
 use Rattle.task_file.specs.declared.ReadAnswer.the-variants.{Read, Refused}
-use Rattle.file_format.specs.Parse.{Parsed, parsed, unparsed, next, kept}
+use Rattle.file_format.specs.Parse.{Parsed, parsed, unparsed, next}
 use Rattle.file_format.specs.Reading.{Lengths, room, head-read, head-kept, tables-read, task-read, Verdict, accepted, rejected, at-end, reading}
 use Rattle.task_file.specs.Inner.Answers.{Cleared}
-use Rattle.task_file.specs.Outcome.{lengths}
-use Rattle.task_file.specs.Inner.Filling.{RowTables, AllTables, all-behind, all-words, part-told, RowsRoom, AllRoom, AllFilled}
-use Rattle.task_file.specs.Outcome.{ReadOutcome, outcome-of, read-outcome, read-left}
+use Rattle.task_file.specs.Outcome.{lengths, outcome-of, read-outcome, read-left}
+use Rattle.task_file.specs.Inner.Filling.{AllTables, all-words, part-told, AllRoom, AllFilled}
 use Rattle.task_file.specs.Inner.Filled.{read-answer, Holds, Filled}
-use Rattle.task.specs.Words.{padded}
-use Rattle.file_format.proofs.Parse.{Bytes, bytes-behind, parsed-value, parsed-rest, refused-parsed, Steps, next-parsed, Kept, kept-parsed}
+use Rattle.file_format.proofs.Parse.{Bytes, parsed-value, parsed-rest, refused-parsed, Steps, next-parsed, kept-parsed}
 use Rattle.task_file.proofs.FillWays.{all-read}
-use Rattle.file_format.proofs.Whole.{Behind, tables-parsed}
+use Rattle.file_format.proofs.Whole.{tables-parsed}
 
 pub bytes-from : (file : List ℕ) → ((i : ℕ) → getD file i 0 < 256) → Bytes file
 bytes-from [] h = tt

@@ -1,11 +1,10 @@
 -- Reading a row's three words: one law for each way out. Assumes nothing.
-use Prim.Native.Nat.{ℕ, zero, suc, _+_, _*_, _/_, _%_, _<_, _≤_}
+use Prim.Native.Nat.{ℕ, _/_, _%_}
 use native.Mathlib.Omega.{arith}
 use mathlib.Core.Path.{_≡_, refl, sym, ap, _∙_}
 use mathlib.Core.Bool.{Bool, true, false}
 use mathlib.Core.List.{List, [], _∷_, _++_}
 use lib.ListN.{drop}
-use lib.Dec.{ltb, eqb}
 use borrow.Author.Tests.{eqb-true}
 use Rattle.task.specs.declared.Head.{Head}
 use Rattle.task.specs.declared.Table.{Table}
@@ -14,8 +13,8 @@ use Rattle.task.specs.Table.{Row, Operator}
 use Rattle.task.specs.Check.{formula-kept, effect-kept, operator-kept}
 use Rattle.task.specs.Inner.Tables.{words-kept}
 use Rattle.task.specs.Words.{row-words, operator-row-words}
-use Rattle.file_format.specs.Parse.{Parsed, parsed, unparsed, next, kept, byte-read, word-read, field-read, fields-read, mapped-read}
-use Rattle.file_format.specs.Reading.{row-clear, row-from, row-read, operator-from, operator-clear, operator-fields-read, formula-read, effect-read, operator-read}
+use Rattle.file_format.specs.Parse.{Parsed, parsed, unparsed, next, kept, byte-read, field-read, fields-read, mapped-read}
+use Rattle.file_format.specs.Reading.{row-read, operator-fields-read, formula-read, effect-read, operator-read}
 use Rattle.task_file.specs.Inner.Tables.{map-clear, own-number, row-words-read, kept-words-read}
 use Rattle.task_file.specs.Inner.Answers.{row-told, arranged-row}
 use Rattle.file_format.proofs.Parse.{parsed-value, parsed-rest, refused-parsed}

@@ -1,24 +1,22 @@
 -- Unpacking the initial state, at a place of a file. Assumes nothing.
-use Prim.Native.Nat.{ℕ, zero, suc, _+_, _-_, _*_, _/_, _%_, _^_, _<_, _≤_}
+use Prim.Native.Nat.{ℕ, zero, suc, _+_, _-_, _/_, _%_, _^_, _<_, _≤_}
 use native.Mathlib.Nat.{not-suc-le-zero}
 use native.Mathlib.Numerals.{add-one}
 use native.Mathlib.Decide.{decLt}
 use native.Mathlib.Omega.{arith}
 use mathlib.Core.Path.{_≡_, refl, sym, ap, _∙_}
 use mathlib.Core.Bool.{Bool, true, false, _||_}
-use mathlib.Core.List.{List, [], _∷_, _++_}
-use lib.ListN.{length, getD, take, drop, set, length-set, take-append-drop, length-drop, drop-of-length-le}
-use lib.Seq.{take-suc-set, drop-set-lt, getD-drop, getD-take, drop-drop, length-take-le, take-length, drop-length}
+use mathlib.Core.List.{List}
+use lib.ListN.{length, getD, take, drop, set, length-set, take-append-drop, length-drop}
+use lib.Seq.{take-suc-set, drop-set-lt, getD-drop, getD-take, drop-drop, length-take-le, drop-length}
 use lib.Dec.{eqb}
 use borrow.Author.Tests.{eq-eqb, ne-eqb, eqb-false}
 use Rattle.task.specs.Bounded.{upto}
-use Rattle.task.specs.Words.{joined}
-use Rattle.task_file.specs.declared.Place.{Place}
 use Rattle.task_file.specs.declared.Place.the-variants.{At, Nowhere}
 use Rattle.file_format.specs.Bytes.{bytes-for}
-use Rattle.file_format.specs.Parse.{Parsed, parsed, unparsed, next, kept, byte-read, table-read}
+use Rattle.file_format.specs.Parse.{parsed, unparsed, next, kept, byte-read, table-read}
 use Rattle.file_format.specs.Reading.{bit-of, spare-clear, initial-read}
-use Rattle.task_file.specs.Inner.Answers.{ReadPart, place-told, Unpacked}
+use Rattle.task_file.specs.Inner.Answers.{ReadPart, Unpacked}
 use Rattle.file_format.proofs.Fields.{byte-reads}
 use Rattle.file_format.proofs.Table.{table-reads}
 use Rattle.file_format.proofs.Tables.{one-byte, bytes-joined, plain-byte}

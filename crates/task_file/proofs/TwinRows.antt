@@ -1,9 +1,9 @@
 -- The loop over the originals of the twins. Assumes nothing.
-use Prim.Native.Nat.{ℕ, zero, suc, _+_, _*_, _<_, _≤_}
+use Prim.Native.Nat.{ℕ, suc, _+_, _<_, _≤_}
 use native.Mathlib.Numerals.{add-one}
 use native.Mathlib.Omega.{arith}
 use mathlib.Core.Path.{_≡_, refl, sym, ap, _∙_}
-use mathlib.Core.Bool.{Bool, true, false, not, _&&_}
+use mathlib.Core.Bool.{true, false, not}
 use mathlib.Core.List.{List, [], _∷_, _++_}
 use lib.ListN.{length, getD, take, drop, set, length-set}
 use lib.Seq.{take-suc-set, drop-set-lt, getD-take, getD-set-same}
@@ -17,7 +17,7 @@ use Rattle.task_file.specs.declared.Place.{Place}
 use Rattle.task_file.specs.declared.Place.the-variants.{At, Nowhere}
 use Rattle.file_format.specs.Parse.{Parsed, parsed, unparsed, next, kept, word-read, table-read}
 use Rattle.file_format.specs.Reading.{twin-read}
-use Rattle.task_file.specs.Inner.Answers.{ReadPart, place-told}
+use Rattle.task_file.specs.Inner.Answers.{ReadPart}
 use Rattle.task_file.proofs.Loops.{Done, done-refused, done-end, done-more}
 
 -- it looks at the rows up to its own

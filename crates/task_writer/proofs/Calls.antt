@@ -1,23 +1,22 @@
 -- The two calls undo each other: what reading leaves of what writing left, and the other way round. Assumes nothing.
 use Prim.Native.Nat.{ℕ, _-_, _≤_}
-use mathlib.Core.Path.{_≡_, refl, sym, ap, _∙_}
-use mathlib.Core.List.{List, [], _∷_, _++_}
+use mathlib.Core.Path.{_≡_, sym, ap, _∙_}
+use mathlib.Core.List.{List}
 use lib.ListN.{length, take, replicate}
 use lib.Seq.{take-append-seam}
 use borrow.Author.Tests.{le-leb, eq-eqb}
 use Rattle.task.specs.Table.{Lent, Task, lent, task-of}
 use Rattle.task.specs.Check.{refusal}
-use Rattle.task.specs.Words.{head-of, words-of, operator-words}
+use Rattle.task.specs.Words.{head-of, words-of, operator-words, padded}
 use Rattle.task.proofs.Kept.{kept-rules}
 use Rattle.task.proofs.Words.{lent-in, task-in, kept-in}
 use Rattle.file_format.specs.Bytes.{file-of}
 use Rattle.task.specs.Rules.{HasRoom}
-use Rattle.file_format.specs.Reading.{Lengths, Verdict, accepted, rejected, reading}
-use Rattle.task_file.specs.Outcome.{ReadOutcome, outcome-of, read-outcome}
-use Rattle.task.specs.Words.{padded}
-use Rattle.task_writer.specs.Writing.{WriteOutcome, wrote, file-outcome, write-outcome}
+use Rattle.file_format.specs.Reading.{Lengths, accepted, reading}
+use Rattle.task_file.specs.Outcome.{outcome-of, read-outcome}
+use Rattle.task_writer.specs.Writing.{file-outcome, write-outcome}
 use Rattle.file_format.proofs.Parse.{Bytes}
-use Rattle.file_format.proofs.RoundTrip.{read-written, Accepted, written-read}
+use Rattle.file_format.proofs.RoundTrip.{read-written, written-read}
 
 -- tables that keep the rules, written and read again: the same head and the same words, and 0 behind them
 pub read-after-write :

@@ -1,11 +1,10 @@
 -- Loops that put a table row by row. Assumes nothing.
-use Prim.Native.Nat.{ℕ, zero, suc, _+_, _*_, _/_, _<_, _≤_}
+use Prim.Native.Nat.{ℕ, suc, _+_, _*_, _/_, _<_, _≤_}
 use native.Mathlib.Numerals.{add-one}
-use native.Mathlib.Decide.{decLt}
 use native.Mathlib.Omega.{arith}
 use mathlib.Core.Path.{_≡_, refl, sym, ap, _∙_}
 use mathlib.Core.List.{List, [], _∷_, _++_, append-nil}
-use lib.ListN.{length, getD, take, length-append, List·getD-eq-default, length-take}
+use lib.ListN.{length, getD, take, length-append, List·getD-eq-default}
 use lib.Seq.{take-suc, getD-take, length-take-le}
 use Rattle.task.specs.declared.Table.{Table}
 use Rattle.task.specs.declared.Table.the-variants.{Formulas, Effects, Operators}
@@ -14,7 +13,7 @@ use Rattle.task.specs.Table.{row-at, operator-at}
 use Rattle.task.specs.Words.{joined}
 use Rattle.task.proofs.Words.{joined-append}
 use Rattle.file_format.specs.Bytes.{number, word-bytes, field-bytes, row-bytes, operator-bytes, operator-fields, packed, bytes-for}
-use Rattle.task_writer.specs.Inner.Putting.{Put, MapFits, three-bytes, rows-bytes, StateIn, byte-number}
+use Rattle.task_writer.specs.Inner.Putting.{Put, three-bytes, rows-bytes, StateIn, byte-number}
 use Rattle.task_writer.proofs.Puts.{put-none, put-then, put-same, field-length}
 
 -- what a loop has put after i rows

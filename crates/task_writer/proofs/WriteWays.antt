@@ -1,33 +1,29 @@
 -- The call that writes: what its parts ask, and one law for each way out. Assumes nothing.
-use Prim.Native.Nat.{ℕ, zero, suc, _+_, _-_, _*_, _/_, _<_, _≤_}
+use Prim.Native.Nat.{ℕ, zero, suc, _+_, _-_, _*_, _<_, _≤_}
 use native.Mathlib.Nat.{zero-add}
 use native.Mathlib.Decide.{decLt}
 use native.Mathlib.Omega.{arith}
-use mathlib.Core.Path.{_≡_, refl, sym, ap, _∙_}
-use mathlib.Core.Bool.{Bool, true, false, cond, false≢true}
+use mathlib.Core.Path.{_≡_, sym, ap, _∙_}
+use mathlib.Core.Bool.{true, false, false≢true}
 use mathlib.Core.List.{List, [], _∷_, _++_}
 use lib.ListN.{length, getD, take, drop, replicate, length-append, length-replicate, List·getD-eq-default}
-use lib.Seq.{sets, sets-eq, length-sets, length-take-le}
+use lib.Seq.{sets-eq, length-take-le}
 use lib.Dec.{leb, eqb}
 use borrow.Author.Tests.{le-leb, lt-leb, eq-eqb, ne-eqb}
 use Rattle.task.specs.declared.Head.{Head}
 use Rattle.task.specs.declared.Table.{Table}
 use Rattle.task.specs.declared.Table.the-variants.{Formulas, Effects, Operators}
-use Rattle.task.specs.Bounded.{upto}
-use Rattle.task.specs.Table.{Row, Lent, Task, task-of, row-at, operator-at, false-kind, true-kind, variable-kind, not-kind, and-kind, or-kind, implies-kind, equivalent-kind, unknown-formula, formula-kind, empty-kind, set-kind, clear-kind, both-kind, under-kind, unknown-effect, effect-kind}
+use Rattle.task.specs.Table.{Lent, task-of, row-at, false-kind, true-kind, variable-kind, not-kind, and-kind, or-kind, implies-kind, equivalent-kind, unknown-formula, formula-kind, empty-kind, set-kind, clear-kind, both-kind, under-kind, unknown-effect, effect-kind}
 use Rattle.task.specs.Check.{refusal, formula-words-kept, formula-kept, formulas-kept, effect-words-kept, effect-kept, effects-kept}
-use Rattle.task.specs.Rules.{LongEnough, Counts}
-use Rattle.task.specs.Words.{joined, head-of}
-use Rattle.task.proofs.Bounded.{every-at, length-upto}
+use Rattle.task.specs.Rules.{LongEnough}
+use Rattle.task.specs.Words.{joined, head-of, padded}
+use Rattle.task.proofs.Bounded.{every-at}
 use Rattle.task.proofs.Held.{length-initial, length-originals, length-formulas, length-effects, length-operators}
-use Rattle.task.proofs.Passed.{Passed, passed, counts-tested, lengths-tested, initial-tested}
-use Rattle.task_writer.specs.declared.WriteAnswer.{WriteAnswer}
+use Rattle.task.proofs.Passed.{passed, counts-tested, lengths-tested, initial-tested}
 use Rattle.task_writer.specs.declared.WriteAnswer.the-variants.{Written, NotWritten}
-use Rattle.file_format.specs.Bytes.{word-bytes, field-bytes, head-fields, head-bytes, row-bytes, operator-bytes, packed, bytes-for, file-of}
-use Rattle.task.specs.Words.{padded}
-use Rattle.task_writer.specs.Inner.Putting.{Put, MapFits, three-bytes, rows-bytes, RowsIn, StateIn}
-use Rattle.task_writer.specs.Writing.{WriteOutcome, wrote, file-outcome, write-outcome}
-use Rattle.task_writer.specs.Inner.Putting.{WriteIn}
+use Rattle.file_format.specs.Bytes.{word-bytes, field-bytes, head-fields, head-bytes, packed, bytes-for, file-of}
+use Rattle.task_writer.specs.Inner.Putting.{Put, three-bytes, rows-bytes, WriteIn}
+use Rattle.task_writer.specs.Writing.{wrote, file-outcome, write-outcome}
 use Rattle.file_format.proofs.Initial.{packed-length}
 use Rattle.task_file.proofs.ReadWays.{zeros-of, drop-zeros}
 use Rattle.task_writer.proofs.Puts.{put-then, put-same, put-size, field-length}

@@ -4,8 +4,7 @@ use mathlib.Core.Path.{_≡_, ap, _∙_}
 use mathlib.Core.List.{List}
 use Rattle.task.specs.declared.Head.{Head}
 use Rattle.compiler.specs.declared.CompileAnswer.{CompileAnswer}
-use Rattle.compiler.specs.Left.{Tables}
-use Rattle.compiler.specs.Left.{compile-left, answer-of}
+use Rattle.compiler.specs.Left.{Tables, compile-left, answer-of}
 use Rattle.normal_form.specs.Compiled.{CompileOutcome}
 use Rattle.test_calls.specs.Buffers.{told, head-words}
 use Rattle.test_calls.specs.Compiling.{compile-number, compile-head, CompileLeaves}

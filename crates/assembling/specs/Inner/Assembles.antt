@@ -6,15 +6,13 @@ use mathlib.Core.List.{List}
 use lib.ListN.{length, getD, replicate}
 use Rattle.task.specs.Bounded.{upto}
 use Rattle.task.specs.Table.{Row, row-at}
-use Rattle.task.specs.Words.{words-of, operator-words}
+use Rattle.task.specs.Words.{words-of, operator-words, padded}
 use Rattle.normal_form.specs.Operators.{Changes, Built}
 use Rattle.normal_form.specs.Assembly.{Assembled, assemble-operator, assemble, unassembled}
-use Rattle.task.specs.Words.{padded}
 use Rattle.rule_writer.specs.declared.Chain.{Chain}
 use Rattle.rule_writer.specs.declared.Frame.{Frame}
 use Rattle.rule_writer.specs.Inner.Writes.{FrameReady}
-use Rattle.rule_writer.specs.Inner.Places.{Placed}
-use Rattle.rule_writer.specs.Inner.Places.{begun}
+use Rattle.rule_writer.specs.Inner.Places.{Placed, begun}
 use Rattle.records.specs.Inner.Recorded.{change-at, changes-from}
 
 -- the changes recorded from k up to an end

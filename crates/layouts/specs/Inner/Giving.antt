@@ -6,12 +6,11 @@ use mathlib.Core.List.{List, _∷_, _++_}
 use lib.ListN.{take}
 use Rattle.task.specs.Table.{Lent}
 use Rattle.task.specs.Rules.{LongEnough}
-use Rattle.task.specs.Words.{joined}
+use Rattle.task.specs.Words.{joined, padded}
 use Rattle.file_format.specs.Bytes.{word-bytes, head-fields}
 use Rattle.plan.specs.declared.outcome.RunOutcome.{RunOutcome}
 use Rattle.plan.specs.declared.outcome.End.{End}
 use Rattle.plan.specs.declared.outcome.End.the-variants.{Ended, Stopped, Refused}
-use Rattle.task.specs.Words.{padded}
 use Rattle.layouts.specs.Layout.{low-bytes, flag}
 
 -- the layout of lent tables: their counted words, whatever stands behind them

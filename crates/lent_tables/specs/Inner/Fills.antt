@@ -5,12 +5,11 @@ use mathlib.Core.Bool.{true, false}
 use lib.ListN.{length, replicate}
 use Rattle.task.specs.declared.Head.{Head}
 use Rattle.task.specs.Table.{Lent, task-of}
-use Rattle.task.specs.Words.{words-of, operator-words, head-of}
+use Rattle.task.specs.Words.{words-of, operator-words, head-of, padded}
 use Rattle.normal_form.specs.Finished.{finished}
 use Rattle.normal_form.specs.Compiled.{Fits}
-use Rattle.task.specs.Words.{padded}
 use Rattle.lent_tables.specs.declared.Passes.{Passes}
-use Rattle.lent_tables.specs.Tables.{Tables, tables, room-of}
+use Rattle.lent_tables.specs.Tables.{Tables, room-of}
 
 -- Tables as long as before, all 0.
 pub record Blanked (x y : Tables) : Type 0 where

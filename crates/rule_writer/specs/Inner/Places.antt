@@ -7,7 +7,6 @@ use lib.Dec.{eqb}
 use Rattle.normal_form.specs.Builder.{place}
 use mathlib.Core.Bool.{false}
 use Rattle.rule_writer.specs.declared.Chain.{Chain}
-use Rattle.rule_writer.specs.Inner.Writes.{alone}
 
 -- There is a word for each of v variables, and each of w twins has one of them for its original.
 pub record PlacesReady (originals places : List ℕ) (v w : ℕ) : Type 0 where

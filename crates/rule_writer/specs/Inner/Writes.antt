@@ -7,10 +7,9 @@ use lib.ListN.{length, getD}
 use lib.Dec.{ltb}
 use Rattle.task.specs.Table.{Operator}
 use Rattle.task.specs.Semantics.{Atom, sets, clears}
-use Rattle.task.specs.Words.{words-of, operator-words}
+use Rattle.task.specs.Words.{words-of, operator-words, padded}
 use Rattle.normal_form.specs.Operators.{Changes}
 use Rattle.normal_form.specs.Assembly.{Rule, rule, Written, write-rules}
-use Rattle.task.specs.Words.{padded}
 use Rattle.normal_form.specs.Inner.Stored.{three}
 use Rattle.rule_writer.specs.declared.Frame.{Frame}
 use Rattle.rule_writer.specs.declared.Chain.{Chain}

@@ -1,7 +1,7 @@
 -- Filling lent tables part by part: the words of each table, in the file's order.
-use Prim.Native.Nat.{ℕ, _+_, _-_, _*_, _≤_}
+use Prim.Native.Nat.{ℕ, _-_, _*_, _≤_}
 use mathlib.Core.Path.{_≡_}
-use mathlib.Core.List.{List, []}
+use mathlib.Core.List.{List}
 use lib.ListN.{length, take, drop}
 use Rattle.task.specs.declared.Head.{Head}
 use Rattle.task.specs.declared.Table.the-variants.{Formulas, Effects, Operators}

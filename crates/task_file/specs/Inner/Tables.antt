@@ -1,13 +1,12 @@
 -- The three tables of rows side by side, for one loop over any of them: a row as its three words.
-use Prim.Native.Nat.{ℕ, _*_, _/_, _%_}
+use Prim.Native.Nat.{ℕ}
 use mathlib.Core.Bool.{Bool}
-use mathlib.Core.List.{List, [], _∷_}
-use lib.Dec.{ltb, eqb}
+use mathlib.Core.List.{List, []}
 use Rattle.task.specs.declared.Head.{Head}
 use Rattle.task.specs.declared.Table.{Table}
 use Rattle.task.specs.declared.Table.the-variants.{Formulas, Effects, Operators}
 use Rattle.task.specs.Words.{row-words, operator-row-words, words-of, operator-words}
-use Rattle.file_format.specs.Parse.{Parsed, parsed, unparsed, next, table-read}
+use Rattle.file_format.specs.Parse.{Parsed, parsed, next, table-read}
 use Rattle.file_format.specs.Reading.{row-clear, operator-clear, row-read, operator-fields-read, formula-read, effect-read, operator-read}
 
 -- no unused bit of a row's map stands

@@ -1,16 +1,15 @@
 -- Putting bytes into an output from a place on: what does not fit is only counted.
 use Prim.Native.Nat.{ℕ, _+_, _*_, _≤_, _<_}
 use mathlib.Core.Path.{_≡_}
-use mathlib.Core.List.{List, [], _∷_}
-use lib.ListN.{length, getD, take}
+use mathlib.Core.List.{List}
+use lib.ListN.{length, getD}
 use lib.Seq.{sets}
 use Rattle.task.specs.declared.Table.{Table}
 use Rattle.task.specs.declared.Table.the-variants.{Formulas, Effects, Operators}
 use Rattle.task.specs.Bounded.{upto}
-use Rattle.task.specs.Table.{row-at, operator-at}
+use Rattle.task.specs.Table.{row-at, operator-at, Lent}
 use Rattle.task.specs.Words.{joined}
 use Rattle.file_format.specs.Bytes.{number, row-bytes, operator-bytes}
-use Rattle.task.specs.Table.{Lent}
 use Rattle.task.specs.Rules.{LongEnough}
 
 -- bytes stored one after the other from `at` on, and the place behind them
