@@ -47,7 +47,8 @@ pub record JoinAdds (left right : ℕ) (before after : St) : Type 0 where
   pub no-twin : after .twins ≡ before .twins
   pub folded : (left < 2) ⊎ (right < 2) → after ≡ before
 
--- A joined pair is built left, right, then the join.
+-- A joined pair is built left, right, then the join; both sides also where the join folds. With the right side left out there, "false and not v0" breaks
+-- it: v0's twin is missing.
 pub record PairInOrder (p : Polarity) (s : St) (left right whole : Build ℕ) : Type 0 where
   pub order : InOrder s left right (whole s .st)
   pub adds : JoinAdds (left s .value) (right (left s .st) .value) (right (left s .st) .st) (whole s .st)
