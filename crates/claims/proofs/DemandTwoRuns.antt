@@ -361,21 +361,6 @@ module _ (l : Lent) (s : List ℕ) (o : ℕ) (scratch : List ℕ) where
           let z : suc m ≡ 0 = rw k at e in
           absurd (omega arith)
 
-  -- It is done exactly if nothing before its operator refuses it, the number is below O and the precondition holds.
-  pub step-done-exactly-if :
-      stepped l s o scratch .answer .refusal ≡ 0
-      ↔ (early-refusal l s scratch ≡ 0) × (o < length (task-of l .operators)) × (permitted (task-of l) s o ≡ true)
-  unfolding stepped step-by step-told plain-run run-on answer
-  step-done-exactly-if =
-      let t = task-of l in (
-        λ e.
-            let d = each-number-was-done t s [] o [] (done-by e .1) in
-            (done-by e .0, d .below, d .precondition),
-        λ p.
-            let d : Done t s [] o = record { unstopped = refl; below = p .1; precondition = p .2 } in
-            rw (p .0, number-behind-is-done t s [] o d .0),
-      )
-
   -- Done, it tells one step, the cost in the operator's row, and whether the goal holds in the state that it leaves; all variables changed at once.
   pub done-step-tells : stepped l s o scratch .answer .refusal ≡ 0 → StepTold (task-of l) s o (stepped l s o scratch)
   unfolding stepped step-by step-told plain-run run-on answer

@@ -3,7 +3,7 @@
 use Prim.Native.Nat.{ℕ, zero, suc, _+_, _*_, _%_, _≤_, _<_}
 use native.Mathlib.Omega.{arith}
 use mathlib.Core.Path.{_≡_, refl, sym, ap, _∙_}
-use mathlib.Core.Logic.{_↔_}
+use mathlib.Core.Logic.{_↔_, ⊎-elim}
 use mathlib.Core.Bool.{Bool, true, false, _&&_, false≢true}
 use mathlib.Core.List.{List, [], append-nil}
 use lib.ListN.{length, getD}
@@ -19,7 +19,6 @@ use Rattle.task.specs.Tree.{formula-of}
 use Rattle.task.specs.Run.{operator-of, applicable, answer, run-on, Stop, ended, stopped, plain-run}
 use Rattle.task.proofs.Bounded.{and-left, and-right, and-both, every-at, every-from}
 use Rattle.task.proofs.Held.{length-operators, operator-held}
-use Rattle.task.proofs.Stops.{Stops, no-stop as no-stop-made, seventeen, eighteen, plain-run-stops}
 use Rattle.task.proofs.Kept.{kept-rules, rules-kept}
 use Rattle.task.proofs.Passed.{Passed, passed, not-refused, counts-tested, goal-tested, lengths-tested, initial-tested, twins-tested, formulas-tested, effects-tested, operators-tested}
 use Rattle.file_format.specs.Bytes.{file-of}
@@ -41,6 +40,7 @@ use Rattle.claims.specs.Statements.{OfBytes}
 use Rattle.claims.specs.Numbers.{Given, broken, keeps, no-rule-left, tables-numbers, write-number, compile-answer-number, end-number, write-numbers, compile-numbers, StateRule, state-numbers, step-numbers, run-numbers, FileNumber, not-read, was-read, read-entry-numbers, FileFits, compile-entry-numbers, SequenceRule, StopNumber, no-stop, stopped-by, run-entry-numbers, WriteKept, StateKept, StepKept, RunKept, ReadEntryKept, CompileEntryKept, RunEntryKept}
 use Rattle.claims.proofs.DemandTwoFiles.{file-accepted-exactly-if, reading-what-was-written, no-file-begins-another}
 use Rattle.claims.proofs.DemandTwoProgram.{own-fits}
+use Rattle.claims.proofs.DemandTwoRuns.{stopped-where}
 
 -- a test and its rule
 given :
@@ -470,12 +470,8 @@ file-behind {file} (not-read e d) t same rules =
 file-behind (was-read u e r b) t same rules = rw (same-task u t r rules (sym e ∙ same)) at b
 
 stop-not-zero : (t : Task) (s numbers : List ℕ) {m : ℕ} → plain-run t s numbers .stop ≡ stopped m → m ≡ 0 → ⊥
-stop-not-zero t s numbers {m} e z = go (plain-run-stops t s numbers)
-  where
-    go : Stops (plain-run t s numbers .stop) → ⊥
-    go (no-stop-made q) = let y : _≡_ {A = ℕ} 0 1 = cc in omega arith
-    go (seventeen q) = let y : m ≡ 17 = cc in omega arith
-    go (eighteen q) = let y : m ≡ 18 = cc in omega arith
+stop-not-zero t s numbers {m} e z =
+    ⊎-elim (λ r. omega (arith, r .0)) (λ r. omega (arith, r .0)) (stopped-where t s numbers m e .reason)
 
 module _ (file : List ℕ) (bytes : OfBytes file) where
   pub read-for-c-exactly-if : (n : ℕ) → read-entry file n .number ≡ 0 ↔ ReadEntryKept file n

@@ -3,6 +3,7 @@
 use Prim.Native.Nat.{ℕ, zero, suc, _+_, _-_, _*_, _%_, _≤_}
 use native.Mathlib.Omega.{arith}
 use mathlib.Core.Path.{_≡_, refl, ap, _∙_}
+use mathlib.Core.Logic.{⊎-elim}
 use mathlib.Core.Bool.{Bool, true, false, cond, _&&_}
 use mathlib.Core.List.{List, [], _∷_, _++_}
 use lib.ListN.{length, getD, replicate, length-append, length-replicate, getD-replicate}
@@ -14,7 +15,6 @@ use Rattle.task.specs.Check.{state-kept, sequence-kept, refusal, unless}
 use Rattle.task.specs.Run.{Run, Stop, ended, stopped, plain-run}
 use Rattle.task.specs.Words.{padded, head-of, words-of, operator-words}
 use Rattle.task.proofs.Bounded.{and-left, and-right}
-use Rattle.task.proofs.Stops.{Stops, no-stop, seventeen, eighteen, plain-run-stops}
 use Rattle.task.proofs.Words.{length-words, length-operator-words}
 use Rattle.file_format.specs.Bytes.{file-of}
 use Rattle.file_format.specs.Reading.{Lengths, accepted, rejected, reading, Verdict as Reading}
@@ -38,6 +38,7 @@ use Rattle.run_entry.specs.Entry.{run-given, run-entry-by, run-entry}
 use Rattle.compiled_file.specs.Filed.{no-file, filed-by, filed, compiled-file-by, compiled-file}
 use Rattle.compile_entry.specs.Entry.{compile-entry-by, compile-entry}
 use Rattle.claims.specs.Statements.{OfBytes}
+use Rattle.claims.proofs.DemandTwoRuns.{stopped-where}
 use Rattle.claims.specs.Zero.{AllZero, ZeroPast, ReadLeaves, WriteLeaves, CompileLeaves, StepLeaves, RunLeaves, ReadEntryLeaves, CompileEntryLeaves, RunNumber, not-stopped, stopped-outside, stopped-not-applicable, RunEntryLeaves}
 use Rattle.file_format.proofs.OfBytes.{bytes-each}
 
@@ -321,10 +322,10 @@ run-entry-leaves file s q n = go (reading own file) refl
           after-run = λ m. absurd (d m);
         }
 
-    made : (stop : Stop) → Stops stop → RunNumber (stop-number stop)
-    made stop (no-stop e) = not-stopped (ap stop-number e)
-    made stop (seventeen e) = stopped-outside (ap stop-number e)
-    made stop (eighteen e) = stopped-not-applicable (ap stop-number e)
+    made : (t : Task) (stop : Stop) → plain-run t s (numbers-of q) .stop ≡ stop → RunNumber (stop-number stop)
+    made t ended e = not-stopped refl
+    made t (stopped k) e =
+        ⊎-elim (λ r. stopped-outside (r .0)) (λ r. stopped-not-applicable (r .0)) (stopped-where t s (numbers-of q) k e .reason)
 
     refusing : (x y z : Bool) (k : ℕ) → unless x 16 (unless y 19 (unless z 20 0)) ≡ suc k → RunNumber (suc k) → ⊥
     refusing true true true k e m = omega arith
@@ -336,7 +337,7 @@ run-entry-leaves file s q n = go (reading own file) refl
     by-number t zero e =
         let r = plain-run t s (numbers-of q) in
         record {
-          after-refusal = λ d. absurd (d (made (r .stop) (plain-run-stops t s (numbers-of q))));
+          after-refusal = λ d. absurd (d (made t (r .stop) refl));
           after-run =
               λ m. zero-past n (run-bytes r) 16 (length-run-bytes r) (free-of (length (t .initial)) s q n e .room);
         }

@@ -18,4 +18,3 @@ pub mod Cleared
 pub mod Sixteen
 pub mod Runs
 pub mod RowParts
-pub mod Stops
