@@ -1,3 +1,5 @@
+-- `assemble_operator` meets its contract: operator o, its record being w and its changes recorded from k on, behind so many effect rows. Assumes
+-- nothing.
 use borrow.Author.Needs.{needs}
 use Rattle.assembling.proofs.operator.assemble_operator.Statement.{statement}
 use Rattle.assembling.proofs.operator.assemble_operator.Tie as tie

@@ -1,3 +1,4 @@
+-- `write_records` meets its contract: the rules of the changes recorded from k up to an end, behind what stands. Assumes nothing.
 use Rattle.assembling.proofs.operator.write_records.Statement.{statement}
 use Rattle.assembling.proofs.operator.write_records.Tie as tie
 use Rattle.assembling.proofs.operator.write_records.Reads as reads

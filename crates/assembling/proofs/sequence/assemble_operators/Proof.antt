@@ -1,3 +1,4 @@
+-- `assemble_operators` meets its contract: the same, once the places of the twins are found. Assumes nothing.
 use borrow.Author.Needs.{needs}
 use Rattle.assembling.proofs.sequence.assemble_operators.Statement.{statement}
 use Rattle.assembling.proofs.sequence.assemble_operators.Tie as tie

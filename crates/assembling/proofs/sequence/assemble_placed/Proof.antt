@@ -1,3 +1,5 @@
+-- `assemble_placed` meets its contract: writes the rules and the rows of the first count operators into tables that are all 0, the places of the
+-- twins being known; stops at the first operator whose rules have no room. Assumes nothing.
 use Rattle.assembling.proofs.sequence.assemble_placed.Statement.{statement}
 use Rattle.assembling.proofs.sequence.assemble_placed.Tie as tie
 use Rattle.assembling.proofs.sequence.assemble_placed.Reads as reads

@@ -1,3 +1,4 @@
+-- `lacks` meets its contract: whether the set of row e lacks set v, or clear v. Assumes nothing.
 use borrow.Author.Needs.{needs}
 use Rattle.atom_sets.proofs.bits.lacks.Statement.{statement}
 use Rattle.atom_sets.proofs.bits.lacks.Tie as tie

@@ -1,3 +1,5 @@
+-- `set_from` meets its contract: the atoms of variable v and of the later variables of its word, in the set of row e: the lowest bit says set v, the
+-- next clear v. Assumes nothing.
 use borrow.Author.Needs.{needs}
 use Rattle.atom_sets.proofs.bits.set_from.Statement.{statement}
 use Rattle.atom_sets.proofs.bits.set_from.Tie as tie

@@ -1,3 +1,4 @@
+-- `set_word` meets its contract: the word of variable v in the set of row e. Assumes nothing.
 use borrow.Author.Needs.{needs}
 use Rattle.atom_sets.proofs.bits.set_word.Statement.{statement}
 use Rattle.atom_sets.proofs.bits.set_word.Tie as tie

@@ -1,3 +1,4 @@
+-- `set_words` meets its contract: how many words a set takes: four for each 32 variables. Assumes nothing.
 use borrow.Author.Needs.{needs}
 use Rattle.atom_sets.proofs.bits.set_words.Statement.{statement}
 use Rattle.atom_sets.proofs.bits.set_words.Tie as tie

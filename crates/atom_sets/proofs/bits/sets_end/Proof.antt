@@ -1,3 +1,4 @@
+-- `sets_end` meets its contract: where the sets end. Assumes nothing.
 use borrow.Author.Needs.{needs}
 use Rattle.atom_sets.proofs.bits.sets_end.Statement.{statement}
 use Rattle.atom_sets.proofs.bits.sets_end.Tie as tie

@@ -1,3 +1,4 @@
+-- `copy` meets its contract: the n words at i become those at a. Assumes nothing.
 use Rattle.atom_sets.proofs.pass.copy.Statement.{statement}
 use Rattle.atom_sets.proofs.pass.copy.Tie as tie
 use Rattle.atom_sets.proofs.pass.copy.Reads as reads

@@ -1,3 +1,4 @@
+-- `copy_four` meets its contract: the four words at i become those at a. Assumes nothing.
 use borrow.Author.Needs.{needs}
 use Rattle.atom_sets.proofs.pass.copy_four.Statement.{statement}
 use Rattle.atom_sets.proofs.pass.copy_four.Tie as tie

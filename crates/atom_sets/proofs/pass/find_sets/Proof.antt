@@ -1,3 +1,4 @@
+-- `find_sets` meets its contract: the sets of all rows; the words around them stay. Assumes nothing.
 use Rattle.atom_sets.proofs.pass.find_sets.Statement.{statement}
 use Rattle.atom_sets.proofs.pass.find_sets.Tie as tie
 use Rattle.atom_sets.proofs.pass.find_sets.Reads as reads

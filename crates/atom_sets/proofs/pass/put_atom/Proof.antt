@@ -1,3 +1,4 @@
+-- `put_atom` meets its contract: the word of variable v in the set of row i gets the one bit of set v, or of clear v. Assumes nothing.
 use borrow.Author.Needs.{needs}
 use Rattle.atom_sets.proofs.pass.put_atom.Statement.{statement}
 use Rattle.atom_sets.proofs.pass.put_atom.Tie as tie

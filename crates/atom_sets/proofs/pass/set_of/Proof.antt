@@ -1,3 +1,4 @@
+-- `set_of` meets its contract: the set of row i, from those of the rows that it names. Assumes nothing.
 use borrow.Author.Needs.{needs}
 use Rattle.atom_sets.proofs.pass.set_of.Statement.{statement}
 use Rattle.atom_sets.proofs.pass.set_of.Tie as tie

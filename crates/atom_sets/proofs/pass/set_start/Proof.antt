@@ -1,3 +1,4 @@
+-- `set_start` meets its contract: where the set of row e begins. Assumes nothing.
 use borrow.Author.Needs.{needs}
 use Rattle.atom_sets.proofs.pass.set_start.Statement.{statement}
 use Rattle.atom_sets.proofs.pass.set_start.Tie as tie

@@ -1,3 +1,4 @@
+-- `unite` meets its contract: the n words at i become those at a together with those at b. Assumes nothing.
 use Rattle.atom_sets.proofs.pass.unite.Statement.{statement}
 use Rattle.atom_sets.proofs.pass.unite.Tie as tie
 use Rattle.atom_sets.proofs.pass.unite.Reads as reads

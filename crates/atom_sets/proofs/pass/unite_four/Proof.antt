@@ -1,3 +1,4 @@
+-- `unite_four` meets its contract: the four words at i become those at a together with those at b. Assumes nothing.
 use borrow.Author.Needs.{needs}
 use Rattle.atom_sets.proofs.pass.unite_four.Statement.{statement}
 use Rattle.atom_sets.proofs.pass.unite_four.Tie as tie

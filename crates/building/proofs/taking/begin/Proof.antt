@@ -1,3 +1,4 @@
+-- `begin` meets its contract: false and true, in a table that is all 0. Assumes nothing.
 use borrow.Author.Needs.{needs}
 use Rattle.building.proofs.taking.begin.Statement.{statement}
 use Rattle.building.proofs.taking.begin.Tie as tie

@@ -1,3 +1,5 @@
+-- `take_operator` meets its contract: the next operator: its precondition, then what it does to each variable that it touches, which is recorded for
+-- the rules. Assumes nothing.
 use borrow.Author.Needs.{needs}
 use Rattle.building.proofs.taking.take_operator.Statement.{statement}
 use Rattle.building.proofs.taking.take_operator.Tie as tie

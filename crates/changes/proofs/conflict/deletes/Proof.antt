@@ -1,3 +1,4 @@
+-- `deletes` meets its contract: D, freed of conflict with A: if neither is row 0, D and N, with N the negated condition of set v. Assumes nothing.
 use borrow.Author.Needs.{needs}
 use Rattle.changes.proofs.conflict.deletes.Statement.{statement}
 use Rattle.changes.proofs.conflict.deletes.Tie as tie

@@ -1,3 +1,5 @@
+-- `condition_if` meets its contract: the condition of effect e, which is visited only if it names the target's atom; else nothing is built. Assumes
+-- nothing.
 use borrow.Author.Needs.{needs}
 use Rattle.changes.proofs.named.condition_if.Statement.{statement}
 use Rattle.changes.proofs.named.condition_if.Tie as tie

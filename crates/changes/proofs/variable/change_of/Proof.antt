@@ -1,3 +1,4 @@
+-- `change_of` meets its contract: what effect e does to variable v: all of A, then all of D, then N. Assumes nothing.
 use borrow.Author.Needs.{needs}
 use Rattle.changes.proofs.variable.change_of.Statement.{statement}
 use Rattle.changes.proofs.variable.change_of.Tie as tie

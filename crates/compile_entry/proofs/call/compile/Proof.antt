@@ -1,3 +1,4 @@
+-- `compile` meets its contract: compiles a task file: 0, the compiled task's file and its length, or the number and all 0. Assumes nothing.
 use lib.ListN.{length}
 use Rattle.compile_entry.specs.Entry.{compile-entry}
 use Rattle.entry_tables.specs.Own.{small}

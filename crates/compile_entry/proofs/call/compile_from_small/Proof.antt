@@ -1,3 +1,4 @@
+-- `compile_from_small` meets its contract: the source in small tables: 3 KiB. Assumes nothing.
 use Rattle.entry_tables.specs.Own.{small}
 use borrow.Author.Needs.{needs}
 use Rattle.compile_entry.proofs.call.compile_from_small.Statement.{statement}

@@ -1,3 +1,4 @@
+-- `read_and_compile` meets its contract: reads into tables that are lent, then compiles. Assumes nothing.
 use mathlib.Core.Path.{ap, _∙_}
 use lib.ListN.{length}
 use Rattle.task_file.proofs.ReadWays.{bytes-from}

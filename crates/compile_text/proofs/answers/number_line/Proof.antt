@@ -1,3 +1,4 @@
+-- `number_line` meets its contract: the line of a number. Assumes nothing.
 use Prim.Native.Nat.{_<_}
 use native.Mathlib.Omega.{arith}
 use mathlib.Core.Path.{_≡_}

@@ -1,3 +1,4 @@
+-- `task_lines` meets its contract: the lines of tables that pass. Assumes nothing.
 use mathlib.Core.Path.{_≡_}
 use lib.ListN.{length}
 use borrow.Author.Needs.{needs}

@@ -1,3 +1,4 @@
+-- `compile_through` meets its contract: through tables that are lent. Assumes nothing.
 use borrow.Author.Needs.{needs}
 use Rattle.task.specs.Table.{lent}
 use Rattle.compile_text.proofs.CompileWays.{number-given, outputs-pass, lines-given}

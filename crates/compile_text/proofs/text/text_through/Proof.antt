@@ -1,3 +1,4 @@
+-- `text_through` meets its contract: through tables that are lent. Assumes nothing.
 use mathlib.Core.Path.{ap, _∙_}
 use borrow.Author.Needs.{needs}
 use Rattle.task_file.proofs.ReadWays.{bytes-from}

@@ -1,3 +1,5 @@
+-- `compile_short` meets its contract: compiles a source in small tables: through small room, and only if the compiled task has no room there, 15,
+-- through the full room. Assumes nothing.
 use lib.ListN.{length}
 use Rattle.task.specs.Table.{lent, task-of}
 use Rattle.compiled_file.specs.Filed.{compiled-file}

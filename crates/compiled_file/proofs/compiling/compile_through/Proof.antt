@@ -1,3 +1,4 @@
+-- `compile_through` meets its contract: compiles tables that pass, through tables that are lent. Assumes nothing.
 use mathlib.Core.Path.{ap, _∙_}
 use lib.ListN.{length}
 use Rattle.task.specs.Table.{lent}

@@ -1,3 +1,4 @@
+-- `give_file` meets its contract: the file of tables that pass, and its length; 20 and all 0 if one of the two does not fit. Assumes nothing.
 use native.Mathlib.Omega.{arith}
 use Rattle.task.specs.Table.{lent}
 use Rattle.compiled_file.proofs.FileWays.{short-result, short-out, gives-file}

@@ -1,3 +1,5 @@
+-- `compile` meets its contract: the tables' own number, 13 for twins, 14 for short scratch, 15 for no room; or the compiled task, in values,
+-- originals, table (formulas), out (effects) and written (operators). Assumes nothing.
 use borrow.Author.Needs.{needs}
 use Rattle.compiler.proofs.call.compile.Statement.{statement}
 use Rattle.compiler.proofs.call.compile.Tie as tie

@@ -1,3 +1,4 @@
+-- `compile_checked` meets its contract: 15, with all 0, if the finished task passes a limit or a lent table. Assumes nothing.
 use borrow.Author.Needs.{needs}
 use Rattle.compiler.proofs.checked.compile_checked.Statement.{statement}
 use Rattle.compiler.proofs.checked.compile_checked.Tie as tie

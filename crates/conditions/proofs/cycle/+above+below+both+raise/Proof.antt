@@ -1,3 +1,4 @@
+-- The cycle of `above`, `below`, `both`, `raise` meets its contracts. Assumes nothing.
 use Prim.Native.Nat.{ℕ, _<_}
 use borrow.Fn.Kinds.{In}
 use borrow.Fn.PlainCycle.{Measures, is, falls, and}

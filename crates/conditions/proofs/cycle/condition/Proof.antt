@@ -1,3 +1,5 @@
+-- `condition` meets its contract: the condition of effect e: rows are visited only where the atom stands below them, and not below one whose
+-- condition is kept. Assumes nothing.
 use borrow.Author.Needs.{needs}
 use Rattle.conditions.proofs.cycle.condition.Statement.{statement}
 use Rattle.conditions.proofs.cycle.condition.Tie as tie

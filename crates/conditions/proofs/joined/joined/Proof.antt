@@ -1,3 +1,4 @@
+-- `joined` meets its contract: the join of rows l and r for row e, "and" or "or": what is kept, or made and kept. Assumes nothing.
 use borrow.Author.Needs.{needs}
 use Rattle.conditions.proofs.joined.joined.Statement.{statement}
 use Rattle.conditions.proofs.joined.joined.Tie as tie

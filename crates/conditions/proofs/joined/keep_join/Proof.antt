@@ -1,3 +1,4 @@
+-- `keep_join` meets its contract: keeps x, the join of rows l and r for row e, if the target is plain and there was room. Assumes nothing.
 use borrow.Author.Needs.{needs}
 use Rattle.conditions.proofs.joined.keep_join.Statement.{statement}
 use Rattle.conditions.proofs.joined.keep_join.Tie as tie

@@ -1,3 +1,4 @@
+-- `last_join` meets its contract: what is kept of the join of rows l and r for row e: its row plus 1, or 0. Assumes nothing.
 use borrow.Author.Needs.{needs}
 use Rattle.conditions.proofs.joined.last_join.Statement.{statement}
 use Rattle.conditions.proofs.joined.last_join.Tie as tie

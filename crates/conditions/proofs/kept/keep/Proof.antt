@@ -1,3 +1,4 @@
+-- `keep` meets its contract: keeps the row of the condition of target t and effect e. Assumes nothing.
 use borrow.Author.Needs.{needs}
 use Rattle.conditions.proofs.kept.keep.Statement.{statement}
 use Rattle.conditions.proofs.kept.keep.Tie as tie

@@ -1,3 +1,5 @@
+-- `part_of` meets its contract: which of its variable's words in a column is a target's: set, clear, or the dual of set; the dual of clear has none.
+-- Assumes nothing.
 use borrow.Author.Needs.{needs}
 use Rattle.conditions.proofs.kept.part_of.Statement.{statement}
 use Rattle.conditions.proofs.kept.part_of.Tie as tie

@@ -1,3 +1,4 @@
+-- `place` meets its contract: the word of the notes that keeps the condition of target t and effect e; 0, if none does. Assumes nothing.
 use borrow.Author.Needs.{needs}
 use Rattle.conditions.proofs.kept.place.Statement.{statement}
 use Rattle.conditions.proofs.kept.place.Tie as tie

@@ -1,3 +1,4 @@
+-- `recall` meets its contract: what is kept of target t and effect e: its row plus 1, or 0. Assumes nothing.
 use borrow.Author.Needs.{needs}
 use Rattle.conditions.proofs.kept.recall.Statement.{statement}
 use Rattle.conditions.proofs.kept.recall.Tie as tie

@@ -1,3 +1,4 @@
+-- `tag_of` meets its contract: the tag of a target: no other target has it, and it is not 0. Assumes nothing.
 use borrow.Author.Needs.{needs}
 use Rattle.conditions.proofs.kept.tag_of.Statement.{statement}
 use Rattle.conditions.proofs.kept.tag_of.Tie as tie

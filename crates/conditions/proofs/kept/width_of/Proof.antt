@@ -1,3 +1,5 @@
+-- `width_of` meets its contract: how many words each of so many variables has in a column: where there are many, more columns are worth more than the
+-- duals. Assumes nothing.
 use borrow.Author.Needs.{needs}
 use Rattle.conditions.proofs.kept.width_of.Statement.{statement}
 use Rattle.conditions.proofs.kept.width_of.Tie as tie

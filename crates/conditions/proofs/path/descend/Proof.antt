@@ -1,3 +1,4 @@
+-- `descend` meets its contract: from row e down to the first row whose condition is known. Assumes nothing.
 use borrow.Author.Needs.{needs}
 use Rattle.conditions.proofs.path.descend.Statement.{statement}
 use Rattle.conditions.proofs.path.descend.Tie as tie

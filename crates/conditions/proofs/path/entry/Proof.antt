@@ -1,3 +1,4 @@
+-- `entry` meets its contract: the entry of row i: 8192 more if it is passed. Assumes nothing.
 use borrow.Author.Needs.{needs}
 use Rattle.conditions.proofs.path.entry.Statement.{statement}
 use Rattle.conditions.proofs.path.entry.Tie as tie

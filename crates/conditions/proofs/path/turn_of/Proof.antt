@@ -1,3 +1,4 @@
+-- `turn_of` meets its contract: where the way from row e goes on: to the row under a formula, or to the left one of both. Assumes nothing.
 use borrow.Author.Needs.{needs}
 use Rattle.conditions.proofs.path.turn_of.Statement.{statement}
 use Rattle.conditions.proofs.path.turn_of.Tie as tie

@@ -1,3 +1,4 @@
+-- `constant` meets its contract: the row of effect e's condition plus 1, if e is no more than an atom; else 0. Assumes nothing.
 use borrow.Author.Needs.{needs}
 use Rattle.conditions.proofs.seen.constant.Statement.{statement}
 use Rattle.conditions.proofs.seen.constant.Tie as tie

@@ -1,3 +1,4 @@
+-- `seen` meets its contract: the row of effect e's condition plus 1, if it is kept, or e is no more than an atom; else 0. Assumes nothing.
 use borrow.Author.Needs.{needs}
 use Rattle.conditions.proofs.seen.seen.Statement.{statement}
 use Rattle.conditions.proofs.seen.seen.Tie as tie

@@ -1,3 +1,4 @@
+-- `touches` meets its contract: whether an effect's row is the target's atom itself. Assumes nothing.
 use Rattle.conditions.proofs.touch.touches.Statement.{statement}
 use Rattle.conditions.proofs.touch.touches.Tie as tie
 use Rattle.conditions.proofs.touch.touches.Reads as reads

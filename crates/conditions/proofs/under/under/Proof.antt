@@ -1,3 +1,4 @@
+-- `under` meets its contract: row e's formula over the condition s of the inner effect: built only if that did not fold away. Assumes nothing.
 use borrow.Author.Needs.{needs}
 use Rattle.conditions.proofs.under.under.Statement.{statement}
 use Rattle.conditions.proofs.under.under.Tie as tie

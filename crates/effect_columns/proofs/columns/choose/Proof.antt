@@ -1,3 +1,5 @@
+-- `choose` meets its contract: no more rows have a column than there is room for: of those that are worth one, the rows from which a walk would visit
+-- the most, counted as a tree. Assumes nothing.
 use borrow.Author.Needs.{needs}
 use Rattle.effect_columns.proofs.columns.choose.Statement.{statement}
 use Rattle.effect_columns.proofs.columns.choose.Tie as tie

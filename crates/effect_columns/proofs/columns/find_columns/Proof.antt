@@ -1,3 +1,4 @@
+-- `find_columns` meets its contract: the columns of the rows, as many as there is room for. Assumes nothing.
 use borrow.Author.Needs.{needs}
 use Rattle.effect_columns.proofs.columns.find_columns.Statement.{statement}
 use Rattle.effect_columns.proofs.columns.find_columns.Tie as tie

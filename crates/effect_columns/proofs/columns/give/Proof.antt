@@ -1,3 +1,4 @@
+-- `give` meets its contract: row i gets the next column, if it is to have one. Assumes nothing.
 use borrow.Author.Needs.{needs}
 use Rattle.effect_columns.proofs.columns.give.Statement.{statement}
 use Rattle.effect_columns.proofs.columns.give.Tie as tie

@@ -1,3 +1,4 @@
+-- `hand_on` meets its contract: row i, with the words r and the word w of its own, names one row, two or none, all lower. Assumes nothing.
 use borrow.Author.Needs.{needs}
 use Rattle.effect_columns.proofs.columns.hand_on.Statement.{statement}
 use Rattle.effect_columns.proofs.columns.hand_on.Tie as tie

@@ -1,3 +1,4 @@
+-- `meet` meets its contract: A referrer with the word w names row e. Assumes nothing.
 use borrow.Author.Needs.{needs}
 use Rattle.effect_columns.proofs.columns.meet.Statement.{statement}
 use Rattle.effect_columns.proofs.columns.meet.Tie as tie

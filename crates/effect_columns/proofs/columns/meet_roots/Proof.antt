@@ -1,3 +1,4 @@
+-- `meet_roots` meets its contract: each operator names its effect. Assumes nothing.
 use Rattle.effect_columns.proofs.columns.meet_roots.Statement.{statement}
 use Rattle.effect_columns.proofs.columns.meet_roots.Tie as tie
 use Rattle.effect_columns.proofs.columns.meet_roots.Reads as reads

@@ -1,3 +1,5 @@
+-- `number_rows` meets its contract: each row that is worth it gets a column: one pass over the operators, then one over the effects, downwards, since
+-- the rows that a row names are lower. Assumes nothing.
 use Rattle.effect_columns.proofs.columns.number_rows.Statement.{statement}
 use Rattle.effect_columns.proofs.columns.number_rows.Tie as tie
 use Rattle.effect_columns.proofs.columns.number_rows.Reads as reads

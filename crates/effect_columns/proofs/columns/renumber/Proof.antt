@@ -1,3 +1,4 @@
+-- `renumber` meets its contract: the rows that still have a column get new numbers, the others none. Assumes nothing.
 use Rattle.effect_columns.proofs.columns.renumber.Statement.{statement}
 use Rattle.effect_columns.proofs.columns.renumber.Tie as tie
 use Rattle.effect_columns.proofs.columns.renumber.Reads as reads

@@ -1,3 +1,4 @@
+-- `settle` meets its contract: row i, whose referrers have all named it, names its rows and gets its column, if it is worth one. Assumes nothing.
 use borrow.Author.Needs.{needs}
 use Rattle.effect_columns.proofs.columns.settle.Statement.{statement}
 use Rattle.effect_columns.proofs.columns.settle.Tie as tie

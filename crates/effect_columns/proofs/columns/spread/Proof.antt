@@ -1,3 +1,4 @@
+-- `spread` meets its contract: all rows below those that are worth a column get their rank: one pass over the effects, downwards. Assumes nothing.
 use Rattle.effect_columns.proofs.columns.spread.Statement.{statement}
 use Rattle.effect_columns.proofs.columns.spread.Tie as tie
 use Rattle.effect_columns.proofs.columns.spread.Reads as reads

@@ -1,3 +1,4 @@
+-- `spread_row` meets its contract: the rows that row i names get their rank. Assumes nothing.
 use borrow.Author.Needs.{needs}
 use Rattle.effect_columns.proofs.columns.spread_row.Statement.{statement}
 use Rattle.effect_columns.proofs.columns.spread_row.Tie as tie

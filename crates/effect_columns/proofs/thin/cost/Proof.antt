@@ -1,3 +1,5 @@
+-- `cost` meets its contract: how many rows a walk from row i, with the words r, visits if it has no column: itself, and what the rows that it names
+-- weigh. Assumes nothing.
 use borrow.Author.Needs.{needs}
 use Rattle.effect_columns.proofs.thin.cost.Statement.{statement}
 use Rattle.effect_columns.proofs.thin.cost.Tie as tie

@@ -1,3 +1,4 @@
+-- `thin` meets its contract: the same for all rows, upwards, since the rows that a row names are lower. Assumes nothing.
 use Rattle.effect_columns.proofs.thin.thin.Statement.{statement}
 use Rattle.effect_columns.proofs.thin.thin.Tie as tie
 use Rattle.effect_columns.proofs.thin.thin.Reads as reads

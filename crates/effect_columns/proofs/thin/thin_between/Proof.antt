@@ -1,3 +1,5 @@
+-- `thin_between` meets its contract: the least limit, from the first to the last, each half as much again as the one before, that leaves no more
+-- columns than most. Assumes nothing.
 use Rattle.effect_columns.proofs.thin.thin_between.Statement.{statement}
 use Rattle.effect_columns.proofs.thin.thin_between.Tie as tie
 use Rattle.effect_columns.proofs.thin.thin_between.Reads as reads

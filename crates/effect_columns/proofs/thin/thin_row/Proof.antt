@@ -1,3 +1,4 @@
+-- `thin_row` meets its contract: row i gets its column, or loses it. Assumes nothing.
 use borrow.Author.Needs.{needs}
 use Rattle.effect_columns.proofs.thin.thin_row.Statement.{statement}
 use Rattle.effect_columns.proofs.thin.thin_row.Tie as tie

@@ -1,3 +1,4 @@
+-- `fill_noted` meets its contract: finds sets of atoms and columns, then fills. Assumes nothing.
 use borrow.Author.Needs.{needs}
 use Rattle.filling.proofs.noted.fill_noted.Statement.{statement}
 use Rattle.filling.proofs.noted.fill_noted.Tie as tie

@@ -1,3 +1,4 @@
+-- `fill_built` meets its contract: begins, takes the operators in order, finishes. Assumes nothing.
 use Rattle.filling.proofs.whole.fill_built.Statement.{statement}
 use Rattle.filling.proofs.whole.fill_built.Tie as tie
 use Rattle.filling.proofs.whole.fill_built.Reads as reads

@@ -1,3 +1,4 @@
+-- `copy_words` meets its contract: the first n words. Assumes nothing.
 use Rattle.finishing.proofs.copy.copy_words.Statement.{statement}
 use Rattle.finishing.proofs.copy.copy_words.Tie as tie
 use Rattle.finishing.proofs.copy.copy_words.Reads as reads

@@ -1,3 +1,5 @@
+-- `finish` meets its contract: all operators are taken: builds the goal, then writes the rules, the operators and the initial values, and copies the
+-- rows that were built. Assumes nothing.
 use borrow.Author.Needs.{needs}
 use Rattle.finishing.proofs.last.finish.Statement.{statement}
 use Rattle.finishing.proofs.last.finish.Tie as tie

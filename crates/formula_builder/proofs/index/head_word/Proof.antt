@@ -1,3 +1,4 @@
+-- `head_word` meets its contract: the word of a key's head, with room for so many rows. Assumes nothing.
 use borrow.Author.Needs.{needs}
 use Rattle.formula_builder.proofs.index.head_word.Statement.{statement}
 use Rattle.formula_builder.proofs.index.head_word.Tie as tie

@@ -1,3 +1,4 @@
+-- `key` meets its contract: the key of a row. Assumes nothing.
 use borrow.Author.Needs.{needs}
 use Rattle.formula_builder.proofs.index.key.Statement.{statement}
 use Rattle.formula_builder.proofs.index.key.Tie as tie

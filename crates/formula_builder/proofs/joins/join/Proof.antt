@@ -1,3 +1,4 @@
+-- `join` meets its contract: the join of rows a and b, "and" or "or": the number of its row; or 65535 if there was no room. Assumes nothing.
 use borrow.Author.Needs.{needs}
 use Rattle.formula_builder.proofs.joins.join.Statement.{statement}
 use Rattle.formula_builder.proofs.joins.join.Tie as tie

@@ -1,3 +1,4 @@
+-- `append_row` meets its contract: stores a row behind n rows, and names it in word p. Assumes nothing.
 use borrow.Author.Needs.{needs}
 use Rattle.formula_builder.proofs.rows.append_row.Statement.{statement}
 use Rattle.formula_builder.proofs.rows.append_row.Tie as tie

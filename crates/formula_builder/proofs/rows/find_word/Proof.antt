@@ -1,3 +1,5 @@
+-- `find_word` meets its contract: the word that names the row with these words; if no row has them, the word, now 0, that is to name it. Assumes
+-- nothing.
 use Rattle.formula_builder.proofs.rows.find_word.Statement.{statement}
 use Rattle.formula_builder.proofs.rows.find_word.Tie as tie
 use Rattle.formula_builder.proofs.rows.find_word.Reads as reads

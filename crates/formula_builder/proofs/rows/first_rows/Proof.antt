@@ -1,3 +1,4 @@
+-- `first_rows` meets its contract: false and true, the first two rows. Assumes nothing.
 use borrow.Author.Needs.{needs}
 use Rattle.formula_builder.proofs.rows.first_rows.Statement.{statement}
 use Rattle.formula_builder.proofs.rows.first_rows.Tie as tie

@@ -1,3 +1,5 @@
+-- `put` meets its contract: the row with these words among n rows, with room for so many: its number, which is n if it was appended; or 65535 if
+-- there was no room. Assumes nothing.
 use borrow.Author.Needs.{needs}
 use Rattle.formula_builder.proofs.rows.put.Statement.{statement}
 use Rattle.formula_builder.proofs.rows.put.Tie as tie

@@ -1,3 +1,4 @@
+-- `read_row` meets its contract: row i of a table. Assumes nothing.
 use borrow.Author.Needs.{needs}
 use Rattle.formula_builder.proofs.rows.read_row.Statement.{statement}
 use Rattle.formula_builder.proofs.rows.read_row.Tie as tie

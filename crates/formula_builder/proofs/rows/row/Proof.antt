@@ -1,3 +1,4 @@
+-- `row` meets its contract: the row with these words: its number, whether it stood or was appended; or 65535 if there was no room. Assumes nothing.
 use borrow.Author.Needs.{needs}
 use Rattle.formula_builder.proofs.rows.row.Statement.{statement}
 use Rattle.formula_builder.proofs.rows.row.Tie as tie

@@ -1,3 +1,4 @@
+-- `rows_after` meets its contract: how many rows stand after row k was put among n. Assumes nothing.
 use borrow.Author.Needs.{needs}
 use Rattle.formula_builder.proofs.rows.rows_after.Statement.{statement}
 use Rattle.formula_builder.proofs.rows.rows_after.Tie as tie

@@ -1,3 +1,4 @@
+-- `same` meets its contract: whether row i has these three words. Assumes nothing.
 use borrow.Author.Needs.{needs}
 use Rattle.formula_builder.proofs.rows.same.Statement.{statement}
 use Rattle.formula_builder.proofs.rows.same.Tie as tie

@@ -1,3 +1,4 @@
+-- `store_row` meets its contract: stores a row behind n rows. Assumes nothing.
 use borrow.Author.Needs.{needs}
 use Rattle.formula_builder.proofs.rows.store_row.Statement.{statement}
 use Rattle.formula_builder.proofs.rows.store_row.Tie as tie

@@ -1,3 +1,4 @@
+-- `variable_row` meets its contract: the row of a variable. Assumes nothing.
 use borrow.Author.Needs.{needs}
 use Rattle.formula_builder.proofs.rows.variable_row.Statement.{statement}
 use Rattle.formula_builder.proofs.rows.variable_row.Tie as tie

@@ -1,3 +1,5 @@
+-- `twin_row` meets its contract: the row of v's twin, which gets the next variable number when first met; or 65535 if there was no room. Assumes
+-- nothing.
 use borrow.Author.Needs.{needs}
 use Rattle.formula_builder.proofs.twins.twin_row.Statement.{statement}
 use Rattle.formula_builder.proofs.twins.twin_row.Tie as tie

@@ -1,3 +1,5 @@
+-- The cycle of `equivalent`, `image`, `image_anew`, `image_start`, `image_up`, `negated_image`, `negated_image_anew`, `negated_image_start`,
+-- `negated_image_up`, `operand`, `pair` meets its contracts. Assumes nothing.
 use Prim.Native.Nat.{ℕ, _<_}
 use borrow.Fn.Kinds.{In}
 use borrow.Fn.PlainCycle.{Measures, is, falls, and}

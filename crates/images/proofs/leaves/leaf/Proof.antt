@@ -1,3 +1,4 @@
+-- `leaf` meets its contract: A variable's row is copied, or negated, its twin's row is built; false and true stand. Assumes nothing.
 use borrow.Author.Needs.{needs}
 use Rattle.images.proofs.leaves.leaf.Statement.{statement}
 use Rattle.images.proofs.leaves.leaf.Tie as tie

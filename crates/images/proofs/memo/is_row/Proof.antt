@@ -1,3 +1,4 @@
+-- `is_row` meets its contract: whether a word of the memo is a row, plus 1. Assumes nothing.
 use Rattle.images.proofs.memo.is_row.Statement.{statement}
 use Rattle.images.proofs.memo.is_row.Tie as tie
 use Rattle.images.proofs.memo.is_row.Reads as reads

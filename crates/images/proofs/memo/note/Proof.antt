@@ -1,3 +1,4 @@
+-- `note` meets its contract: notes the row that was built, unless there was no room. Assumes nothing.
 use borrow.Author.Needs.{needs}
 use Rattle.images.proofs.memo.note.Statement.{statement}
 use Rattle.images.proofs.memo.note.Tie as tie

@@ -1,3 +1,4 @@
+-- `word_of` meets its contract: where the memo has the image of formula i, or its negated image. Assumes nothing.
 use borrow.Author.Needs.{needs}
 use Rattle.images.proofs.memo.word_of.Statement.{statement}
 use Rattle.images.proofs.memo.word_of.Tie as tie

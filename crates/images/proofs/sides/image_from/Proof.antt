@@ -1,3 +1,4 @@
+-- `image_from` meets its contract: the image of formula i, from a size. Assumes nothing.
 use borrow.Author.Needs.{needs}
 use Rattle.images.proofs.sides.image_from.Statement.{statement}
 use Rattle.images.proofs.sides.image_from.Tie as tie

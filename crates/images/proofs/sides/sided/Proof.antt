@@ -1,3 +1,5 @@
+-- `sided` meets its contract: the image of formula i, or its negated image: constant time if the memo has it, else what building it costs. Assumes
+-- nothing.
 use borrow.Author.Needs.{needs}
 use Rattle.images.proofs.sides.sided.Statement.{statement}
 use Rattle.images.proofs.sides.sided.Tie as tie

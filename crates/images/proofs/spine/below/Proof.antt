@@ -1,3 +1,4 @@
+-- `below` meets its contract: the row below j on the way; j itself where the way ends. Assumes nothing.
 use borrow.Author.Needs.{needs}
 use Rattle.images.proofs.spine.below.Statement.{statement}
 use Rattle.images.proofs.spine.below.Tie as tie

@@ -1,3 +1,4 @@
+-- `descend` meets its contract: the lowest row of the way down from i: one step for each row. Assumes nothing.
 use Rattle.images.proofs.spine.descend.Statement.{statement}
 use Rattle.images.proofs.spine.descend.Tie as tie
 use Rattle.images.proofs.spine.descend.Reads as reads

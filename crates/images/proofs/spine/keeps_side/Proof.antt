@@ -1,3 +1,4 @@
+-- `keeps_side` meets its contract: whether a row of this kind has its first operand on its own side. Assumes nothing.
 use Rattle.images.proofs.spine.keeps_side.Statement.{statement}
 use Rattle.images.proofs.spine.keeps_side.Tie as tie
 use Rattle.images.proofs.spine.keeps_side.Reads as reads

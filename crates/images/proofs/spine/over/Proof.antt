@@ -1,3 +1,4 @@
+-- `over` meets its contract: the row over j on the way up to i, from the memo's word of row j; behind i, the way has ended. Assumes nothing.
 use borrow.Author.Needs.{needs}
 use Rattle.images.proofs.spine.over.Statement.{statement}
 use Rattle.images.proofs.spine.over.Tie as tie

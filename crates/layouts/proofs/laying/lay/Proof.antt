@@ -1,3 +1,4 @@
+-- `lay` meets its contract: the layout, and 0 past it; 20 and all 0 if it does not fit. Assumes nothing.
 use Rattle.task.specs.Table.{lent}
 use Rattle.layouts.specs.Inner.Giving.{flat-bytes}
 use Rattle.layouts.proofs.LayWays.{too-short, fitted}

@@ -1,3 +1,4 @@
+-- `put_tables` meets its contract: the layout, from the front; what does not fit is only counted. Assumes nothing.
 use mathlib.Core.Path.{_≡_, refl, sym, ap, _∙_}
 use native.Mathlib.Omega.{arith}
 use Prim.Native.Nat.{_+_, _*_}

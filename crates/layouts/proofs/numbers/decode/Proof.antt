@@ -1,3 +1,5 @@
+-- `decode` meets its contract: the operator numbers of a sequence of bytes, into the front of `numbers`; what stands behind them stays. Assumes
+-- nothing.
 use mathlib.Core.Path.{_≡_, refl, sym, ap, _∙_}
 use native.Mathlib.Omega.{arith}
 use Prim.Native.Nat.{_+_, _-_, _*_, _/_}

@@ -1,3 +1,4 @@
+-- `refused_run` meets its contract: 0, or the first in order: 16, 19, 20. Assumes nothing.
 use mathlib.Core.Path.{_≡_, refl, sym, ap, _∙_}
 use native.Mathlib.Omega.{arith}
 use borrow.Author.Tests.{not-true, not-false}

@@ -1,3 +1,4 @@
+-- `flag` meets its contract: constant time. Assumes nothing.
 use Rattle.layouts.specs.Layout.{flag}
 use borrow.Author.Needs.{needs}
 use Rattle.layouts.proofs.results.flag.Statement.{statement}

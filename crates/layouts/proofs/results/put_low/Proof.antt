@@ -1,3 +1,4 @@
+-- `put_low` meets its contract: the `count` low bytes of a number, the lowest first. Assumes nothing.
 use mathlib.Core.Path.{_≡_, refl, sym, ap, _∙_}
 use native.Mathlib.Omega.{arith}
 use Prim.Native.Nat.{_+_, _-_}

@@ -1,3 +1,4 @@
+-- `put_result` meets its contract: the result, and 0 past it; gives the stop's number. Assumes nothing.
 use mathlib.Core.Path.{_≡_, refl, sym, ap, _∙_}
 use native.Mathlib.Omega.{arith}
 use lib.ListN.{length, length-replicate}

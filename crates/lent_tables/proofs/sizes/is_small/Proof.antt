@@ -1,3 +1,4 @@
+-- `is_small` meets its contract: whether small tables are tried first. Assumes nothing.
 use Rattle.lent_tables.proofs.sizes.is_small.Statement.{statement}
 use Rattle.lent_tables.proofs.sizes.is_small.Tie as tie
 use Rattle.lent_tables.proofs.sizes.is_small.Reads as reads

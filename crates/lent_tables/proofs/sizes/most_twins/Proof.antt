@@ -1,3 +1,4 @@
+-- `most_twins` meets its contract: as many twins as the limit and the lengths of the tables for initial values and originals allow. Assumes nothing.
 use borrow.Author.Needs.{needs}
 use Rattle.lent_tables.proofs.sizes.most_twins.Statement.{statement}
 use Rattle.lent_tables.proofs.sizes.most_twins.Tie as tie

@@ -1,3 +1,5 @@
+-- `build_operator` meets its contract: builds the operator with precondition p and effect e, and records its changes behind those that are. Assumes
+-- nothing.
 use borrow.Author.Needs.{needs}
 use Rattle.operators.proofs.operator.build_operator.Statement.{statement}
 use Rattle.operators.proofs.operator.build_operator.Tie as tie

@@ -1,3 +1,5 @@
+-- `build_changes` meets its contract: the changes of all variables are built, and recorded behind those that are; variables that the effect does not
+-- touch are passed over. Assumes nothing.
 use borrow.Author.Needs.{needs}
 use Rattle.operators.proofs.walk.build_changes.Statement.{statement}
 use Rattle.operators.proofs.walk.build_changes.Tie as tie

@@ -1,3 +1,4 @@
+-- `next_touched` meets its contract: the first variable from one on of which effect e names an atom. Assumes nothing.
 use Rattle.operators.proofs.walk.next_touched.Statement.{statement}
 use Rattle.operators.proofs.walk.next_touched.Tie as tie
 use Rattle.operators.proofs.walk.next_touched.Reads as reads

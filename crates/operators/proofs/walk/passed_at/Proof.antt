@@ -1,3 +1,5 @@
+-- `passed_at` meets its contract: how many variables from v on are passed over at once: none, if effect e names an atom of v; those left of v's word,
+-- if it names none of theirs either; else v alone. Assumes nothing.
 use borrow.Author.Needs.{needs}
 use Rattle.operators.proofs.walk.passed_at.Statement.{statement}
 use Rattle.operators.proofs.walk.passed_at.Tie as tie

@@ -1,3 +1,4 @@
+-- `fill` meets its contract: notes as large as the task asks. Assumes nothing.
 use borrow.Author.Needs.{needs}
 use Rattle.own_tables.proofs.own.fill.Statement.{statement}
 use Rattle.own_tables.proofs.own.fill.Tie as tie

@@ -1,3 +1,4 @@
+-- `fill_few` meets its contract: the same for at most 96 variables or at most 1,024 effects: the notes take 320 KiB, cleared. Assumes nothing.
 use borrow.Author.Needs.{needs}
 use Rattle.own_tables.proofs.own.fill_few.Statement.{statement}
 use Rattle.own_tables.proofs.own.fill_few.Tie as tie

@@ -1,3 +1,5 @@
+-- `fill_many` meets its contract: the first has the words of 4,096 rows, two links and four heads for each, and a word for each of 512 variables: 73
+-- KiB, cleared. Assumes nothing.
 use borrow.Author.Needs.{needs}
 use Rattle.own_tables.proofs.own.fill_many.Statement.{statement}
 use Rattle.own_tables.proofs.own.fill_many.Tie as tie

@@ -1,3 +1,4 @@
+-- `number` meets its contract: A number in decimal: five digits at most, the higher ones first. Assumes nothing.
 use Prim.Native.Nat.{ℕ, _<_, _/_}
 use native.Mathlib.Omega.{arith}
 use mathlib.Core.Path.{sym}

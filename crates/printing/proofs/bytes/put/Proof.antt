@@ -1,3 +1,4 @@
+-- `put` meets its contract: one byte. Assumes nothing.
 use borrow.Author.Needs.{needs}
 use Rattle.printing.proofs.Puts.{byte-put, byte-counted}
 use Rattle.printing.proofs.bytes.put.Statement.{statement}

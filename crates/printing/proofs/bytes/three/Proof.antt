@@ -1,3 +1,4 @@
+-- `three` meets its contract: three words. Assumes nothing.
 use native.Mathlib.Omega.{arith}
 use borrow.Author.Needs.{needs}
 use Rattle.printing.specs.Lines.{word}

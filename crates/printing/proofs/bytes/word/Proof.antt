@@ -1,3 +1,4 @@
+-- `word` meets its contract: A blank and a number. Assumes nothing.
 use native.Mathlib.Omega.{arith}
 use borrow.Author.Needs.{needs}
 use Rattle.printing.specs.Lines.{word}

@@ -1,3 +1,5 @@
+-- `print` meets its contract: the lines of a task, if its tables pass: otherwise their number; 20 if `out` is shorter than the lines. Assumes
+-- nothing.
 use mathlib.Core.Path.{sym, _∙_}
 use lib.ListN.{length}
 use borrow.Author.Needs.{needs}

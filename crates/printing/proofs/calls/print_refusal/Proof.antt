@@ -1,3 +1,4 @@
+-- `print_refusal` meets its contract: the line of a refusal: r and the number; 20 if `out` is shorter than that. Assumes nothing.
 use native.Mathlib.Omega.{arith}
 use mathlib.Core.List.{[], _∷_}
 use lib.ListN.{length}

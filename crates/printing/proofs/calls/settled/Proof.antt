@@ -1,3 +1,5 @@
+-- `settled` meets its contract: the answer for a text of `size` bytes that was put into a clear buffer: if it is not whole there, 20, and the buffer
+-- is clear again. Assumes nothing.
 use borrow.Author.Needs.{needs}
 use Rattle.printing.proofs.Settled.{settled-whole, settled-over}
 use Rattle.printing.proofs.calls.settled.Statement.{statement}

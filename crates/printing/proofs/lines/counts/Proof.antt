@@ -1,3 +1,4 @@
+-- `counts` meets its contract: the numbers of line t. Assumes nothing.
 use native.Mathlib.Omega.{arith}
 use borrow.Author.Needs.{needs}
 use Rattle.printing.proofs.Puts.{then-put, put-as}

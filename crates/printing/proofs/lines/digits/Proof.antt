@@ -1,3 +1,4 @@
+-- `digits` meets its contract: A digit for each of the first `count` bytes. Assumes nothing.
 use Prim.Native.Nat.{_-_, _≤_}
 use native.Mathlib.Omega.{arith}
 use mathlib.Core.List.{map}

@@ -1,3 +1,4 @@
+-- `front` meets its contract: lines t, i and w. Assumes nothing.
 use native.Mathlib.Omega.{arith}
 use borrow.Author.Needs.{needs}
 use Rattle.printing.proofs.Puts.{then-put, put-as}

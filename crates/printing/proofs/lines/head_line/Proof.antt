@@ -1,3 +1,4 @@
+-- `head_line` meets its contract: line t. Assumes nothing.
 use native.Mathlib.Omega.{arith}
 use borrow.Author.Needs.{needs}
 use Rattle.printing.proofs.Puts.{then-put, put-as}

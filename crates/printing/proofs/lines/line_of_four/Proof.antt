@@ -1,3 +1,4 @@
+-- `line_of_four` meets its contract: A line of four numbers. Assumes nothing.
 use native.Mathlib.Omega.{arith}
 use borrow.Author.Needs.{needs}
 use Rattle.printing.proofs.Puts.{then-put, put-as}

@@ -1,3 +1,4 @@
+-- `line_of_one` meets its contract: A line of one number. Assumes nothing.
 use native.Mathlib.Omega.{arith}
 use borrow.Author.Needs.{needs}
 use Rattle.printing.proofs.Puts.{then-put, put-as}

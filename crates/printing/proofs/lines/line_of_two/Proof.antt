@@ -1,3 +1,4 @@
+-- `line_of_two` meets its contract: A line of two numbers. Assumes nothing.
 use native.Mathlib.Omega.{arith}
 use borrow.Author.Needs.{needs}
 use Rattle.printing.specs.Lines.{word}

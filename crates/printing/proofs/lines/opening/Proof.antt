@@ -1,3 +1,4 @@
+-- `opening` meets its contract: A line's letter and its first number. Assumes nothing.
 use native.Mathlib.Omega.{arith}
 use borrow.Author.Needs.{needs}
 use Rattle.printing.specs.Lines.{word}

@@ -1,3 +1,4 @@
+-- `row_lines` meets its contract: lines f, e or o, by the letter. Assumes nothing.
 use Prim.Native.Nat.{_-_, _≤_, _*_}
 use native.Mathlib.Omega.{arith}
 use native.Mathlib.Nat.{zero-add}

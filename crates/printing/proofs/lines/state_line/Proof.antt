@@ -1,3 +1,4 @@
+-- `state_line` meets its contract: line i. Assumes nothing.
 use native.Mathlib.Omega.{arith}
 use lib.ListN.{take}
 use borrow.Author.Needs.{needs}

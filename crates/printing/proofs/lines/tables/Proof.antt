@@ -1,3 +1,4 @@
+-- `tables` meets its contract: lines f, e and o. Assumes nothing.
 use native.Mathlib.Omega.{arith}
 use borrow.Author.Needs.{needs}
 use Rattle.printing.proofs.Puts.{then-put, put-as}

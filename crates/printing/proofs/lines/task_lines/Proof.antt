@@ -1,3 +1,4 @@
+-- `task_lines` meets its contract: all lines of tables that pass the check. Assumes nothing.
 use native.Mathlib.Omega.{arith}
 use borrow.Author.Needs.{needs}
 use Rattle.task.specs.Table.{lent}

@@ -1,3 +1,4 @@
+-- `twin_lines` meets its contract: lines w, for the twins from variable `first` on. Assumes nothing.
 use Prim.Native.Nat.{_-_, _≤_, _*_, _+_}
 use native.Mathlib.Omega.{arith}
 use mathlib.Core.Path.{refl}

@@ -1,3 +1,4 @@
+-- `values` meets its contract: the initial values behind a blank; nothing if there are none. Assumes nothing.
 use native.Mathlib.Omega.{arith}
 use mathlib.Core.Path.{sym}
 use borrow.Author.Needs.{needs}

@@ -1,3 +1,4 @@
+-- `read` meets its contract: reads a task file: 0 and its tables, or the number and all 0. Assumes nothing.
 use lib.ListN.{length}
 use Rattle.entry_tables.specs.Own.{small}
 use Rattle.read_entry.proofs.ReadWays.{read-settled, read-again}

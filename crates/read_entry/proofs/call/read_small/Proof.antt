@@ -1,3 +1,4 @@
+-- `read_small` meets its contract: through small tables, which have room for every task whose file is short: 3 KiB. Assumes nothing.
 use Rattle.entry_tables.specs.Own.{small}
 use borrow.Author.Needs.{needs}
 use Rattle.read_entry.proofs.call.read_small.Statement.{statement}

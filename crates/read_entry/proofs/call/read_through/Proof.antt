@@ -1,3 +1,4 @@
+-- `read_through` meets its contract: through tables that are lent. Assumes nothing.
 use mathlib.Core.Path.{ap, _∙_}
 use lib.ListN.{length}
 use Rattle.task_file.proofs.ReadWays.{bytes-from}

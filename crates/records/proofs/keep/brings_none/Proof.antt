@@ -1,3 +1,4 @@
+-- `brings_none` meets its contract: whether a change brings no rule. Assumes nothing.
 use Rattle.records.proofs.keep.brings_none.Statement.{statement}
 use Rattle.records.proofs.keep.brings_none.Tie as tie
 use Rattle.records.proofs.keep.brings_none.Reads as reads

@@ -1,3 +1,4 @@
+-- `keep_change` meets its contract: A change behind k of them, unless it brings no rule; past the room it is counted only. Assumes nothing.
 use borrow.Author.Needs.{needs}
 use Rattle.records.proofs.keep.keep_change.Statement.{statement}
 use Rattle.records.proofs.keep.keep_change.Tie as tie

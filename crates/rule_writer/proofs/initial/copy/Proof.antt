@@ -1,3 +1,4 @@
+-- `copy` meets its contract: the source's values, v bytes. Assumes nothing.
 use Rattle.rule_writer.proofs.initial.copy.Statement.{statement}
 use Rattle.rule_writer.proofs.initial.copy.Tie as tie
 use Prim.Native.Nat.{_-_}

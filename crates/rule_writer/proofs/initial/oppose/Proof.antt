@@ -1,3 +1,4 @@
+-- `oppose` meets its contract: behind v values, those of w twins, each opposite to its original's. Assumes nothing.
 use Rattle.rule_writer.proofs.initial.oppose.Statement.{statement}
 use Rattle.rule_writer.proofs.initial.oppose.Tie as tie
 use Prim.Native.Nat.{_-_}

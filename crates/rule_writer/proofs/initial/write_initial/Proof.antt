@@ -1,3 +1,4 @@
+-- `write_initial` meets its contract: the source's values, then those of the twins. Assumes nothing.
 use borrow.Author.Needs.{needs}
 use Rattle.rule_writer.proofs.initial.write_initial.Statement.{statement}
 use Rattle.rule_writer.proofs.initial.write_initial.Tie as tie

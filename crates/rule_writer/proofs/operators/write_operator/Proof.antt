@@ -1,3 +1,4 @@
+-- `write_operator` meets its contract: operator o behind those before it: its precondition, the row of what stands, its cost. Assumes nothing.
 use borrow.Author.Needs.{needs}
 use Rattle.rule_writer.proofs.operators.write_operator.Statement.{statement}
 use Rattle.rule_writer.proofs.operators.write_operator.Tie as tie

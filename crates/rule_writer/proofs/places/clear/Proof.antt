@@ -1,3 +1,4 @@
+-- `clear` meets its contract: no variable has a twin: each of v places is past them. Assumes nothing.
 use Rattle.rule_writer.proofs.places.clear.Statement.{statement}
 use Rattle.rule_writer.proofs.places.clear.Tie as tie
 use Rattle.rule_writer.proofs.places.clear.Reads as reads

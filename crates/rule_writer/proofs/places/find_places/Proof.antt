@@ -1,3 +1,4 @@
+-- `find_places` meets its contract: for each of v variables the place of its twin among w twins; w if it has none. Assumes nothing.
 use borrow.Author.Needs.{needs}
 use Rattle.rule_writer.proofs.places.find_places.Statement.{statement}
 use Rattle.rule_writer.proofs.places.find_places.Tie as tie

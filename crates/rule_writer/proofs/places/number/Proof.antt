@@ -1,3 +1,4 @@
+-- `number` meets its contract: the places of w twins, the last one first: of equal originals the first stays. Assumes nothing.
 use Rattle.rule_writer.proofs.places.number.Statement.{statement}
 use Rattle.rule_writer.proofs.places.number.Tie as tie
 use Rattle.rule_writer.proofs.places.number.Reads as reads

@@ -1,3 +1,4 @@
+-- `store` meets its contract: stores three words as row n. Assumes nothing.
 use borrow.Author.Needs.{needs}
 use Rattle.rule_writer.proofs.rows.store.Statement.{statement}
 use Rattle.rule_writer.proofs.rows.store.Tie as tie

@@ -1,3 +1,4 @@
+-- `conjunct` meets its contract: the two rows of a rule: its atom at row n, then the atom under its condition. Assumes nothing.
 use borrow.Author.Needs.{needs}
 use Rattle.rule_writer.proofs.rules.conjunct.Statement.{statement}
 use Rattle.rule_writer.proofs.rules.conjunct.Tie as tie

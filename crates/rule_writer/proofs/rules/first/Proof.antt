@@ -1,3 +1,4 @@
+-- `first` meets its contract: an operator's first rule. Assumes nothing.
 use borrow.Author.Needs.{needs}
 use Rattle.rule_writer.proofs.rules.first.Statement.{statement}
 use Rattle.rule_writer.proofs.rules.first.Tie as tie

@@ -1,3 +1,4 @@
+-- `next` meets its contract: A further rule: joined by "both" to what stands. Assumes nothing.
 use borrow.Author.Needs.{needs}
 use Rattle.rule_writer.proofs.rules.next.Statement.{statement}
 use Rattle.rule_writer.proofs.rules.next.Tie as tie

@@ -1,3 +1,4 @@
+-- `opposed` meets its contract: A rule, and the opposite one for the twin at place k. Assumes nothing.
 use borrow.Author.Needs.{needs}
 use Rattle.rule_writer.proofs.rules.opposed.Statement.{statement}
 use Rattle.rule_writer.proofs.rules.opposed.Tie as tie

@@ -1,3 +1,4 @@
+-- `twin_rule` meets its contract: the opposite rule for the twin at place k; none if k is past the twins. Assumes nothing.
 use borrow.Author.Needs.{needs}
 use Rattle.rule_writer.proofs.rules.twin_rule.Statement.{statement}
 use Rattle.rule_writer.proofs.rules.twin_rule.Tie as tie

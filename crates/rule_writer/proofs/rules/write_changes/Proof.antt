@@ -1,3 +1,5 @@
+-- `write_changes` meets its contract: all rules of one variable, the place of its twin being known: set v, clear its twin; clear v, set its twin.
+-- Assumes nothing.
 use borrow.Author.Needs.{needs}
 use Rattle.rule_writer.proofs.rules.write_changes.Statement.{statement}
 use Rattle.rule_writer.proofs.rules.write_changes.Tie as tie

@@ -1,3 +1,4 @@
+-- `write_rule` meets its contract: one rule; none for a condition that is row 0. Assumes nothing.
 use borrow.Author.Needs.{needs}
 use Rattle.rule_writer.proofs.rules.write_rule.Statement.{statement}
 use Rattle.rule_writer.proofs.rules.write_rule.Tie as tie

@@ -1,3 +1,4 @@
+-- `is_small` meets its contract: whether a run has at most 256 numbers and few rows. Assumes nothing.
 use native.Mathlib.Omega.{arith}
 use borrow.Author.Tests.{lt-leb, le-leb}
 use Rattle.run_entry.specs.Inner.Giving.{small-run}

@@ -1,3 +1,5 @@
+-- `run` meets its contract: runs operator numbers, two bytes each, from a state: 0, 17 or 18 and the result, or the number and all 0 with the state
+-- as it was. Assumes nothing.
 use lib.ListN.{length}
 use Rattle.entry_tables.specs.Own.{small}
 use Rattle.run_entry.proofs.RunWays.{run-settled, not-run, run-again}

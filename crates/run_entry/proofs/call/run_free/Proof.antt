@@ -1,3 +1,4 @@
+-- `run_free` meets its contract: the run where nothing refuses it. Assumes nothing.
 use mathlib.Core.Path.{sym, _∙_}
 use borrow.Author.Needs.{needs}
 use Rattle.run_entry.proofs.call.run_free.Statement.{statement}

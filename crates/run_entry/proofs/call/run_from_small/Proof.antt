@@ -1,3 +1,4 @@
+-- `run_from_small` meets its contract: the task in small tables: 3 KiB. Assumes nothing.
 use Rattle.entry_tables.specs.Own.{small}
 use borrow.Author.Needs.{needs}
 use Rattle.run_entry.proofs.call.run_from_small.Statement.{statement}

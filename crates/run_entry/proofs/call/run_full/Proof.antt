@@ -1,3 +1,4 @@
+-- `run_full` meets its contract: any run, in room of its own: 136 KiB. Assumes nothing.
 use Rattle.run_entry.proofs.RunWays.{full-room}
 use borrow.Author.Needs.{needs}
 use Rattle.run_entry.proofs.call.run_full.Statement.{statement}

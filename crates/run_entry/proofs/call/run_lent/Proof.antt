@@ -1,3 +1,4 @@
+-- `run_lent` meets its contract: the run where nothing refuses it, with room lent for its numbers and for scratch. Assumes nothing.
 use native.Mathlib.Omega.{arith}
 use lib.ListN.{length}
 use Rattle.task.specs.Table.{lent}

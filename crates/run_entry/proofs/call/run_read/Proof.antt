@@ -1,3 +1,4 @@
+-- `run_read` meets its contract: on the tables that a file was read into: 16, 19, 20, then the run. Assumes nothing.
 use mathlib.Core.Path.{sym, _∙_}
 use lib.ListN.{length}
 use Rattle.task.specs.Table.{lent}

@@ -1,3 +1,4 @@
+-- `run_small` meets its contract: at most 256 numbers on few rows, in room of its own: 768 bytes. Assumes nothing.
 use Rattle.run_entry.proofs.RunWays.{small-room}
 use borrow.Author.Needs.{needs}
 use Rattle.run_entry.proofs.call.run_small.Statement.{statement}

@@ -1,3 +1,4 @@
+-- `run_through` meets its contract: reads into tables that are lent, then runs. Assumes nothing.
 use mathlib.Core.Path.{ap, _∙_}
 use lib.ListN.{length}
 use Rattle.task_file.proofs.ReadWays.{bytes-from}

@@ -1,3 +1,4 @@
+-- `fill_front` meets its contract: at most 512 rows: the front of the lent formula table is lent on. Assumes nothing.
 use borrow.Author.Needs.{needs}
 use Rattle.sizing.proofs.sized.fill_front.Statement.{statement}
 use Rattle.sizing.proofs.sized.fill_front.Tie as tie

@@ -1,3 +1,5 @@
+-- `fill_front_first` meets its contract: the front first; if it has no room, all that is lent is cleared again, and the whole is filled. Assumes
+-- nothing.
 use borrow.Author.Needs.{needs}
 use Rattle.sizing.proofs.sized.fill_front_first.Statement.{statement}
 use Rattle.sizing.proofs.sized.fill_front_first.Tie as tie

@@ -1,3 +1,4 @@
+-- `fill_lent` meets its contract: either way, the lent tables hold the finished task, or it does not fit. Assumes nothing.
 use borrow.Author.Needs.{needs}
 use Rattle.sizing.proofs.sized.fill_lent.Statement.{statement}
 use Rattle.sizing.proofs.sized.fill_lent.Tie as tie

@@ -1,3 +1,4 @@
+-- `fill_whole` meets its contract: as many rows as the limits and the lent tables allow. Assumes nothing.
 use borrow.Author.Needs.{needs}
 use Rattle.sizing.proofs.sized.fill_whole.Statement.{statement}
 use Rattle.sizing.proofs.sized.fill_whole.Tie as tie

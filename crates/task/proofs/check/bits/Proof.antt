@@ -1,3 +1,4 @@
+-- `bits` meets its contract: whether every byte is 0 or 1. Assumes nothing.
 use Prim.Native.Nat.{_≤_, _-_}
 use native.Mathlib.Omega.{arith}
 use mathlib.Core.Path.{_≡_}

@@ -1,3 +1,4 @@
+-- `check_numbers` meets its contract: the check of a head's six numbers and the tables. Assumes nothing.
 use native.Mathlib.Omega.{arith}
 use Rattle.task.specs.Check.{initial-kept, twins-kept, formulas-kept, effects-kept, operators-kept}
 use Rattle.task.proofs.Passed.{counts-tested, lengths-tested}

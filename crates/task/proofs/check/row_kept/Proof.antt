@@ -1,3 +1,4 @@
+-- `row_kept` meets its contract: whether row i of a table keeps its rule. Assumes nothing.
 use Rattle.task.specs.Check.{formula-kept, effect-kept}
 use borrow.Author.Needs.{needs}
 use Rattle.task.proofs.check.row_kept.Statement.{statement}

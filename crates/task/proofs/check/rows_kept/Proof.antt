@@ -1,3 +1,4 @@
+-- `rows_kept` meets its contract: whether the first `count` rows of a table keep their rule. Assumes nothing.
 use Prim.Native.Nat.{_≤_, _-_}
 use native.Mathlib.Omega.{arith}
 use mathlib.Core.Path.{_≡_, sym, _∙_}

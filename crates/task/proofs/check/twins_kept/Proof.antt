@@ -1,3 +1,4 @@
+-- `twins_kept` meets its contract: whether each twin row names a variable below `bound` that no row before it names. Assumes nothing.
 use Prim.Native.Nat.{_≤_, _-_}
 use native.Mathlib.Omega.{arith}
 use mathlib.Core.Path.{_≡_}

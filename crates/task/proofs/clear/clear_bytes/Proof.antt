@@ -1,3 +1,4 @@
+-- `clear_bytes` meets its contract: all bytes 0. Assumes nothing.
 use Rattle.task.proofs.clear.clear_bytes.Statement.{statement}
 use Rattle.task.proofs.clear.clear_bytes.Tie as tie
 use Prim.Native.Nat.{_-_}

@@ -1,3 +1,4 @@
+-- `clear_words` meets its contract: all words 0. Assumes nothing.
 use Rattle.task.proofs.clear.clear_words.Statement.{statement}
 use Rattle.task.proofs.clear.clear_words.Tie as tie
 use Prim.Native.Nat.{_-_}

@@ -1,3 +1,4 @@
+-- `counts_kept` meets its contract: whether every count is within its limits. Assumes nothing.
 use Rattle.task.proofs.Refusals.{counts-last}
 use mathlib.Core.Path.{refl}
 use mathlib.Core.Bool.{and-false}

@@ -1,3 +1,4 @@
+-- `goal_kept` meets its contract: whether the goal is a formula of the table. Assumes nothing.
 use mathlib.Core.Path.{refl}
 use Rattle.task.specs.Check.{goal-kept}
 use Rattle.task.proofs.counts.goal_kept.Statement.{statement}

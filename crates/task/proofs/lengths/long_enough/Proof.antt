@@ -1,3 +1,4 @@
+-- `long_enough` meets its contract: constant time: only the lengths are looked at. Assumes nothing.
 use Rattle.task.proofs.Refusals.{lengths-last}
 use mathlib.Core.Path.{refl}
 use mathlib.Core.Bool.{and-false}

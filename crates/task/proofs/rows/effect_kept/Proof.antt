@@ -1,3 +1,4 @@
+-- `effect_kept` meets its contract: whether the words of effect row i are right. Assumes nothing.
 use native.Mathlib.Omega.{arith}
 use mathlib.Core.Path.{_∙_}
 use Rattle.task.proofs.Refusals.{effect-empty, effect-atom, effect-both, effect-under, effect-unknown}

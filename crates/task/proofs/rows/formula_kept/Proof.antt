@@ -1,3 +1,4 @@
+-- `formula_kept` meets its contract: whether the words of formula row i are right. Assumes nothing.
 use native.Mathlib.Omega.{arith}
 use mathlib.Core.Path.{_∙_}
 use Rattle.task.proofs.Refusals.{formula-constant, formula-variable, formula-not, formula-pair, formula-unknown}

@@ -1,3 +1,4 @@
+-- `operator_kept` meets its contract: whether an operator's precondition and effect are rows of their tables. Assumes nothing.
 use Rattle.task.specs.Check.{operator-kept}
 use borrow.Author.Needs.{needs}
 use Rattle.task.proofs.rows.operator_kept.Statement.{statement}

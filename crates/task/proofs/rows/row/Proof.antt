@@ -1,3 +1,5 @@
+-- `row` meets its contract: row `number` as that part of the caller's table, or the empty part where the table does not hold all of it. Assumes
+-- nothing.
 use Rattle.task.proofs.Refusals.{row-inside, row-outside}
 use borrow.Author.Needs.{needs}
 use Rattle.task.proofs.rows.row.Statement.{statement}

@@ -1,3 +1,4 @@
+-- `fill_rows` meets its contract: the three tables of rows, one after the other. Assumes nothing.
 use mathlib.Core.Path.{_≡_, refl, sym, ap, _∙_}
 use Rattle.task_file.proofs.FillWays.{formulas-lost, effects-lost, rows-filled}
 use borrow.Author.Needs.{needs}

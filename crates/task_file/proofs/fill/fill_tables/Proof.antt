@@ -1,3 +1,4 @@
+-- `fill_tables` meets its contract: all that stands behind the head. Assumes nothing.
 use mathlib.Core.Path.{_≡_, refl, sym, ap, _∙_}
 use Rattle.task_file.proofs.FillWays.{initial-lost, twins-lost, all-filled}
 use borrow.Author.Needs.{needs}

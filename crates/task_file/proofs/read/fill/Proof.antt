@@ -1,3 +1,4 @@
+-- `fill` meets its contract: A file into the front of the tables. Assumes nothing.
 use mathlib.Core.Path.{_≡_, refl, sym, ap, _∙_}
 use lib.ListN.{length}
 use Rattle.task_file.specs.Inner.Answers.{head-told, no-task, lost-place}

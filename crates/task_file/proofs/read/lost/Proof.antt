@@ -1,3 +1,4 @@
+-- `lost` meets its contract: A table's refusal, as the answer. Assumes nothing.
 use mathlib.Core.Path.{_≡_, refl, sym, ap, _∙_}
 use Rattle.task_file.specs.Inner.Answers.{lost-place}
 use borrow.Author.Needs.{needs}

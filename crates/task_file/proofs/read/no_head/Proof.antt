@@ -1,3 +1,4 @@
+-- `no_head` meets its contract: the head's refusal, as the answer. Assumes nothing.
 use mathlib.Core.Path.{_≡_, refl, sym, ap, _∙_}
 use Rattle.task_file.specs.Inner.Answers.{no-task}
 use borrow.Author.Needs.{needs}

@@ -1,3 +1,4 @@
+-- `read` meets its contract: reads a task file into lent tables. Assumes nothing.
 use mathlib.Core.Path.{_≡_, refl, sym, ap, _∙_}
 use Rattle.task_file.proofs.ReadWays.{read-held, read-lost}
 use borrow.Author.Needs.{needs}

@@ -1,3 +1,4 @@
+-- `read_head` meets its contract: the six fields of the head: the lower three bits of the map, then the upper three. Assumes nothing.
 use mathlib.Core.Path.{_≡_, refl, sym, ap, _∙_}
 use native.Mathlib.Omega.{arith}
 use Rattle.task_file.specs.Inner.Answers.{row-told, head-told, lost-head}

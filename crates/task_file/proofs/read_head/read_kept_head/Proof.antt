@@ -1,3 +1,4 @@
+-- `read_kept_head` meets its contract: the head, if it keeps its rules and the lent tables have room. Assumes nothing.
 use mathlib.Core.Path.{_≡_, refl, sym, ap, _∙_}
 use borrow.Author.Tests.{not-true, not-false}
 use Rattle.task_file.specs.Inner.Answers.{head-told}

@@ -1,3 +1,4 @@
+-- `room` meets its contract: whether tables of these lengths hold what the head counts. Assumes nothing.
 use Rattle.task_file.specs.Outcome.{lengths}
 use Rattle.task_file.proofs.HeadWays.{room-last}
 use mathlib.Core.Path.{_≡_, refl, sym, ap, _∙_}

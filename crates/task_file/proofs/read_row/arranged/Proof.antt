@@ -1,3 +1,4 @@
+-- `arranged` meets its contract: the words of a row in their order: a formula's or an effect's kind stands first. Assumes nothing.
 use borrow.Author.Needs.{needs}
 use Rattle.task_file.proofs.read_row.arranged.Statement.{statement}
 use Rattle.task_file.proofs.read_row.arranged.Tie as tie

@@ -1,3 +1,4 @@
+-- `map_clear` meets its contract: whether no unused bit of a row's map stands. Assumes nothing.
 use borrow.Author.Needs.{needs}
 use Rattle.task_file.proofs.read_row.map_clear.Statement.{statement}
 use Rattle.task_file.proofs.read_row.map_clear.Tie as tie

@@ -1,3 +1,4 @@
+-- `read_kept` meets its contract: row i of a table: its words, if they keep their rule. Assumes nothing.
 use borrow.Author.Needs.{needs}
 use Rattle.task_file.proofs.read_row.read_kept.Statement.{statement}
 use Rattle.task_file.proofs.read_row.read_kept.Tie as tie

@@ -1,3 +1,4 @@
+-- `read_row` meets its contract: the words of a row, without its own number. Assumes nothing.
 use mathlib.Core.Path.{_≡_, sym, ap, _∙_}
 use lib.ListN.{drop}
 use native.Mathlib.Omega.{arith}

@@ -1,3 +1,4 @@
+-- `read_rows` meets its contract: the rows of a table, into the front of `words`. Assumes nothing.
 use mathlib.Core.Path.{_≡_, refl, sym, ap, _∙_}
 use lib.ListN.{length, drop, length-set}
 use Prim.Native.Nat.{_-_}

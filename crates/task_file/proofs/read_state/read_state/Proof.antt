@@ -1,3 +1,4 @@
+-- `read_state` meets its contract: the initial state of `count` variables, into the front of `initial`. Assumes nothing.
 use mathlib.Core.Path.{_≡_, refl, sym, ap, _∙_}
 use lib.ListN.{length, drop, length-set}
 use Rattle.file_format.specs.Bytes.{bytes-for}

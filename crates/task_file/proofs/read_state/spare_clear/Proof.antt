@@ -1,3 +1,4 @@
+-- `spare_clear` meets its contract: whether the bits behind the last of `count` variables are 0. Assumes nothing.
 use mathlib.Core.Path.{_≡_, refl, sym, ap, _∙_}
 use lib.ListN.{length, drop, length-set}
 use Rattle.file_format.specs.Bytes.{bytes-for}

@@ -1,3 +1,4 @@
+-- `unpack` meets its contract: variable v of a packed state, from bit v mod 8 of byte v / 8, for each of `count` variables. Assumes nothing.
 use mathlib.Core.Path.{_≡_, refl, sym, ap, _∙_}
 use lib.ListN.{length, drop, length-set}
 use Rattle.file_format.specs.Bytes.{bytes-for}

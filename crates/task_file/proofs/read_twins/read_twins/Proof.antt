@@ -1,3 +1,4 @@
+-- `read_twins` meets its contract: the originals, into the front of `twins`. Assumes nothing.
 use mathlib.Core.Path.{_≡_, refl, sym, ap, _∙_}
 use lib.ListN.{length, drop, length-set}
 use Prim.Native.Nat.{_-_, _<_}

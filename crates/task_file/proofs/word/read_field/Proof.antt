@@ -1,3 +1,4 @@
+-- `read_field` meets its contract: A field by its bit: absent it is 0. Assumes nothing.
 use mathlib.Core.Path.{_≡_, sym, ap, _∙_}
 use lib.ListN.{drop}
 use borrow.Author.Needs.{needs}

@@ -1,3 +1,4 @@
+-- `read_three` meets its contract: three fields by the lowest bits of a map: what the head and every row is made of. Assumes nothing.
 use mathlib.Core.Path.{_≡_, sym, ap, _∙_}
 use lib.ListN.{drop}
 use Rattle.task_file.specs.Inner.Answers.{field-told, row-told, carried}

@@ -1,3 +1,4 @@
+-- `read_word` meets its contract: the word at `at`. Assumes nothing.
 use Prim.Native.Nat.{_+_}
 use native.Mathlib.Omega.{arith}
 use mathlib.Core.Path.{_≡_, sym, ap, _∙_}

@@ -1,3 +1,4 @@
+-- `refused` meets its contract: A field's refusal, as that of its row. Assumes nothing.
 use mathlib.Core.Path.{sym, ap}
 use Rattle.task_file.specs.Inner.Answers.{carried}
 use borrow.Author.Needs.{needs}

@@ -1,3 +1,4 @@
+-- `bit` meets its contract: A field's bit in its map. Assumes nothing.
 use Rattle.task_writer.proofs.Puts.{present-zero, present-one}
 use Rattle.task_writer.proofs.put.bit.Statement.{statement}
 use Rattle.task_writer.proofs.put.bit.Tie as tie

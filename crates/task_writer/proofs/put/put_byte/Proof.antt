@@ -1,3 +1,4 @@
+-- `put_byte` meets its contract: one byte. Assumes nothing.
 use Rattle.task_writer.proofs.Puts.{byte-put, byte-counted}
 use borrow.Author.Needs.{needs}
 use Rattle.task_writer.proofs.put.put_byte.Statement.{statement}

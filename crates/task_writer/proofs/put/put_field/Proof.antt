@@ -1,3 +1,4 @@
+-- `put_field` meets its contract: A field: nothing for 0. Assumes nothing.
 use Rattle.task_writer.proofs.Puts.{field-none, field-put}
 use borrow.Author.Needs.{needs}
 use Rattle.task_writer.proofs.put.put_field.Statement.{statement}

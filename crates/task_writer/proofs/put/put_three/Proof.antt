@@ -1,3 +1,4 @@
+-- `put_three` meets its contract: three fields. Assumes nothing.
 use native.Mathlib.Omega.{arith}
 use Rattle.task_writer.proofs.Puts.{field-next, three-put}
 use borrow.Author.Needs.{needs}

@@ -1,3 +1,4 @@
+-- `put_word` meets its contract: A word, little-endian. Assumes nothing.
 use Rattle.task_writer.proofs.Puts.{word-put}
 use borrow.Author.Needs.{needs}
 use Rattle.task_writer.proofs.put.put_word.Statement.{statement}

@@ -1,3 +1,4 @@
+-- `put_head` meets its contract: the head's bytes, at the front. Assumes nothing.
 use native.Mathlib.Omega.{arith}
 use Rattle.task_writer.proofs.Puts.{mapped-next, head-put}
 use borrow.Author.Needs.{needs}

@@ -1,3 +1,4 @@
+-- `put_kind` meets its contract: A formula's or an effect's row. Assumes nothing.
 use native.Mathlib.Omega.{arith}
 use Rattle.task_writer.proofs.Puts.{kind-put}
 use borrow.Author.Needs.{needs}

@@ -1,3 +1,4 @@
+-- `put_mapped` meets its contract: A map and the three fields by it. Assumes nothing.
 use Rattle.task_writer.proofs.Puts.{put-then}
 use borrow.Author.Needs.{needs}
 use Rattle.task_writer.proofs.put_row.put_mapped.Statement.{statement}

@@ -1,3 +1,4 @@
+-- `put_operator` meets its contract: an operator's row. Assumes nothing.
 use native.Mathlib.Omega.{arith}
 use Rattle.task_writer.proofs.Puts.{operator-put}
 use borrow.Author.Needs.{needs}

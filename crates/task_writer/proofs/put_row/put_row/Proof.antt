@@ -1,3 +1,4 @@
+-- `put_row` meets its contract: A row by its three words. Assumes nothing.
 use mathlib.Core.Path.{_≡_, refl, sym, ap, subst, _∙_}
 use native.Mathlib.Omega.{arith}
 use Rattle.task.specs.declared.Table.{Table}

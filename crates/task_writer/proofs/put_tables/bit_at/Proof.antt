@@ -1,3 +1,4 @@
+-- `bit_at` meets its contract: variable v, and 0 past the last. Assumes nothing.
 use Rattle.task_writer.proofs.PutLoops.{bit-there, bit-past}
 use borrow.Author.Needs.{needs}
 use Rattle.task_writer.proofs.put_tables.bit_at.Statement.{statement}

@@ -1,3 +1,4 @@
+-- `pack` meets its contract: byte j of the packed state. Assumes nothing.
 use mathlib.Core.Path.{_≡_, refl, sym, ap, _∙_}
 use native.Mathlib.Omega.{arith}
 use lib.ListN.{length, getD, take}

@@ -1,3 +1,4 @@
+-- `put_state` meets its contract: the state of `count` variables, packed. Assumes nothing.
 use mathlib.Core.Path.{_≡_, refl, sym, ap, _∙_}
 use native.Mathlib.Omega.{arith}
 use borrow.Author.Needs.{needs}

@@ -1,3 +1,4 @@
+-- `put_task` meets its contract: the bytes of a task, from the front; what does not fit is only counted. Assumes nothing.
 use mathlib.Core.Path.{_≡_, refl, sym, ap, _∙_}
 use native.Mathlib.Omega.{arith}
 use Rattle.task.specs.declared.Table.the-variants.{Formulas, Effects, Operators}

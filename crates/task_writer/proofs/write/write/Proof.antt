@@ -1,3 +1,4 @@
+-- `write` meets its contract: writes the file of lent tables. Assumes nothing.
 use mathlib.Core.Path.{_≡_, refl, sym, ap, _∙_}
 use native.Mathlib.Omega.{arith}
 use Rattle.task.specs.Table.{lent, task-of}

@@ -1,3 +1,4 @@
+-- `tell_head` meets its contract: A head's six words, V W F E O goal, if the buffer has just six. Assumes nothing.
 use Rattle.test_calls.specs.Buffers.{head-words}
 use native.Mathlib.Omega.{arith}
 use lib.ListN.{length-set}

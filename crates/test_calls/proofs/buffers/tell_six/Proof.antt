@@ -1,3 +1,4 @@
+-- `tell_six` meets its contract: six words, if the buffer has just six. Assumes nothing.
 use native.Mathlib.Omega.{arith}
 use lib.ListN.{length-set}
 use Rattle.test_calls.proofs.Told.{told-left, told-stored}

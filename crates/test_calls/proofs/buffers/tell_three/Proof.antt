@@ -1,3 +1,4 @@
+-- `tell_three` meets its contract: three words, if the buffer has just three. Assumes nothing.
 use native.Mathlib.Omega.{arith}
 use lib.ListN.{length-set}
 use Rattle.test_calls.proofs.Told.{told-left, told-stored}

@@ -1,3 +1,4 @@
+-- `compile_head` meets its contract. Assumes nothing.
 use mathlib.Core.Path.{sym, ap}
 use Rattle.compiler.specs.declared.CompileAnswer.{CompileAnswer}
 use Rattle.compiler.specs.Left.{answer-of}

@@ -1,3 +1,5 @@
+-- `test_compile` meets its contract: `compiler::compile`, with the head as six numbers; the compiled task's head goes to a buffer of six words, all 0
+-- after a refusal. Assumes nothing.
 use Rattle.test_calls.proofs.TaskLeaves.{compile-leaves}
 use borrow.Author.Needs.{needs}
 use Rattle.test_calls.proofs.compiling.test_compile.Statement.{statement}

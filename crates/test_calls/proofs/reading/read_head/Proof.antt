@@ -1,3 +1,4 @@
+-- `read_head` meets its contract. Assumes nothing.
 use mathlib.Core.Path.{sym, ap}
 use Rattle.test_calls.specs.Reading.{read-head}
 use borrow.Author.Needs.{needs}

@@ -1,3 +1,4 @@
+-- `test_read` meets its contract: `task_file::read`; the head goes to a buffer of six words, all 0 after a refusal. Assumes nothing.
 use Rattle.test_calls.proofs.FilesLeave.{read-leaves}
 use borrow.Author.Needs.{needs}
 use Rattle.test_calls.proofs.reading.test_read.Statement.{statement}

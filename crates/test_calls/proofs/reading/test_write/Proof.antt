@@ -1,3 +1,5 @@
+-- `test_write` meets its contract: `task_writer::write`, with the head as six numbers: the file's length, or 65,536 and the number of the refusal.
+-- Assumes nothing.
 use Rattle.test_calls.proofs.FilesLeave.{write-leaves}
 use borrow.Author.Needs.{needs}
 use Rattle.test_calls.proofs.reading.test_write.Statement.{statement}

@@ -1,3 +1,4 @@
+-- `write_number` meets its contract. Assumes nothing.
 use mathlib.Core.Path.{sym, ap}
 use Rattle.test_calls.specs.Reading.{write-number}
 use borrow.Author.Needs.{needs}

@@ -1,3 +1,4 @@
+-- `test_run` meets its contract: `plan::run`, likewise; the result has six words. Assumes nothing.
 use Rattle.test_calls.proofs.RunsLeave.{run-leaves}
 use borrow.Author.Needs.{needs}
 use Rattle.test_calls.proofs.running.test_run.Statement.{statement}

@@ -1,3 +1,5 @@
+-- `test_step` meets its contract: `plan::step`, with the head as six numbers; its steps, cost and goal go to a result of three words. Assumes
+-- nothing.
 use Rattle.test_calls.proofs.RunsLeave.{step-leaves}
 use borrow.Author.Needs.{needs}
 use Rattle.test_calls.proofs.running.test_step.Statement.{statement}

@@ -1,3 +1,4 @@
+-- `test_row_length` meets its contract: the length of the part of a table that a row is. Assumes nothing.
 use mathlib.Core.Path.{ap}
 use lib.ListN.{length}
 use borrow.Author.Needs.{needs}

@@ -1,3 +1,4 @@
+-- `test_row_word` meets its contract: the word at a place of that part, 0 outside it. Assumes nothing.
 use Prim.Native.Nat.{ℕ}
 use mathlib.Core.Path.{ap, sym, _∙_}
 use mathlib.Core.List.{List}
