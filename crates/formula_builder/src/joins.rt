@@ -28,7 +28,7 @@ fn kind(or: bool) -> u16
     if or { 5 } else { 4 }
 }
 
-// The join of rows a and b, "and" or "or": the number of its row; or 65535 if there was no room. Costs what putting the row does.
+// The join of rows a and b, "and" or "or": the number of its row; or NO_ROOM. Costs what putting the row does.
 pub fn join(rows: &mut usize, table: &mut [u16], most: usize, or: bool, a: u16, b: u16) -> u16
     requires { ⌜ JoinReady most (now rows) (now table) a b ⌝ }
     ensures { λ k. ⌜ ((frame : Frame) (w : ℕ) (o : List ℕ) → frame .rows ≡ most → Ready frame (sized (now (rows .entry)) w) (store (now (table .entry)) o) → Builds (join-built (side or) a b) frame (sized (now (rows .entry)) w) (store (now (table .entry)) o) (store (now (table .exit)) o) (stepped (now (rows .exit)) w k)) ⌝ }

@@ -1,5 +1,5 @@
 // Building the formula table of a compiled task: a row or a twin is found in the tables that are lent, or appended. A step changes the counts of
-// rows and twins in place and answers the number of its row, or 65535 if there was no room; so do the steps built on these, of images and conditions.
+// rows and twins in place and answers the number of its row, or NO_ROOM; so do the steps built on these, of images and conditions.
 mod frames;
 mod index;
 mod joins;
@@ -22,6 +22,9 @@ pub use rows::read_row;
 pub use rows::row;
 pub use sizes::step_of;
 pub use twins::twin_row;
+
+// What a step answers instead of a row's number if there was no room.
+pub const NO_ROOM: u16 = 65535;
 
 // A row's three words.
 pub struct Words {

@@ -1,4 +1,5 @@
 // Rows of the formula table.
+use crate::NO_ROOM;
 use crate::Words;
 use crate::index::head_word;
 use crate::index::key;
@@ -104,7 +105,7 @@ pub fn first_rows(table: &mut [u16], most: usize)
     append_row(table, 1, t, q);
 }
 
-// The row with these words among n rows, with room for so many: its number, which is n if it was appended; or 65535 if there was no room.
+// The row with these words among n rows, with room for so many: its number, which is n if it was appended; or NO_ROOM.
 // Plain numbers alone, since structs are passed in memory. Costs what finding it does.
 pub fn put(table: &mut [u16], most: usize, n: usize, kind: u16, a: u16, b: u16) -> u16
     requires { ⌜ Searchable most (now table) × (n ≤ most) ⌝ }
@@ -121,7 +122,7 @@ pub fn put(table: &mut [u16], most: usize, n: usize, kind: u16, a: u16, b: u16) 
         return s - 1;
     }
     if n == most {
-        return 65535;
+        return NO_ROOM;
     }
     append_row(table, n, r, p);
     n as u16
@@ -138,7 +139,7 @@ fn rows_after(n: usize, k: u16) -> usize
     n
 }
 
-// The row with these words: its number, whether it stood or was appended; or 65535 if there was no room. So many rows stand. Costs what
+// The row with these words: its number, whether it stood or was appended; or NO_ROOM. So many rows stand. Costs what
 // putting it does.
 pub fn row(rows: &mut usize, table: &mut [u16], most: usize, kind: u16, a: u16, b: u16) -> u16
     requires { ⌜ RowsReady most (now rows) (now table) ⌝ }

@@ -1,4 +1,5 @@
 // Counts, as a step.
+use crate::NO_ROOM;
 use crate::Step;
 ghost use mathlib.Core.Path.{_≡_};
 ghost use Rattle.formula_builder.specs.Inner.Held.{stepped};
@@ -11,6 +12,6 @@ pub fn step_of(rows: usize, twins: usize, k: u16) -> Step
         rows: rows,
         twins: twins,
         row: k,
-        full: k == 65535,
+        full: k == NO_ROOM,
     }
 }

@@ -1,4 +1,5 @@
 // Twins, and their rows.
+use crate::NO_ROOM;
 use crate::frames::ROWS;
 use crate::frames::TWINS;
 use crate::frames::VARIABLES;
@@ -7,7 +8,7 @@ ghost use Prim.Native.Nat.{_<_};
 ghost use Rattle.normal_form.specs.Builder.{twin-row};
 ghost use Rattle.formula_builder.specs.Inner.Held.{store, sized, stepped, framed, Ready, Builds};
 
-// The row of v's twin, which gets the next variable number when first met; or 65535 if there was no room. Behind the rows' index a word for each
+// The row of v's twin, which gets the next variable number when first met; or NO_ROOM. Behind the rows' index a word for each
 // variable names its twin's row: a twin that stands is not searched for, and a new one costs what putting its row does.
 pub fn twin_row(
     rows: &mut usize,
@@ -27,11 +28,11 @@ pub fn twin_row(
     }
     let w = *twins;
     if w == frame[TWINS] {
-        return 65535;
+        return NO_ROOM;
     }
     let k = variable_row(rows, table, frame[ROWS], (frame[VARIABLES] + w) as u16);
-    if k == 65535 {
-        return 65535;
+    if k == NO_ROOM {
+        return NO_ROOM;
     }
     originals[w] = v;
     *twins = w + 1;
