@@ -7,23 +7,23 @@ use Rattle.task_file.specs.declared.ReadAnswer.{ReadAnswer}
 use Rattle.task_writer.specs.declared.WriteAnswer.{WriteAnswer}
 use Rattle.task_file.specs.Outcome.{ReadOutcome, read-left}
 use Rattle.task_writer.specs.Writing.{WriteOutcome, wrote}
-use Rattle.test_calls.specs.Buffers.{told, head-words}
-use Rattle.test_calls.specs.Reading.{read-number, read-head, write-number, ReadLeaves, WriteLeaves}
+use Rattle.test_calls.specs.Buffers.{told-words, head-words}
+use Rattle.test_calls.specs.Reading.{read-number, read-head, write-told, ReadTells, WriteTells}
 
 pub read-leaves :
     (w : ReadOutcome) (a : ReadAnswer) (h : Head) (r : ℕ) (before after i t f e o : List ℕ)
     → read-left a i t f e o ≡ w
     → h ≡ read-head a
-    → after ≡ told (head-words h) before
+    → after ≡ told-words (head-words h) before
     → r ≡ read-number a
-    → ReadLeaves w before r after i t f e o
+    → ReadTells w before r after i t f e o
 read-leaves w a h r before after i t f e o q p k n =
     record {
       number = n ∙ ap (λ (x : ReadOutcome). read-number (x .answer)) q;
       head-left =
           k
-          ∙ ap (λ (x : Head). told (head-words x) before) p
-          ∙ ap (λ (x : ReadOutcome). told (head-words (read-head (x .answer))) before) q;
+          ∙ ap (λ (x : Head). told-words (head-words x) before) p
+          ∙ ap (λ (x : ReadOutcome). told-words (head-words (read-head (x .answer))) before) q;
       initial-left = ap (λ (x : ReadOutcome). x .initial) q;
       twins-left = ap (λ (x : ReadOutcome). x .twins) q;
       formulas-left = ap (λ (x : ReadOutcome). x .formulas) q;
@@ -34,10 +34,10 @@ read-leaves w a h r before after i t f e o q p k n =
 pub write-leaves :
     (w : WriteOutcome) (a : WriteAnswer) (r : ℕ) (out : List ℕ)
     → wrote a out ≡ w
-    → r ≡ write-number a
-    → WriteLeaves w r out
+    → r ≡ write-told a
+    → WriteTells w r out
 write-leaves w a r out q n =
     record {
-      number = n ∙ ap (λ (x : WriteOutcome). write-number (x .answer)) q;
+      number = n ∙ ap (λ (x : WriteOutcome). write-told (x .answer)) q;
       out-left = ap (λ (x : WriteOutcome). x .out) q;
     }

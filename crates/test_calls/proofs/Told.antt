@@ -8,11 +8,11 @@ use lib.ListN.{length, drop, drop-of-length-le}
 use lib.Seq.{sets, sets-eq}
 use lib.Dec.{eqb}
 use borrow.Author.Tests.{eq-eqb, ne-eqb}
-use Rattle.test_calls.specs.Buffers.{told}
+use Rattle.test_calls.specs.Buffers.{told-words}
 
 -- as many words as the buffer has, stored one after the other, are told
-pub told-stored : (l words : List ℕ) → length l ≡ length words → sets l 0 words ≡ told words l
-unfolding told
+pub told-stored : (l words : List ℕ) → length l ≡ length words → sets l 0 words ≡ told-words words l
+unfolding told-words
 told-stored l words e =
     sets-eq words l 0 (omega (arith, e))
     ∙ ap (λ (r : List ℕ). words ++ r) (drop-of-length-le l {i = 0 + length words} (omega (arith, e)))
@@ -20,6 +20,6 @@ told-stored l words e =
     ∙ sym (ap (λ (b : Bool). cond b words l) (eq-eqb (length l) (length words) e))
 
 -- a buffer of another length is left
-pub told-left : (l words : List ℕ) → (length l ≡ length words → ⊥) → l ≡ told words l
-unfolding told
+pub told-left : (l words : List ℕ) → (length l ≡ length words → ⊥) → l ≡ told-words words l
+unfolding told-words
 told-left l words n = sym (ap (λ (b : Bool). cond b words l) (ne-eqb (length l) (length words) n))

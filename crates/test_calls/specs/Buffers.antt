@@ -7,12 +7,12 @@ use lib.Dec.{eqb}
 use Rattle.task.specs.declared.Head.{Head}
 
 -- the words, where the buffer has just their number; else what stood there
-unfoldable pub told : (words before : List ℕ) → List ℕ
-told words before = cond (eqb (length before) (length words)) words before
+unfoldable pub told-words : (words before : List ℕ) → List ℕ
+told-words words before = cond (eqb (length before) (length words)) words before
 
 -- a flag as a word
-abbrev pub flag : Bool → ℕ
-flag b = cond b 1 0
+abbrev pub flag-word : Bool → ℕ
+flag-word b = cond b 1 0
 
 -- V W F E O goal
 unfoldable pub head-words : Head → List ℕ

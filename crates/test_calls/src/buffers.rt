@@ -1,17 +1,17 @@
 // Words that an exported call tells through a lent buffer.
 ghost use mathlib.Core.Path.{_≡_};
 ghost use mathlib.Core.List.{[], _∷_};
-ghost use Rattle.test_calls.specs.Buffers.{told, flag, head-words};
+ghost use Rattle.test_calls.specs.Buffers.{told-words, flag-word, head-words};
 
 pub fn flag(b: bool) -> u64
-    ensures { λ r. ⌜ r ≡ flag b ⌝ }
+    ensures { λ r. ⌜ r ≡ flag-word b ⌝ }
 {
     if b { 1 } else { 0 }
 }
 
 // Three words, if the buffer has just three.
 pub fn tell_three(buffer: &mut [u64], first: u64, second: u64, third: u64)
-    ensures { λ _. ⌜ now (buffer .exit) ≡ told (first ∷ second ∷ third ∷ []) (now (buffer .entry)) ⌝ }
+    ensures { λ _. ⌜ now (buffer .exit) ≡ told-words (first ∷ second ∷ third ∷ []) (now (buffer .entry)) ⌝ }
 {
     if buffer.len() != 3 {
         return;
@@ -31,7 +31,7 @@ pub fn tell_six(
     fifth: u64,
     sixth: u64,
 )
-    ensures { λ _. ⌜ now (buffer .exit) ≡ told (first ∷ second ∷ third ∷ fourth ∷ fifth ∷ sixth ∷ []) (now (buffer .entry)) ⌝ }
+    ensures { λ _. ⌜ now (buffer .exit) ≡ told-words (first ∷ second ∷ third ∷ fourth ∷ fifth ∷ sixth ∷ []) (now (buffer .entry)) ⌝ }
 {
     if buffer.len() != 6 {
         return;
@@ -46,7 +46,7 @@ pub fn tell_six(
 
 // A head's six words, V W F E O goal, if the buffer has just six.
 pub fn tell_head(buffer: &mut [u16], head: task::Head)
-    ensures { λ _. ⌜ now (buffer .exit) ≡ told (head-words head) (now (buffer .entry)) ⌝ }
+    ensures { λ _. ⌜ now (buffer .exit) ≡ told-words (head-words head) (now (buffer .entry)) ⌝ }
 {
     if buffer.len() != 6 {
         return;

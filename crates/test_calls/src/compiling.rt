@@ -4,12 +4,12 @@ ghost use Rattle.task.specs.Table.{lent};
 ghost use Rattle.normal_form.specs.Compiled.{compiling};
 ghost use Rattle.compiler.specs.Left.{tables, room-of};
 ghost use Rattle.compiler.specs.Left.{answer-of};
-ghost use Rattle.test_calls.specs.Compiling.{compile-number, compile-head, CompileLeaves};
+ghost use Rattle.test_calls.specs.Compiling.{compile-told, compile-head, CompileTells};
 use compiler::CompileAnswer;
 use task::Head;
 
 fn compile_number(answer: CompileAnswer) -> u16
-    ensures { λ r. ⌜ r ≡ compile-number (answer-of answer) ⌝ }
+    ensures { λ r. ⌜ r ≡ compile-told (answer-of answer) ⌝ }
 {
     match answer {
         CompileAnswer::Compiled(_) => 0,
@@ -55,7 +55,7 @@ pub extern "C" fn test_compile(
     scratch: &mut [u16],
     head: &mut [u16],
 ) -> u16
-    ensures { λ r. ⌜ CompileLeaves (compiling (lent (record { variables = v; twins = w; formulas = f; effects = e; operators = o; goal = goal }) (now (initial .entry)) (now (twins .entry)) (now (formulas .entry)) (now (effects .entry)) (now (operators .entry))) (room-of (tables (now (values .entry)) (now (originals .entry)) (now (table .entry)) (now (out .entry)) (now (written .entry)) (now (scratch .entry))))) (now (head .entry)) r (now (head .exit)) (tables (now (values .exit)) (now (originals .exit)) (now (table .exit)) (now (out .exit)) (now (written .exit)) (now (scratch .exit))) ⌝ }
+    ensures { λ r. ⌜ CompileTells (compiling (lent (record { variables = v; twins = w; formulas = f; effects = e; operators = o; goal = goal }) (now (initial .entry)) (now (twins .entry)) (now (formulas .entry)) (now (effects .entry)) (now (operators .entry))) (room-of (tables (now (values .entry)) (now (originals .entry)) (now (table .entry)) (now (out .entry)) (now (written .entry)) (now (scratch .entry))))) (now (head .entry)) r (now (head .exit)) (tables (now (values .exit)) (now (originals .exit)) (now (table .exit)) (now (out .exit)) (now (written .exit)) (now (scratch .exit))) ⌝ }
 {
     let source = Head {
         variables: v,

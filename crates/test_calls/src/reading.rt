@@ -5,7 +5,7 @@ ghost use Rattle.task.specs.Table.{lent};
 ghost use Rattle.task_file.specs.Outcome.{lengths};
 ghost use Rattle.task_file.specs.Outcome.{read-outcome};
 ghost use Rattle.task_writer.specs.Writing.{write-outcome};
-ghost use Rattle.test_calls.specs.Reading.{read-number, read-head, write-number, ReadLeaves, WriteLeaves};
+ghost use Rattle.test_calls.specs.Reading.{read-number, read-head, write-told, ReadTells, WriteTells};
 use task::Head;
 use task_file::ReadAnswer;
 use task_writer::WriteAnswer;
@@ -36,7 +36,7 @@ fn read_head(answer: ReadAnswer) -> Head
 }
 
 fn write_number(answer: WriteAnswer) -> usize
-    ensures { λ r. ⌜ r ≡ write-number answer ⌝ }
+    ensures { λ r. ⌜ r ≡ write-told answer ⌝ }
 {
     match answer {
         WriteAnswer::Written(size) => size,
@@ -55,7 +55,7 @@ pub extern "C" fn test_read(
     effects: &mut [u16],
     operators: &mut [u16],
 ) -> u16
-    ensures { λ r. ⌜ ReadLeaves (read-outcome (lengths (length (now (initial .entry))) (length (now (twins .entry))) (length (now (formulas .entry))) (length (now (effects .entry))) (length (now (operators .entry)))) (now (file .entry))) (now (head .entry)) r (now (head .exit)) (now (initial .exit)) (now (twins .exit)) (now (formulas .exit)) (now (effects .exit)) (now (operators .exit)) ⌝ }
+    ensures { λ r. ⌜ ReadTells (read-outcome (lengths (length (now (initial .entry))) (length (now (twins .entry))) (length (now (formulas .entry))) (length (now (effects .entry))) (length (now (operators .entry)))) (now (file .entry))) (now (head .entry)) r (now (head .exit)) (now (initial .exit)) (now (twins .exit)) (now (formulas .exit)) (now (effects .exit)) (now (operators .exit)) ⌝ }
 {
     let answer = task_file::read::read(file, initial, twins, formulas, effects, operators);
     crate::buffers::tell_head(head, read_head(answer));
@@ -78,7 +78,7 @@ pub extern "C" fn test_write(
     operators: &[u16],
     out: &mut [u8],
 ) -> usize
-    ensures { λ r. ⌜ WriteLeaves (write-outcome (lent (record { variables = v; twins = w; formulas = f; effects = e; operators = o; goal = goal }) (now (initial .entry)) (now (twins .entry)) (now (formulas .entry)) (now (effects .entry)) (now (operators .entry))) (length (now (out .entry)))) r (now (out .exit)) ⌝ }
+    ensures { λ r. ⌜ WriteTells (write-outcome (lent (record { variables = v; twins = w; formulas = f; effects = e; operators = o; goal = goal }) (now (initial .entry)) (now (twins .entry)) (now (formulas .entry)) (now (effects .entry)) (now (operators .entry))) (length (now (out .entry)))) r (now (out .exit)) ⌝ }
 {
     let head = Head {
         variables: v,

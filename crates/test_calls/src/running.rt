@@ -2,7 +2,7 @@
 ghost use mathlib.Core.Path.{_≡_};
 ghost use Rattle.task.specs.Table.{lent};
 ghost use Rattle.plan.specs.Outcome.{stepped, ran};
-ghost use Rattle.test_calls.specs.Running.{refusal-of, stop-number, stop-step, ended-goal, StepLeaves, RunLeaves};
+ghost use Rattle.test_calls.specs.Running.{refusal-of, stop-told, stop-step, ended-goal, StepTells, RunTells};
 use plan::End;
 
 fn wide(x: u32) -> u64
@@ -28,7 +28,7 @@ fn refusal_of(end: End) -> u16
 }
 
 fn stop_number(end: End) -> u64
-    ensures { λ r. ⌜ r ≡ stop-number end ⌝ }
+    ensures { λ r. ⌜ r ≡ stop-told end ⌝ }
 {
     match end {
         End::Ended(_) => 0,
@@ -76,7 +76,7 @@ pub extern "C" fn test_step(
     scratch: &mut [u8],
     result: &mut [u64],
 ) -> u16
-    ensures { λ r. ⌜ StepLeaves (stepped (lent (record { variables = v; twins = w; formulas = f; effects = e; operators = o; goal = goal }) (now (initial .entry)) (now (twins .entry)) (now (formulas .entry)) (now (effects .entry)) (now (operators .entry))) (now (state .entry)) number (now (scratch .entry))) (now (result .entry)) r (now (state .exit)) (now (scratch .exit)) (now (result .exit)) ⌝ }
+    ensures { λ r. ⌜ StepTells (stepped (lent (record { variables = v; twins = w; formulas = f; effects = e; operators = o; goal = goal }) (now (initial .entry)) (now (twins .entry)) (now (formulas .entry)) (now (effects .entry)) (now (operators .entry))) (now (state .entry)) number (now (scratch .entry))) (now (result .entry)) r (now (state .exit)) (now (scratch .exit)) (now (result .exit)) ⌝ }
 {
     let head = task::Head {
         variables: v,
@@ -125,7 +125,7 @@ pub extern "C" fn test_run(
     scratch: &mut [u8],
     result: &mut [u64],
 ) -> u16
-    ensures { λ r. ⌜ RunLeaves (ran (lent (record { variables = v; twins = w; formulas = f; effects = e; operators = o; goal = goal }) (now (initial .entry)) (now (twins .entry)) (now (formulas .entry)) (now (effects .entry)) (now (operators .entry))) (now (state .entry)) (now (sequence .entry)) (now (scratch .entry))) (now (result .entry)) r (now (state .exit)) (now (scratch .exit)) (now (result .exit)) ⌝ }
+    ensures { λ r. ⌜ RunTells (ran (lent (record { variables = v; twins = w; formulas = f; effects = e; operators = o; goal = goal }) (now (initial .entry)) (now (twins .entry)) (now (formulas .entry)) (now (effects .entry)) (now (operators .entry))) (now (state .entry)) (now (sequence .entry)) (now (scratch .entry))) (now (result .entry)) r (now (state .exit)) (now (scratch .exit)) (now (result .exit)) ⌝ }
 {
     let head = task::Head {
         variables: v,

@@ -1,6 +1,6 @@
 -- `write_number` meets its contract. Assumes nothing.
 use mathlib.Core.Path.{sym, ap}
-use Rattle.test_calls.specs.Reading.{write-number}
+use Rattle.test_calls.specs.Reading.{write-told}
 use borrow.Author.Needs.{needs}
 use Rattle.test_calls.proofs.reading.write_number.Statement.{statement}
 use Rattle.test_calls.proofs.reading.write_number.Tie as tie
@@ -29,7 +29,7 @@ returns c = search needs
 
 -- src/reading.rt:38:1
 returns-2 : tie.Need-returns-2
-returns-2 c = sym (ap write-number (c .before .answer2 .given .1))
+returns-2 c = sym (ap write-told (c .before .answer2 .given .1))
 
 pub write-number-spec : {M : Type 1} → statement M
 write-number-spec =
