@@ -153,19 +153,23 @@ fn all() -> Vec<(&'static str, Task)> {
     all
 }
 
-/// Seconds of both sides, which must compile the task to the same tables.
+/// Seconds of both sides, which must compile the task to the same tables, and
+/// the formula and effect rows of those.
 struct Times {
     library: f64,
     other: f64,
+    rows: [u16; 2],
 }
 
 impl Times {
     fn of(task: &Task) -> Times {
         let mut pair = Pair::new(task);
         pair.check();
+        let [_, _, f, e, _, _] = pair.head;
         Times {
             library: seconds(task),
             other: pair.seconds(Form::Kept),
+            rows: [f, e],
         }
     }
 
@@ -181,16 +185,17 @@ impl Times {
 
 /// One line for each task if asked, and one for the slowest.
 pub fn print(each: bool) {
-    let timed = all().into_iter().map(|(name, task)| {
+    let mut timed = Vec::new();
+    for (name, task) in all() {
         let times = Times::of(&task);
         if each {
-            times.print(&format!("hostile, {name}"), "");
+            let [f, e] = times.rows;
+            times.print(&format!("{name}, to {f} + {e}"), "");
         }
-        (name, times)
-    });
-    let timed: Vec<_> = timed.collect();
-    let slower = |one: &&(_, Times), other: &&(_, Times)| one.1.library.total_cmp(&other.1.library);
-    let (name, times) = timed.iter().max_by(slower).expect("some tasks");
+        timed.push((name, times));
+    }
+    timed.sort_by(|(_, one), (_, other)| one.library.total_cmp(&other.library));
+    let (name, times) = timed.last().expect("some tasks");
     times.print(
         &format!("the slowest of {} hostile files", timed.len()),
         name,
