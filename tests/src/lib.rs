@@ -23,6 +23,7 @@ pub mod lent;
 pub mod print;
 pub mod random;
 pub mod semantics;
+pub mod shared_core;
 pub mod shrink;
 pub mod stack;
 pub mod stored;

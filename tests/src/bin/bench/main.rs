@@ -1,6 +1,7 @@
 //! Compares the library's times with those of the other implementation in
 //! its quickest form: one table, ratios of medians. The first argument picks
-//! one group: files, runs, compiling or program. Beside the table:
+//! one group: files, runs, compiling, program or hostile, of which the table
+//! has the slowest file alone. Beside the table:
 //! `worst [FAMILY]` has the files made to be slow, `nets` nets and chains of
 //! effect rows at many counts, `search [SEED [SECONDS]]` looks for more,
 //! `counts` makes each call of the table once, for callgrind.
@@ -60,6 +61,10 @@ fn table(report: Report, group: Option<&str>) -> std::io::Result<()> {
     }
     if asked("program") {
         program::compare(report)?;
+    }
+    #[cfg(feature = "compiling")]
+    if asked("hostile") && report == Report::Times {
+        worst::hostile::print(group.is_some());
     }
     Ok(())
 }

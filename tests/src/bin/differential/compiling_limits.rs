@@ -95,8 +95,6 @@ fn at_the_limits(trial: &mut Trial) -> Verdict {
     Ok(())
 }
 
-/// Effect rows so many that their count passes 16 bits; wrapped, it would
-/// keep the limit again.
 /// Counts around those up to which compiling has small tables of its own, of
 /// the source and of what is built; each with all lent, and exactly enough.
 fn where_small_tables_end(trial: &mut Trial) -> Verdict {
@@ -134,6 +132,8 @@ fn where_small_tables_end(trial: &mut Trial) -> Verdict {
     Ok(())
 }
 
+/// Effect rows so many that their count passes 16 bits; wrapped, it would
+/// keep the limit again.
 fn far_past_the_limits(trial: &mut Trial) -> Verdict {
     let counts = [65_536, 65_537, 69_632];
     let mut tasks = counts.map(effect_rows).to_vec();

@@ -28,6 +28,8 @@ mod file_order;
 mod reading;
 #[cfg(feature = "running")]
 mod running;
+#[cfg(feature = "compiling")]
+mod shared_cores;
 #[cfg(feature = "running")]
 mod stepping;
 #[cfg(feature = "reading")]
@@ -58,6 +60,7 @@ fn main() {
         tests.extend(compiling::tests());
         tests.extend(compiling_limits::tests());
         tests.extend(deep_rows::tests());
+        tests.extend(shared_cores::tests());
     }
     #[cfg(all(feature = "running", feature = "compiling"))]
     tests.extend(demand_3::tests());

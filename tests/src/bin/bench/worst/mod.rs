@@ -3,6 +3,7 @@
 
 mod alike;
 pub mod families;
+pub mod hostile;
 pub mod nets;
 pub mod search;
 
