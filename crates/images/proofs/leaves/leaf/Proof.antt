@@ -9,7 +9,7 @@ use Rattle.formula_builder.proofs.twin_row.Reads as twin-row-reads
 use mathlib.Core.Path.{refl}
 use Rattle.normal_form.specs.Builder.{plain, negated}
 use Rattle.formula_builder.proofs.Steps.{builds-as}
-use Rattle.images.proofs.Rising.{leaf-twin, leaf-copied, leaf-constant}
+use Rattle.images.proofs.Leaf.{leaf-twin, leaf-copied, leaf-constant}
 use Rattle.formula_builder.specs.Inner.Held.{framed}
 
 twin-row-requires : tie.Need-twin-row-requires
