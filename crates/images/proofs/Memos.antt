@@ -93,7 +93,7 @@ pub place-within :
 place-within frame plain i h = omega arith
 place-within frame negated i h = omega arith
 
-pub memo-noted :
+memo-noted :
     (frame : Frame) (formulas scratch : List ℕ) (s : St) (p : Polarity) (i r : ℕ)
     → i < frame .formulas
     → 2 * frame .formulas ≤ length scratch
@@ -161,7 +161,7 @@ pub images-leaf :
 images-leaf steady memo b =
     record { builds = b; memo = λ e. memo-grows (done-grows steady (b .done e)) memo; rest = λ j h. refl }
 
-pub images-bind :
+images-bind :
     {m : Build ℕ} {frame : Frame} {formulas : List ℕ} {at : Size} {before mid after : Store} {s1 s2 s3 : List ℕ} {l r : Step}
     (f : ℕ → Build ℕ)
     → Images m frame formulas at before mid s1 s2 l
@@ -175,7 +175,7 @@ images-bind f x e y =
       rest = λ j h. y .rest j h ∙ x .rest j h;
     }
 
-pub images-stop :
+images-stop :
     {m : Build ℕ} {frame : Frame} {formulas : List ℕ} {at : Size} {before after : Store} {s1 s2 : List ℕ} {l : Step}
     (f : ℕ → Build ℕ)
     → ((x : ℕ) → Steady (f x))

@@ -7,7 +7,6 @@ use formula_builder::NO_ROOM;
 use formula_builder::ROWS;
 use formula_builder::join;
 use formula_builder::read_row;
-ghost use mathlib.Core.Bool.{Bool};
 ghost use Rattle.normal_form.specs.Builder.{plain, negated};
 ghost use Rattle.formula_builder.specs.Inner.Held.{store, side, sized, stepped, framed};
 ghost use Rattle.images.specs.Inner.Images.{image-at, pair-at, equivalent-at, Asks, AsksPair, Images};

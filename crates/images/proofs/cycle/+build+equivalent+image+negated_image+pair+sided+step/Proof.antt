@@ -1,4 +1,5 @@
 -- The two memoised functions and what they share meet their contracts: the row number falls from each row to its operands. Assumes nothing.
+-- In the answers `start` is the entry, `read` where the row was read, `left`, `right`, `made` and `end` where a row was built, `one` to `three` the tests.
 use Prim.Native.Nat.{ℕ, _<_}
 use borrow.Fn.Kinds.{In}
 use borrow.Fn.PlainCycle.{Measures, is, falls, and}
@@ -31,7 +32,7 @@ use Rattle.images.proofs.cycle.+build+equivalent+image+negated_image+pa
 use Rattle.images.proofs.cycle.+build+equivalent+image+negated_image+pair+sided+step.Tie.{close}
 use borrow.Author.Needs.{needs}
 use borrow.Author.Tests.{eq-eqb, ne-eqb}
-use Prim.Native.Nat.{_+_, _*_, _≤_}
+use Prim.Native.Nat.{_+_, _*_}
 use native.Mathlib.Omega.{arith}
 use mathlib.Core.Path.{refl}
 use Rattle.normal_form.specs.Builder.{plain, negated}
@@ -103,285 +104,225 @@ step-at t = and 7 step-kinds.ps (is 7 step-kinds.ps μ-step t) step.Pre
 abbrev step-below : ℕ → In 7 step-kinds.ps
 step-below t = and 7 step-kinds.ps (falls 7 step-kinds.ps _<_ μ-step t) step.Pre
 
-build-step-requires : (t : ℕ) → build-lts.Need-step-requires (step-below t, step.Post, word-of-reads.Asked, word-of-reads.Learnt) (build-at t) build.Post
-build-step-requires t c κs =
-    let s = c .before .before .before .before .before .before .before .before .before in
-    (omega (arith, s .pre .0), s .pre .1)
-
-build-returns : (t : ℕ) → build-lts.Need-returns (step-below t, step.Post, word-of-reads.Asked, word-of-reads.Learnt) (build-at t) build.Post
-build-returns t c =
-    let r = c .before .before .before .before .before .before .before in
-    r .step .ensures
-
-build-word-of-requires : (t : ℕ) → build-lts.Need-word-of-requires (step-below t, step.Post, word-of-reads.Asked, word-of-reads.Learnt) (build-at t) build.Post
-build-word-of-requires t c κs =
-    let s = c .before .before .before .before .before .before .before .before .before .before .before .before .before .before .before .before .before in
-    (s .pre .1 .formula, s .pre .1 .source .limit)
-
 build-mul-scratch : (t : ℕ) → build-lts.Need-mul-scratch (step-below t, step.Post, word-of-reads.Asked, word-of-reads.Learnt) (build-at t) build.Post
 build-mul-scratch t c =
-    let s = c .before .before .before .before .before .before .before .before .before .before .before .before .before .before .before .before .before .before in
-    omega (arith, c .word-of .ensures, place-within (framed (s .args .frame .now)) (side (s .args .not)) (s .args .i) (s .pre .1 .formula), s .pre .1 .source .limit)
+    let start = c .before .before .before .before .before .before .before .before .before .before .before .before .before .before .before .before .before .before in
+    omega (arith, c .word-of .ensures, place-within (framed (start .args .frame .now)) (side (start .args .not)) (start .args .i) (start .pre .1 .formula), start .pre .1 .source .limit)
 
 build-slice-write-scratch : (t : ℕ) → build-lts.Need-slice-write-scratch (step-below t, step.Post, word-of-reads.Asked, word-of-reads.Learnt) (build-at t) build.Post
 build-slice-write-scratch t c =
-    let r = c .before .before .before .before .before .before .before .before in
-    let s = r .before .before .before .before .before .before .before .before .before .before in
-    omega (arith, c .word-of .ensures, place-within (framed (s .args .frame .now)) (side (s .args .not)) (s .args .i) (s .pre .1 .formula), s .pre .1 .source .memo, r .step .kept .1 .1 .1 .1 .1 .1 .1 .1 .0)
+    let made = c .before .before .before .before .before .before .before .before in
+    let start = made .before .before .before .before .before .before .before .before .before .before in
+    omega (arith, c .word-of .ensures, place-within (framed (start .args .frame .now)) (side (start .args .not)) (start .args .i) (start .pre .1 .formula), start .pre .1 .source .memo, made .step .kept .1 .1 .1 .1 .1 .1 .1 .1 .0)
 
 build-returns-2 : (t : ℕ) → build-lts.Need-returns-2 (step-below t, step.Post, word-of-reads.Asked, word-of-reads.Learnt) (build-at t) build.Post
 build-returns-2 t c =
-    let r = c .before .before .before .before .before .before .before .before in
-    let s = r .before .before .before .before .before .before .before .before .before .before in
+    let made = c .before .before .before .before .before .before .before .before in
+    let start = made .before .before .before .before .before .before .before .before .before .before in
     rw (c .word-of .ensures)
-    (images-noted (side (s .args .not)) (s .pre .1 .formula) (omega (arith, s .pre .1 .source .memo, r .step .kept .1 .1 .1 .1 .1 .1 .1 .1 .0)) (r .step .ensures)
+    (images-noted (side (start .args .not)) (start .pre .1 .formula) (omega (arith, start .pre .1 .source .memo, made .step .kept .1 .1 .1 .1 .1 .1 .1 .1 .0)) (made .step .ensures)
     (ne-eqb _ 65535 (c .before .if1 .left)))
-
-equivalent-pair-requires : (t : ℕ) → equivalent-lts.Need-pair-requires (pair-below t, pair.Post, join-reads.Asked, join-reads.Learnt) (equivalent-at t) equivalent.Post
-equivalent-pair-requires t c κs =
-    let s = c .before .before .before .before .before .before .before .before .before in
-    (omega (arith, s .pre .0), s .pre .1)
 
 equivalent-returns : (t : ℕ) → equivalent-lts.Need-returns (pair-below t, pair.Post, join-reads.Asked, join-reads.Learnt) (equivalent-at t) equivalent.Post
 equivalent-returns t c =
-    let l = c .before .before .before .before .before .before .before in
-    let s = l .before .before .before .before .before .before .before .before .before .before in
-    left-full (equivalent-joins (framed (s .args .frame .now)) (s .args .formulas .now) (s .args .i) (s .args .not)) (l .pair .ensures) (eq-eqb _ 65535 (c .if1 .taken))
+    let left = c .before .before .before .before .before .before .before in
+    let start = left .before .before .before .before .before .before .before .before .before .before in
+    left-full (equivalent-joins (framed (start .args .frame .now)) (start .args .formulas .now) (start .args .i) (start .args .not)) (left .pair .ensures) (eq-eqb _ 65535 (c .if1 .taken))
 
 equivalent-pair-requires-2 : (t : ℕ) → equivalent-lts.Need-pair-requires-2 (pair-below t, pair.Post, join-reads.Asked, join-reads.Learnt) (equivalent-at t) equivalent.Post
 equivalent-pair-requires-2 t c κs =
-    let i = c .before .before .before .before .before in
-    let l = i .before .before .before .before .before .before .before in
-    let s = l .before .before .before .before .before .before .before .before .before .before in (
-      omega (arith, s .pre .0),
-      asks-second (s .pre .1) (l .pair .ensures) (ne-eqb _ 65535 (i .if1 .left)) (l .pair .kept .1 .1 .1 .1 .1 .1 .1 .1 .1 .1 .0),
+    let one = c .before .before .before .before .before in
+    let left = one .before .before .before .before .before .before .before in
+    let start = left .before .before .before .before .before .before .before .before .before .before in (
+      omega (arith, start .pre .0),
+      asks-second (start .pre .1) (left .pair .ensures) (ne-eqb _ 65535 (one .if1 .left)) (left .pair .kept .1 .1 .1 .1 .1 .1 .1 .1 .1 .1 .0),
     )
 
 equivalent-returns-2 : (t : ℕ) → equivalent-lts.Need-returns-2 (pair-below t, pair.Post, join-reads.Asked, join-reads.Learnt) (equivalent-at t) equivalent.Post
 equivalent-returns-2 t c =
-    let r = c .before .before .before .before .before .before .before in
-    let i = r .before .before .before .before .before .before in
-    let l = i .before .before .before .before .before .before .before in
-    let s = l .before .before .before .before .before .before .before .before .before .before in
-    right-full (equivalent-joins (framed (s .args .frame .now)) (s .args .formulas .now) (s .args .i) (s .args .not)) (l .pair .ensures) (ne-eqb _ 65535 (i .if1 .left))
-    (r .pair2 .ensures) (eq-eqb _ 65535 (c .if2 .taken))
+    let right = c .before .before .before .before .before .before .before in
+    let one = right .before .before .before .before .before .before in
+    let left = one .before .before .before .before .before .before .before in
+    let start = left .before .before .before .before .before .before .before .before .before .before in
+    right-full (equivalent-joins (framed (start .args .frame .now)) (start .args .formulas .now) (start .args .i) (start .args .not)) (left .pair .ensures) (ne-eqb _ 65535 (one .if1 .left))
+    (right .pair2 .ensures) (eq-eqb _ 65535 (c .if2 .taken))
 
 equivalent-join-requires : (t : ℕ) → equivalent-lts.Need-join-requires (pair-below t, pair.Post, join-reads.Asked, join-reads.Learnt) (equivalent-at t) equivalent.Post
 equivalent-join-requires t c κs =
-    let k = c .before .before .before in
-    let r = k .before .before .before .before .before .before .before in
-    let i = r .before .before .before .before .before .before in
-    let l = i .before .before .before .before .before .before .before in
-    join-asks (l .pair .ensures .builds) (ne-eqb _ 65535 (i .if1 .left))
-    (r .pair2 .ensures .builds) (ne-eqb _ 65535 (k .if2 .left))
+    let two = c .before .before .before in
+    let right = two .before .before .before .before .before .before .before in
+    let one = right .before .before .before .before .before .before in
+    let left = one .before .before .before .before .before .before .before in
+    join-asks (left .pair .ensures .builds) (ne-eqb _ 65535 (one .if1 .left))
+    (right .pair2 .ensures .builds) (ne-eqb _ 65535 (two .if2 .left))
 
 equivalent-returns-3 : (t : ℕ) → equivalent-lts.Need-returns-3 (pair-below t, pair.Post, join-reads.Asked, join-reads.Learnt) (equivalent-at t) equivalent.Post
 equivalent-returns-3 t c =
-    let j = c .before .before in
-    let k = j .before .before .before .before in
-    let r = k .before .before .before .before .before .before .before in
-    let i = r .before .before .before .before .before .before in
-    let l = i .before .before .before .before .before .before .before in
-    let s = l .before .before .before .before .before .before .before .before .before .before in
-    let x = l .pair .ensures in
-    let y = r .pair2 .ensures in
-    let e = ne-eqb _ 65535 (k .if2 .left) in
-    joined (equivalent-joins (framed (s .args .frame .now)) (s .args .formulas .now) (s .args .i) (s .args .not)) x (ne-eqb _ 65535 (i .if1 .left)) y e (j .join .ensures _ _ _ refl (y .builds .done e .ready))
+    let end = c .before .before in
+    let two = end .before .before .before .before in
+    let right = two .before .before .before .before .before .before .before in
+    let one = right .before .before .before .before .before .before in
+    let left = one .before .before .before .before .before .before .before in
+    let start = left .before .before .before .before .before .before .before .before .before .before in
+    let x = left .pair .ensures in
+    let y = right .pair2 .ensures in
+    let e = ne-eqb _ 65535 (two .if2 .left) in
+    joined (equivalent-joins (framed (start .args .frame .now)) (start .args .formulas .now) (start .args .i) (start .args .not)) x (ne-eqb _ 65535 (one .if1 .left)) y e (end .join .ensures _ _ _ refl (y .builds .done e .ready))
 
 image-returns : (t : ℕ) → image-lts.Need-returns (build-below t, build.Post) (image-at t) image.Post
 image-returns t c =
-    let s = c .before .before .before .before .before .before in
-    images-known plain (s .pre .1) (c .if1 .taken)
-
-image-build-requires : (t : ℕ) → image-lts.Need-build-requires (build-below t, build.Post) (image-at t) image.Post
-image-build-requires t c κs =
-    let s = c .before .before .before .before .before .before .before .before .before .before .before in
-    (omega (arith, s .pre .0), s .pre .1)
-
-image-returns-2 : (t : ℕ) → image-lts.Need-returns-2 (build-below t, build.Post) (image-at t) image.Post
-image-returns-2 t c =
-    let r = c .before .before .before .before .before .before in
-    r .build .ensures
+    let start = c .before .before .before .before .before .before in
+    images-known plain (start .pre .1) (c .if1 .taken)
 
 negated-image-returns : (t : ℕ) → negated-image-lts.Need-returns (build-below t, build.Post) (negated-image-at t) negated-image.Post
 negated-image-returns t c =
-    let s = c .before .before .before .before .before .before .before in
-    images-known negated (s .pre .1) (c .if1 .taken)
-
-negated-image-build-requires : (t : ℕ) → negated-image-lts.Need-build-requires (build-below t, build.Post) (negated-image-at t) negated-image.Post
-negated-image-build-requires t c κs =
-    let s = c .before .before .before .before .before .before .before .before .before .before .before .before in
-    (omega (arith, s .pre .0), s .pre .1)
-
-negated-image-returns-2 : (t : ℕ) → negated-image-lts.Need-returns-2 (build-below t, build.Post) (negated-image-at t) negated-image.Post
-negated-image-returns-2 t c =
-    let r = c .before .before .before .before .before .before in
-    r .build .ensures
-
-pair-read-row-requires : (t : ℕ) → pair-lts.Need-read-row-requires (read-row-reads.Asked, read-row-reads.Learnt, sided-below t, sided.Post, join-reads.Asked, join-reads.Learnt) (pair-at t) pair.Post
-pair-read-row-requires t c κs =
-    let s = c .before .before .before .before in
-    omega (arith, s .pre .1 .asks .source .words, s .pre .1 .asks .formula)
+    let start = c .before .before .before .before .before .before .before in
+    images-known negated (start .pre .1) (c .if1 .taken)
 
 pair-sided-requires : (t : ℕ) → pair-lts.Need-sided-requires (read-row-reads.Asked, read-row-reads.Learnt, sided-below t, sided.Post, join-reads.Asked, join-reads.Learnt) (pair-at t) pair.Post
 pair-sided-requires t c κs =
-    let w = c .before .before .before .before .before .before in
-    let s = w .before .before .before .before .before in
-    (omega (arith, s .pre .0, left-lower (s .pre .1) (w .read-row .result) (w .read-row .ensures)), asks-left (s .pre .1) (w .read-row .result) (w .read-row .ensures))
+    let read = c .before .before .before .before .before .before in
+    let start = read .before .before .before .before .before in
+    (omega (arith, start .pre .0, left-lower (start .pre .1) (read .read-row .result) (read .read-row .ensures)), asks-left (start .pre .1) (read .read-row .result) (read .read-row .ensures))
 
 pair-returns : (t : ℕ) → pair-lts.Need-returns (read-row-reads.Asked, read-row-reads.Learnt, sided-below t, sided.Post, join-reads.Asked, join-reads.Learnt) (pair-at t) pair.Post
 pair-returns t c =
-    let l = c .before .before .before .before .before .before .before in
-    let w = l .before .before .before .before .before .before .before in
-    let s = w .before .before .before .before .before in
-    left-full (pair-joins (s .pre .1) (w .read-row .result) (w .read-row .ensures) (s .args .left) (s .args .right) (s .args .or)) (l .sided .ensures) (eq-eqb _ 65535 (c .if1 .taken))
+    let left = c .before .before .before .before .before .before .before in
+    let read = left .before .before .before .before .before .before .before in
+    let start = read .before .before .before .before .before in
+    left-full (pair-joins (start .pre .1) (read .read-row .result) (read .read-row .ensures) (start .args .left) (start .args .right) (start .args .or)) (left .sided .ensures) (eq-eqb _ 65535 (c .if1 .taken))
 
 pair-sided-requires-2 : (t : ℕ) → pair-lts.Need-sided-requires-2 (read-row-reads.Asked, read-row-reads.Learnt, sided-below t, sided.Post, join-reads.Asked, join-reads.Learnt) (pair-at t) pair.Post
 pair-sided-requires-2 t c κs =
-    let i = c .before .before .before .before .before .before in
-    let l = i .before .before .before .before .before .before .before in
-    let w = l .before .before .before .before .before .before .before in
-    let s = w .before .before .before .before .before in (
-      omega (arith, s .pre .0, right-lower (s .pre .1) (w .read-row .result) (w .read-row .ensures)),
-      asks-right (s .pre .1) (w .read-row .result) (w .read-row .ensures) (l .sided .ensures) (ne-eqb _ 65535 (i .if1 .left)) (l .sided .kept .1 .1 .1 .1 .1 .1 .1 .1 .0),
+    let one = c .before .before .before .before .before .before in
+    let left = one .before .before .before .before .before .before .before in
+    let read = left .before .before .before .before .before .before .before in
+    let start = read .before .before .before .before .before in (
+      omega (arith, start .pre .0, right-lower (start .pre .1) (read .read-row .result) (read .read-row .ensures)),
+      asks-right (start .pre .1) (read .read-row .result) (read .read-row .ensures) (left .sided .ensures) (ne-eqb _ 65535 (one .if1 .left)) (left .sided .kept .1 .1 .1 .1 .1 .1 .1 .1 .0),
     )
 
 pair-returns-2 : (t : ℕ) → pair-lts.Need-returns-2 (read-row-reads.Asked, read-row-reads.Learnt, sided-below t, sided.Post, join-reads.Asked, join-reads.Learnt) (pair-at t) pair.Post
 pair-returns-2 t c =
-    let r = c .before .before .before .before .before .before .before in
-    let i = r .before .before .before .before .before .before .before in
-    let l = i .before .before .before .before .before .before .before in
-    let w = l .before .before .before .before .before .before .before in
-    let s = w .before .before .before .before .before in
-    right-full (pair-joins (s .pre .1) (w .read-row .result) (w .read-row .ensures) (s .args .left) (s .args .right) (s .args .or)) (l .sided .ensures) (ne-eqb _ 65535 (i .if1 .left))
-    (r .sided2 .ensures) (eq-eqb _ 65535 (c .if2 .taken))
+    let right = c .before .before .before .before .before .before .before in
+    let one = right .before .before .before .before .before .before .before in
+    let left = one .before .before .before .before .before .before .before in
+    let read = left .before .before .before .before .before .before .before in
+    let start = read .before .before .before .before .before in
+    right-full (pair-joins (start .pre .1) (read .read-row .result) (read .read-row .ensures) (start .args .left) (start .args .right) (start .args .or)) (left .sided .ensures) (ne-eqb _ 65535 (one .if1 .left))
+    (right .sided2 .ensures) (eq-eqb _ 65535 (c .if2 .taken))
 
 pair-join-requires : (t : ℕ) → pair-lts.Need-join-requires (read-row-reads.Asked, read-row-reads.Learnt, sided-below t, sided.Post, join-reads.Asked, join-reads.Learnt) (pair-at t) pair.Post
 pair-join-requires t c κs =
-    let k = c .before .before .before in
-    let r = k .before .before .before .before .before .before .before in
-    let i = r .before .before .before .before .before .before .before in
-    let l = i .before .before .before .before .before .before .before in
-    join-asks (l .sided .ensures .builds) (ne-eqb _ 65535 (i .if1 .left))
-    (r .sided2 .ensures .builds) (ne-eqb _ 65535 (k .if2 .left))
+    let two = c .before .before .before in
+    let right = two .before .before .before .before .before .before .before in
+    let one = right .before .before .before .before .before .before .before in
+    let left = one .before .before .before .before .before .before .before in
+    join-asks (left .sided .ensures .builds) (ne-eqb _ 65535 (one .if1 .left))
+    (right .sided2 .ensures .builds) (ne-eqb _ 65535 (two .if2 .left))
 
 pair-returns-3 : (t : ℕ) → pair-lts.Need-returns-3 (read-row-reads.Asked, read-row-reads.Learnt, sided-below t, sided.Post, join-reads.Asked, join-reads.Learnt) (pair-at t) pair.Post
 pair-returns-3 t c =
-    let j = c .before .before in
-    let k = j .before .before .before .before in
-    let r = k .before .before .before .before .before .before .before in
-    let i = r .before .before .before .before .before .before .before in
-    let l = i .before .before .before .before .before .before .before in
-    let w = l .before .before .before .before .before .before .before in
-    let s = w .before .before .before .before .before in
-    let x = l .sided .ensures in
-    let y = r .sided2 .ensures in
-    let e = ne-eqb _ 65535 (k .if2 .left) in
-    joined (pair-joins (s .pre .1) (w .read-row .result) (w .read-row .ensures) (s .args .left) (s .args .right) (s .args .or)) x (ne-eqb _ 65535 (i .if1 .left)) y e (j .join .ensures _ _ _ refl (y .builds .done e .ready))
-
-sided-negated-image-requires : (t : ℕ) → sided-lts.Need-negated-image-requires (negated-image-below t, negated-image.Post, image-below t, image.Post) (sided-at t) sided.Post
-sided-negated-image-requires t c κs =
-    let s = c .before .before .before .before .before .before .before .before .before .before in
-    (omega (arith, s .pre .0), s .pre .1)
+    let end = c .before .before in
+    let two = end .before .before .before .before in
+    let right = two .before .before .before .before .before .before .before in
+    let one = right .before .before .before .before .before .before .before in
+    let left = one .before .before .before .before .before .before .before in
+    let read = left .before .before .before .before .before .before .before in
+    let start = read .before .before .before .before .before in
+    let x = left .sided .ensures in
+    let y = right .sided2 .ensures in
+    let e = ne-eqb _ 65535 (two .if2 .left) in
+    joined (pair-joins (start .pre .1) (read .read-row .result) (read .read-row .ensures) (start .args .left) (start .args .right) (start .args .or)) x (ne-eqb _ 65535 (one .if1 .left)) y e (end .join .ensures _ _ _ refl (y .builds .done e .ready))
 
 sided-returns : (t : ℕ) → sided-lts.Need-returns (negated-image-below t, negated-image.Post, image-below t, image.Post) (sided-at t) sided.Post
 sided-returns t c =
-    let r = c .before .before .before .before .before .before in
-    let i = r .before .before .before .before .before .before in
-    rw (i .if1 .taken) (r .negated-image .ensures)
-
-sided-image-requires : (t : ℕ) → sided-lts.Need-image-requires (negated-image-below t, negated-image.Post, image-below t, image.Post) (sided-at t) sided.Post
-sided-image-requires t c κs =
-    let s = c .before .before .before .before .before .before .before .before .before .before in
-    (omega (arith, s .pre .0), s .pre .1)
+    let made = c .before .before .before .before .before .before in
+    let one = made .before .before .before .before .before .before in
+    rw (one .if1 .taken) (made .negated-image .ensures)
 
 sided-returns-2 : (t : ℕ) → sided-lts.Need-returns-2 (negated-image-below t, negated-image.Post, image-below t, image.Post) (sided-at t) sided.Post
 sided-returns-2 t c =
-    let r = c .before .before .before .before .before .before in
-    let i = r .before .before .before .before .before .before in
-    rw (i .if1 .left) (r .image .ensures)
-
-step-read-row-requires : (t : ℕ) → step-lts.Need-read-row-requires (read-row-reads.Asked, read-row-reads.Learnt, leaf-reads.Asked, leaf-reads.Learnt, sided-below t, sided.Post, equivalent-below t, equivalent.Post, pair-below t, pair.Post) (step-at t) step.Post
-step-read-row-requires t c κs =
-    let s = c .before .before .before .before in
-    omega (arith, s .pre .1 .source .words, s .pre .1 .formula)
+    let made = c .before .before .before .before .before .before in
+    let one = made .before .before .before .before .before .before in
+    rw (one .if1 .left) (made .image .ensures)
 
 step-leaf-requires : (t : ℕ) → step-lts.Need-leaf-requires (read-row-reads.Asked, read-row-reads.Learnt, leaf-reads.Asked, leaf-reads.Learnt, sided-below t, sided.Post, equivalent-below t, equivalent.Post, pair-below t, pair.Post) (step-at t) step.Post
 step-leaf-requires t c κs =
-    let i = c .before .before .before .before in
-    let w = i .before .before in
-    let s = w .before .before .before .before .before in
-    leaf-ready (s .pre .1) (w .read-row .result) (w .read-row .ensures) (i .if1 .taken)
+    let one = c .before .before .before .before in
+    let read = one .before .before in
+    let start = read .before .before .before .before .before in
+    leaf-ready (start .pre .1) (read .read-row .result) (read .read-row .ensures) (one .if1 .taken)
 
 step-returns : (t : ℕ) → step-lts.Need-returns (read-row-reads.Asked, read-row-reads.Learnt, leaf-reads.Asked, leaf-reads.Learnt, sided-below t, sided.Post, equivalent-below t, equivalent.Post, pair-below t, pair.Post) (step-at t) step.Post
 step-returns t c =
-    let r = c .before .before .before .before in
-    let i = r .before .before .before .before .before in
-    let w = i .before .before in
-    let s = w .before .before .before .before .before in
-    leaf-done (s .pre .1) (w .read-row .result) (w .read-row .ensures) (s .args .not) (i .if1 .taken) (r .leaf .ensures)
+    let made = c .before .before .before .before in
+    let one = made .before .before .before .before .before in
+    let read = one .before .before in
+    let start = read .before .before .before .before .before in
+    leaf-done (start .pre .1) (read .read-row .result) (read .read-row .ensures) (start .args .not) (one .if1 .taken) (made .leaf .ensures)
 
 step-sided-requires : (t : ℕ) → step-lts.Need-sided-requires (read-row-reads.Asked, read-row-reads.Learnt, leaf-reads.Asked, leaf-reads.Learnt, sided-below t, sided.Post, equivalent-below t, equivalent.Post, pair-below t, pair.Post) (step-at t) step.Post
 step-sided-requires t c κs =
-    let k = c .before .before .before .before .before .before in
-    let w = k .before .before .before .before in
-    let s = w .before .before .before .before .before in (
-      omega (arith, s .pre .0, negated-operand (s .pre .1) (w .read-row .result) (w .read-row .ensures) (k .if2 .taken)),
-      asks-negated (s .pre .1) (w .read-row .result) (w .read-row .ensures) (k .if2 .taken),
+    let two = c .before .before .before .before .before .before in
+    let read = two .before .before .before .before in
+    let start = read .before .before .before .before .before in (
+      omega (arith, start .pre .0, negated-operand (start .pre .1) (read .read-row .result) (read .read-row .ensures) (two .if2 .taken)),
+      asks-negated (start .pre .1) (read .read-row .result) (read .read-row .ensures) (two .if2 .taken),
     )
 
 step-returns-2 : (t : ℕ) → step-lts.Need-returns-2 (read-row-reads.Asked, read-row-reads.Learnt, leaf-reads.Asked, leaf-reads.Learnt, sided-below t, sided.Post, equivalent-below t, equivalent.Post, pair-below t, pair.Post) (step-at t) step.Post
 step-returns-2 t c =
-    let r = c .before .before .before .before .before .before in
-    let k = r .before .before .before .before .before .before .before in
-    let w = k .before .before .before .before in
-    let s = w .before .before .before .before .before in
-    images-as (of-not (s .pre .1) (w .read-row .result) (w .read-row .ensures) (s .args .not) (k .if2 .taken)) (r .sided .ensures)
+    let made = c .before .before .before .before .before .before in
+    let two = made .before .before .before .before .before .before .before in
+    let read = two .before .before .before .before in
+    let start = read .before .before .before .before .before in
+    images-as (of-not (start .pre .1) (read .read-row .result) (read .read-row .ensures) (start .args .not) (two .if2 .taken)) (made .sided .ensures)
 
 step-equivalent-requires : (t : ℕ) → step-lts.Need-equivalent-requires (read-row-reads.Asked, read-row-reads.Learnt, leaf-reads.Asked, leaf-reads.Learnt, sided-below t, sided.Post, equivalent-below t, equivalent.Post, pair-below t, pair.Post) (step-at t) step.Post
 step-equivalent-requires t c κs =
-    let k = c .before .before .before .before .before in
-    let w = k .before .before .before .before .before .before in
-    let s = w .before .before .before .before .before in
-    (omega (arith, s .pre .0), asks-pair (s .pre .1) (w .read-row .result) (w .read-row .ensures) (omega (arith, k .if3 .taken)))
+    let two = c .before .before .before .before .before in
+    let read = two .before .before .before .before .before .before in
+    let start = read .before .before .before .before .before in
+    (omega (arith, start .pre .0), asks-pair (start .pre .1) (read .read-row .result) (read .read-row .ensures) (omega (arith, two .if3 .taken)))
 
 step-returns-3 : (t : ℕ) → step-lts.Need-returns-3 (read-row-reads.Asked, read-row-reads.Learnt, leaf-reads.Asked, leaf-reads.Learnt, sided-below t, sided.Post, equivalent-below t, equivalent.Post, pair-below t, pair.Post) (step-at t) step.Post
 step-returns-3 t c =
-    let r = c .before .before .before .before .before .before in
-    let k = r .before .before .before .before .before .before in
-    let w = k .before .before .before .before .before .before in
-    let s = w .before .before .before .before .before in
-    images-as (of-equivalent (s .pre .1) (w .read-row .result) (w .read-row .ensures) (s .args .not) (k .if3 .taken)) (r .equivalent .ensures)
+    let made = c .before .before .before .before .before .before in
+    let two = made .before .before .before .before .before .before in
+    let read = two .before .before .before .before .before .before in
+    let start = read .before .before .before .before .before in
+    images-as (of-equivalent (start .pre .1) (read .read-row .result) (read .read-row .ensures) (start .args .not) (two .if3 .taken)) (made .equivalent .ensures)
 
 step-pair-requires : (t : ℕ) → step-lts.Need-pair-requires (read-row-reads.Asked, read-row-reads.Learnt, leaf-reads.Asked, leaf-reads.Learnt, sided-below t, sided.Post, equivalent-below t, equivalent.Post, pair-below t, pair.Post) (step-at t) step.Post
 step-pair-requires t c κs =
-    let k = c .before .before .before .before .before .before .before .before .before in
-    let i = k .before .before in
-    let w = i .before .before in
-    let s = w .before .before .before .before .before in
-    (omega (arith, s .pre .0), asks-pair (s .pre .1) (w .read-row .result) (w .read-row .ensures) (omega (arith, k .if2 .left, i .if1 .left)))
+    let two = c .before .before .before .before .before .before .before .before .before in
+    let one = two .before .before in
+    let read = one .before .before in
+    let start = read .before .before .before .before .before in
+    (omega (arith, start .pre .0), asks-pair (start .pre .1) (read .read-row .result) (read .read-row .ensures) (omega (arith, two .if2 .left, one .if1 .left)))
 
 step-returns-4 : (t : ℕ) → step-lts.Need-returns-4 (read-row-reads.Asked, read-row-reads.Learnt, leaf-reads.Asked, leaf-reads.Learnt, sided-below t, sided.Post, equivalent-below t, equivalent.Post, pair-below t, pair.Post) (step-at t) step.Post
 step-returns-4 t c =
-    let r = c .before .before .before .before .before .before in
-    let m = r .before .before .before .before .before .before .before .before in
-    let k = m .before .before in
-    let i = k .before .before in
-    let w = i .before .before in
-    let s = w .before .before .before .before .before in
-    images-as (of-pair (s .pre .1) (w .read-row .result) (w .read-row .ensures) (s .args .not) (omega (arith, k .if2 .left, i .if1 .left)) (m .if3 .left))
-    (r .pair .ensures)
+    let made = c .before .before .before .before .before .before in
+    let three = made .before .before .before .before .before .before .before .before in
+    let two = three .before .before in
+    let one = two .before .before in
+    let read = one .before .before in
+    let start = read .before .before .before .before .before in
+    images-as (of-pair (start .pre .1) (read .read-row .result) (read .read-row .ensures) (start .args .not) (omega (arith, two .if2 .left, one .if1 .left)) (three .if3 .left))
+    (made .pair .ensures)
 
 pub +build+equivalent+image+negated-image+pair+sided+step-spec : {M : Type 1} → statement M
 +build+equivalent+image+negated-image+pair+sided+step-spec =
     close μ-build μ-equivalent μ-image μ-negated-image μ-pair μ-sided μ-step
     (λ t. build-lts.spec (step-below t, step.Post, word-of-reads.Asked, word-of-reads.Learnt) (build-at t) build.Post
-    (build-step-requires t)
+    (λ c κs. search needs)
     (λ c. search needs)
     (λ c. search needs)
     (λ c. search needs)
-    (build-returns t)
-    (build-word-of-requires t)
+    (λ c. search needs)
+    (λ c κs. search needs)
     (λ c. search needs)
     (build-mul-scratch t)
     (build-slice-write-scratch t)
@@ -390,7 +331,7 @@ pub +build+equivalent+image+negated-image+pair+sided+step-spec : {M : Type 1} �
     (λ c. search needs)
     (build-returns-2 t))
     (λ t. equivalent-lts.spec (pair-below t, pair.Post, join-reads.Asked, join-reads.Learnt) (equivalent-at t) equivalent.Post
-    (equivalent-pair-requires t)
+    (λ c κs. search needs)
     (λ c. search needs)
     (λ c. search needs)
     (λ c. search needs)
@@ -411,11 +352,11 @@ pub +build+equivalent+image+negated-image+pair+sided+step-spec : {M : Type 1} �
     (λ c. search needs)
     (λ c. search needs)
     (image-returns t)
-    (image-build-requires t)
+    (λ c κs. search needs)
     (λ c. search needs)
     (λ c. search needs)
     (λ c. search needs)
-    (image-returns-2 t))
+    (λ c. search needs))
     (λ t. negated-image-lts.spec (build-below t, build.Post) (negated-image-at t) negated-image.Post
     (λ c. search needs)
     (λ c. search needs)
@@ -423,13 +364,13 @@ pub +build+equivalent+image+negated-image+pair+sided+step-spec : {M : Type 1} �
     (λ c. search needs)
     (λ c. search needs)
     (negated-image-returns t)
-    (negated-image-build-requires t)
+    (λ c κs. search needs)
     (λ c. search needs)
     (λ c. search needs)
     (λ c. search needs)
-    (negated-image-returns-2 t))
+    (λ c. search needs))
     (λ t. pair-lts.spec (read-row-reads.Asked, read-row-reads.Learnt, sided-below t, sided.Post, join-reads.Asked, join-reads.Learnt) (pair-at t) pair.Post
-    (pair-read-row-requires t)
+    (λ c κs. search needs)
     (λ c. search needs)
     (pair-sided-requires t)
     (λ c. search needs)
@@ -449,18 +390,18 @@ pub +build+equivalent+image+negated-image+pair+sided+step-spec : {M : Type 1} �
     (λ c. search needs)
     (pair-returns-3 t))
     (λ t. sided-lts.spec (negated-image-below t, negated-image.Post, image-below t, image.Post) (sided-at t) sided.Post
-    (sided-negated-image-requires t)
+    (λ c κs. search needs)
     (λ c. search needs)
     (λ c. search needs)
     (λ c. search needs)
     (sided-returns t)
-    (sided-image-requires t)
+    (λ c κs. search needs)
     (λ c. search needs)
     (λ c. search needs)
     (λ c. search needs)
     (sided-returns-2 t))
     λ t. step-lts.spec (read-row-reads.Asked, read-row-reads.Learnt, leaf-reads.Asked, leaf-reads.Learnt, sided-below t, sided.Post, equivalent-below t, equivalent.Post, pair-below t, pair.Post) (step-at t) step.Post
-    (step-read-row-requires t)
+    (λ c κs. search needs)
     (step-leaf-requires t)
     (λ c. search needs)
     (λ c. search needs)
