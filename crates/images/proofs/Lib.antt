@@ -1,5 +1,4 @@
 pub mod Rows
+pub mod Leaf
 pub mod Memos
-pub mod Cases
-pub mod Rising
-pub mod Climbing
+pub mod Steps

@@ -3,49 +3,34 @@ use Prim.Native.Nat.{ℕ, _+_, _-_, _*_, _≤_, _<_}
 use native.Mathlib.Omega.{arith}
 use native.Mathlib.Decide.{ℕ-discrete}
 use mathlib.Core.Path.{_≡_, refl, sym, ap, _∙_}
-use mathlib.Core.Bool.{Bool, true, false, cond, not, true≢false}
+use mathlib.Core.Bool.{Bool, true, false, true≢false}
 use mathlib.Core.List.{List}
 use lib.ListN.{length, getD, set}
-use lib.Dec.{ltb, leb}
-use borrow.Author.Tests.{leb-true, eq-eqb, ne-eqb}
+use borrow.Author.Tests.{ne-eqb}
 use lib.Seq.{getD-set-same, getD-set-other}
-use Rattle.task.specs.Bounded.{upto}
 use Rattle.task.specs.Table.{row-at}
 use Rattle.task.proofs.Bounded.{length-upto}
-use Rattle.normal_form.specs.Builder.{St, Got, Build, give, bind, join, pair, Polarity, plain, negated, opposite}
+use Rattle.normal_form.specs.Builder.{St, Got, Build, bind, join, pair, Polarity, plain, negated}
 use Rattle.normal_form.specs.Growth.{Grows, Steady}
-use Rattle.normal_form.proofs.Growth.{grows-refl, steady-give, steady-bind, steady-join, steady-pair}
+use Rattle.normal_form.proofs.Growth.{grows-refl, steady-bind, steady-join, steady-pair}
 use Rattle.normal_form.proofs.Steady.{steady-image}
 use Rattle.formula_builder.specs.declared.Frame.{Frame}
 use Rattle.formula_builder.specs.declared.Size.{Size}
 use Rattle.formula_builder.specs.declared.Step.{Step}
 use Rattle.formula_builder.specs.Inner.Held.{Store, held, size-of, side, stepped, Done, Builds}
 use Rattle.formula_builder.proofs.Steps.{builds-done, builds-as, builds-bind, builds-stop, prefix-length}
-use Rattle.images.specs.Inner.Images.{tree, image-at, keeps, first-at, pair-at, memo-place, Known, is-row, Memo, noted, Asks, Images}
+use Rattle.images.specs.Inner.Images.{tree, image-at, pair-at, memo-place, Known, Memo, Asks, Images}
 
 pub steady-image-at : (frame : Frame) (formulas : List ℕ) (p : Polarity) (i : ℕ) → Steady (image-at frame formulas p i)
 unfolding image-at
 steady-image-at frame formulas p i = steady-image (frame .variables) p (tree frame formulas i)
 
-pub steady-first-at : (frame : Frame) (formulas : List ℕ) (p : Polarity) (i : ℕ) → Steady (first-at frame formulas p i)
-unfolding first-at
-steady-first-at frame formulas p i =
-    go (ltb (row-at formulas i .kind) 3) (keeps p (row-at formulas i .kind))
-  where
-    go :
-        (leaf own : Bool)
-        → Steady
-        (cond leaf (give 0)
-        (cond own (image-at frame formulas p (row-at formulas i .a)) (image-at frame formulas (opposite p) (row-at formulas i .a))))
-    go true own = steady-give 0
-    go false true = steady-image-at frame formulas p (row-at formulas i .a)
-    go false false = steady-image-at frame formulas (opposite p) (row-at formulas i .a)
-
-pub steady-pair-at : (frame : Frame) (formulas : List ℕ) (i : ℕ) (crossed : Bool) → Steady (pair-at frame formulas i crossed)
+pub steady-pair-at :
+    (frame : Frame) (formulas : List ℕ) (i : ℕ) (left right or : Bool) → Steady (pair-at frame formulas i left right or)
 unfolding pair-at
-steady-pair-at frame formulas i crossed =
-    steady-pair plain (steady-image-at frame formulas negated (row-at formulas i .a))
-    (steady-image-at frame formulas (side (not crossed)) (row-at formulas i .b))
+steady-pair-at frame formulas i left right or =
+    steady-pair (side or) (steady-image-at frame formulas (side left) (row-at formulas i .a))
+    (steady-image-at frame formulas (side right) (row-at formulas i .b))
 
 -- what is known stays known
 pub known-grows : {m : Build ℕ} {s t : St} {r : ℕ} → Steady m → Grows s t → Known m s r → Known m t r
@@ -64,7 +49,7 @@ pub memo-grows :
     → Memo frame formulas scratch s
     → Memo frame formulas scratch t
 memo-grows {frame} {formulas} g m =
-    record { known = λ p i r h e few. known-grows (steady-image-at frame formulas p i) g (m .known p i r h e few) }
+    record { known = λ p i r h e. known-grows (steady-image-at frame formulas p i) g (m .known p i r h e) }
 
 -- a step that is done grows the state that the tables hold
 pub done-grows :
@@ -108,7 +93,7 @@ pub place-within :
 place-within frame plain i h = omega arith
 place-within frame negated i h = omega arith
 
-pub memo-noted :
+memo-noted :
     (frame : Frame) (formulas scratch : List ℕ) (s : St) (p : Polarity) (i r : ℕ)
     → i < frame .formulas
     → 2 * frame .formulas ≤ length scratch
@@ -121,9 +106,8 @@ memo-noted frame formulas scratch s p i r h room k m = record { known = known }
         (q : Polarity) (j x : ℕ)
         → j < frame .formulas
         → getD (set scratch (memo-place frame p i) (r + 1)) (memo-place frame q j) 0 ≡ x + 1
-        → x < 4096
         → Known (image-at frame formulas q j) s x
-    known q j x g e few = go (ℕ-discrete (memo-place frame q j) (memo-place frame p i))
+    known q j x g e = go (ℕ-discrete (memo-place frame q j) (memo-place frame p i))
       where
         go : Dec (memo-place frame q j ≡ memo-place frame p i) → Known (image-at frame formulas q j) s x
         go (yes same) =
@@ -134,7 +118,7 @@ memo-noted frame formulas scratch s p i r h room k m = record { known = known }
             rw d (place-once frame (λ q j. Known (image-at frame formulas q j) s r) p q i j h g same k)
         go (no other) =
             m .known q j x g
-            (sym (getD-set-other scratch (memo-place frame p i) (memo-place frame q j) (r + 1) 0 other) ∙ e) few
+            (sym (getD-set-other scratch (memo-place frame p i) (memo-place frame q j) (r + 1) 0 other) ∙ e)
 
 module _ {m : Build ℕ} {frame : Frame} {formulas : List ℕ} {at : Size} {before after : Store} {scratch scratch' : List ℕ} {r : Step} where
   pub images-as :
@@ -177,7 +161,7 @@ pub images-leaf :
 images-leaf steady memo b =
     record { builds = b; memo = λ e. memo-grows (done-grows steady (b .done e)) memo; rest = λ j h. refl }
 
-pub images-bind :
+images-bind :
     {m : Build ℕ} {frame : Frame} {formulas : List ℕ} {at : Size} {before mid after : Store} {s1 s2 s3 : List ℕ} {l r : Step}
     (f : ℕ → Build ℕ)
     → Images m frame formulas at before mid s1 s2 l
@@ -191,7 +175,7 @@ images-bind f x e y =
       rest = λ j h. y .rest j h ∙ x .rest j h;
     }
 
-pub images-stop :
+images-stop :
     {m : Build ℕ} {frame : Frame} {formulas : List ℕ} {at : Size} {before after : Store} {s1 s2 : List ℕ} {l : Step}
     (f : ℕ → Build ℕ)
     → ((x : ℕ) → Steady (f x))
@@ -205,61 +189,59 @@ images-stop f steady x e =
       rest = x .rest;
     }
 
--- Left, right, then the join.
-module _ {left right : Build ℕ} {frame : Frame} {formulas : List ℕ} {at : Size} {before mid : Store} {s1 s2 : List ℕ} {l : Step} (p : Polarity) (steady : Steady right) (x : Images left frame formulas at before mid s1 s2 l) where
-  pub pair-left-full : l .full ≡ true → Images (pair p left right) frame formulas at before mid s1 s2 l
+-- A step m that builds left, right, then their join.
+pub record Joins (p : Polarity) (m left right : Build ℕ) : Type 0 where
+  pub is : m ≡ pair p left right
+  pub steady : Steady right
+
+module _ {p : Polarity} {m left right : Build ℕ} {frame : Frame} {formulas : List ℕ} {at : Size} {before mid : Store} {s1 s2 : List ℕ} {l : Step} (j : Joins p m left right) (x : Images left frame formulas at before mid s1 s2 l) where
+  pub left-full : l .full ≡ true → Images m frame formulas at before mid s1 s2 l
   unfolding pair
-  pair-left-full e =
-      images-stop (λ a. bind right (λ b. join p a b)) (λ a. steady-bind steady (λ b. steady-join p a b)) x e
+  left-full e =
+      images-as (j .is)
+      (images-stop (λ a. bind right (λ b. join p a b)) (λ a. steady-bind (j .steady) (λ b. steady-join p a b)) x e)
 
   module _ {after : Store} {s3 : List ℕ} {r : Step} (e : l .full ≡ false) (y : Images right frame formulas (size-of l) mid after s2 s3 r) where
-    pub pair-right-full : r .full ≡ true → Images (pair p left right) frame formulas at before after s1 s3 r
+    pub right-full : r .full ≡ true → Images m frame formulas at before after s1 s3 r
     unfolding pair
-    pair-right-full g =
-        images-bind (λ a. bind right (λ b. join p a b)) x e
-        (images-stop (λ b. join p (l .row) b) (λ b. steady-join p (l .row) b) y g)
+    right-full g =
+        images-as (j .is)
+        (images-bind (λ a. bind right (λ b. join p a b)) x e
+        (images-stop (λ b. join p (l .row) b) (λ b. steady-join p (l .row) b) y g))
 
-    pub pair-done :
+    pub joined :
         {last : Store} {z : Step}
         → r .full ≡ false
         → Builds (join p (l .row) (r .row)) frame (size-of r) after last z
-        → Images (pair p left right) frame formulas at before last s1 s3 z
+        → Images m frame formulas at before last s1 s3 z
     unfolding pair
-    pair-done g b =
-        images-bind (λ a. bind right (λ b. join p a b)) x e
+    joined g b =
+        images-as (j .is)
+        (images-bind (λ a. bind right (λ b. join p a b)) x e
         (images-bind (λ b. join p (l .row) b) y g
-        (images-leaf (steady-join p (l .row) (r .row)) (y .memo g) b))
-
--- what the test of a word says
-pub row-word : (w : ℕ) → is-row w ≡ true → (0 < w) × (w ≤ 4096)
-row-word w e = go (ℕ-discrete w 0)
-  where
-    go : Dec (w ≡ 0) → (0 < w) × (w ≤ 4096)
-    go (yes z) = absurd (true≢false (sym e ∙ rw (eq-eqb w 0 z)))
-    go (no z) =
-        let small : leb w 4096 ≡ true = rw (ne-eqb w 0 z) at e in
-        (omega arith, leb-true w 4096 small)
+        (images-leaf (steady-join p (l .row) (r .row)) (y .memo g) b)))
 
 -- The memo has formula i.
 pub images-known :
-    (frame : Frame) (formulas : List ℕ) (at : Size) (before : Store) (scratch : List ℕ) (p : Polarity) (i w : ℕ)
+    {frame : Frame} {formulas : List ℕ} {at : Size} {before : Store} {scratch : List ℕ} {i : ℕ} (p : Polarity)
     → Asks frame formulas at before scratch i
-    → getD scratch (memo-place frame p i) 0 ≡ w
-    → is-row w ≡ true
-    → Images (image-at frame formulas p i) frame formulas at before before scratch scratch (stepped (at .rows) (at .twins) (w - 1))
+    → (getD scratch (memo-place frame p i) 0 ≡ 0 → ⊥)
+    → Images (image-at frame formulas p i) frame formulas at before before scratch scratch
+    (stepped (at .rows) (at .twins) (getD scratch (memo-place frame p i) 0 - 1))
 unfolding held
-images-known frame formulas at before scratch p i w a e is =
-    let h = row-word w is in
-    let k = a .memo .known p i (w - 1) (a .formula) (omega (arith, e, h .0)) (omega (arith, h .0, h .1)) in
-    let b : w - 1 < length (upto (at .rows) (row-at (before .table))) = k .below in
+images-known {frame} {at = at} {before = before} {scratch} {i} p a some =
+    let w = getD scratch (memo-place frame p i) 0 in
+    let k = a .memo .known p i (w - 1) (a .formula) (omega arith) in
+    let b : w - 1 < at .rows = rw (length-upto (at .rows) (row-at (before .table))) at (k .below) in
+    let rows = a .ready .rows in
     record {
       builds =
-          builds-done (ne-eqb (w - 1) 65535 (λ q. omega (arith, h .0, h .1)))
+          builds-done (ne-eqb (w - 1) 65535 (λ q. omega (arith, rows .within, rows .limit)))
           (record {
             value = ap (λ (g : Got ℕ). g .value) (k .again);
             state = ap (λ (g : Got ℕ). g .st) (k .again);
             ready = a .ready;
-            below = rw (length-upto (at .rows) (row-at (before .table))) at b;
+            below = b;
             grew = omega arith;
           });
       memo = λ _. a .memo;
@@ -268,23 +250,19 @@ images-known frame formulas at before scratch p i w a e is =
 
 -- Formula i was built and is noted.
 pub images-noted :
-    (frame : Frame) (formulas : List ℕ) (at : Size) (before after : Store) (scratch scratch' : List ℕ) (p : Polarity) (i : ℕ) (r : Step)
+    {frame : Frame} {formulas : List ℕ} {at : Size} {before after : Store} {scratch scratch' : List ℕ} {i : ℕ} {r : Step} (p : Polarity)
     → i < frame .formulas
     → 2 * frame .formulas ≤ length scratch'
     → Images (image-at frame formulas p i) frame formulas at before after scratch scratch' r
-    → Images (image-at frame formulas p i) frame formulas at before after scratch (noted scratch' (memo-place frame p i) r) r
-images-noted frame formulas at before after scratch scratch' p i r h room x =
-    record { builds = x .builds; memo = λ e. rw e (memo e); rest = λ j g. rest (r .full) j g ∙ x .rest j g }
-  where
-    memo : r .full ≡ false → Memo frame formulas (set scratch' (memo-place frame p i) (r .row + 1)) (held (size-of r) after)
-    memo e =
-        memo-noted frame formulas scratch' (held (size-of r) after) p i (r .row) h room
-        (done-known (steady-image-at frame formulas p i) (x .builds .done e)) (x .memo e)
-
-    rest :
-        (b : Bool) (j : ℕ)
-        → 2 * frame .formulas ≤ j
-        → getD (cond b scratch' (set scratch' (memo-place frame p i) (r .row + 1))) j 0 ≡ getD scratch' j 0
-    rest true j g = refl
-    rest false j g =
-        getD-set-other scratch' (memo-place frame p i) j (r .row + 1) 0 (λ e. omega (arith, place-within frame p i h, e))
+    → r .full ≡ false
+    → Images (image-at frame formulas p i) frame formulas at before after scratch (set scratch' (memo-place frame p i) (r .row + 1)) r
+images-noted {frame} {formulas} {after = after} {scratch' = scratch'} {i} {r} p h room x e =
+    record {
+      builds = x .builds;
+      memo = λ _.
+          memo-noted frame formulas scratch' (held (size-of r) after) p i (r .row) h room
+          (done-known (steady-image-at frame formulas p i) (x .builds .done e)) (x .memo e);
+      rest = λ j g.
+          getD-set-other scratch' (memo-place frame p i) j (r .row + 1) 0 (λ q. omega (arith, place-within frame p i h, q))
+          ∙ x .rest j g;
+    }

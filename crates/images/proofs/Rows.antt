@@ -1,13 +1,12 @@
 -- The image of a row by its kind. Assumes nothing.
 use Prim.Native.Nat.{ℕ, zero, suc, _≤_, _<_}
 use native.Mathlib.Omega.{arith}
-use native.Mathlib.Decide.{decLt}
-use mathlib.Core.Path.{_≡_, refl, sym, ap, _∙_}
-use mathlib.Core.Bool.{Bool, true, false, cond, not, true≢false}
+use native.Mathlib.Decide.{ℕ-discrete, decLt}
+use mathlib.Core.Path.{_≡_, refl, sym, ap, ap₂, _∙_}
+use mathlib.Core.Bool.{Bool, true, false, not, Bool·beq}
 use mathlib.Core.List.{List, [], _∷_}
 use lib.ListN.{length, getD, List·getD-eq-default}
-use lib.Dec.{eqb, ltb}
-use borrow.Author.Tests.{ltb-false, lt-ltb, le-ltb}
+use lib.Dec.{eqb}
 use Rattle.task.specs.Table.{row-at, FormulaKind, false-kind, true-kind, variable-kind, not-kind, and-kind, or-kind, implies-kind, equivalent-kind, unknown-formula, formula-kind}
 use Rattle.task.specs.Rules.{no-row, FormulaRule}
 use Rattle.task.specs.Semantics.{Formula}
@@ -15,32 +14,13 @@ use Rattle.task.specs.Tree.{formula-node}
 use Rattle.task.proofs.Bounded.{length-upto, getD-upto}
 use Rattle.task.proofs.Trees.{formula-unfolds}
 use Rattle.task.specs.Inner.Rows.{FormulaKept}
-use Rattle.normal_form.specs.Builder.{Build, give, pair, Polarity, plain, negated, opposite}
+use Rattle.normal_form.specs.Builder.{Build, pair, Polarity, plain, negated}
 use Rattle.normal_form.specs.Image.{image}
+use Rattle.formula_builder.specs.declared.Words.{Words}
 use Rattle.formula_builder.specs.declared.Frame.{Frame}
-use Rattle.formula_builder.specs.Inner.Held.{side}
-use Rattle.images.specs.Inner.Images.{source-rows, tree, image-at, keeps, first-by, first-at, pair-at, leaf-built, Source}
-
--- which join a row of kind 4 to 6 is
-abbrev pub or-by : Polarity → ℕ → Bool
-or-by plain k = not (eqb k 4)
-or-by negated k = eqb k 4
-
-abbrev pub crossed-by : Polarity → Bool
-crossed-by plain = false
-crossed-by negated = true
-
--- a number below 8 is one of eight
-by-kind : (P : ℕ → Type 0) → P 0 → P 1 → P 2 → P 3 → P 4 → P 5 → P 6 → P 7 → (k : ℕ) → k < 8 → P k
-by-kind P p0 p1 p2 p3 p4 p5 p6 p7 zero h = p0
-by-kind P p0 p1 p2 p3 p4 p5 p6 p7 (suc zero) h = p1
-by-kind P p0 p1 p2 p3 p4 p5 p6 p7 (suc (suc zero)) h = p2
-by-kind P p0 p1 p2 p3 p4 p5 p6 p7 (suc (suc (suc zero))) h = p3
-by-kind P p0 p1 p2 p3 p4 p5 p6 p7 (suc (suc (suc (suc zero)))) h = p4
-by-kind P p0 p1 p2 p3 p4 p5 p6 p7 (suc (suc (suc (suc (suc zero))))) h = p5
-by-kind P p0 p1 p2 p3 p4 p5 p6 p7 (suc (suc (suc (suc (suc (suc zero)))))) h = p6
-by-kind P p0 p1 p2 p3 p4 p5 p6 p7 (suc (suc (suc (suc (suc (suc (suc zero))))))) h = p7
-by-kind P p0 p1 p2 p3 p4 p5 p6 p7 (suc (suc (suc (suc (suc (suc (suc (suc k)))))))) h = absurd (omega arith)
+use Rattle.formula_builder.specs.declared.Size.{Size}
+use Rattle.formula_builder.specs.Inner.Held.{Store, row-of, side}
+use Rattle.images.specs.Inner.Images.{source-rows, tree, image-at, pair-at, equivalent-at, leaf-built, Asks}
 
 known-kind : (v i k a b : ℕ) → FormulaRule v i (formula-kind k) a b → k < 8
 unfolding formula-kind
@@ -50,25 +30,20 @@ known-kind v i k a b r = go (decLt k 8)
     go (yes h) = h
     go (no h) =
         let kinds : List FormulaKind =
-        false-kind
-        ∷ true-kind
-        ∷ variable-kind
-        ∷ not-kind
-        ∷ and-kind
-        ∷ or-kind
-        ∷ implies-kind
-        ∷ equivalent-kind
-        ∷ [] in
+        false-kind ∷ true-kind ∷ variable-kind ∷ not-kind ∷ and-kind ∷ or-kind ∷ implies-kind ∷ equivalent-kind ∷ [] in
         let e : getD kinds k unknown-formula ≡ unknown-formula =
         List·getD-eq-default kinds unknown-formula {n = k} (omega arith) in
         absurd (rw e at r)
 
 two-operands : (v i k a b : ℕ) → FormulaRule v i (formula-kind k) a b → 4 ≤ k → (a < i) × (b < i)
 unfolding formula-kind
-two-operands v i k a b r l =
-    by-kind (λ k. FormulaRule v i (formula-kind k) a b → 4 ≤ k → (a < i) × (b < i)) (λ r l. absurd (omega arith))
-    (λ r l. absurd (omega arith)) (λ r l. absurd (omega arith)) (λ r l. absurd (omega arith)) (λ r l. r) (λ r l. r)
-    (λ r l. r) (λ r l. r) k (known-kind v i k a b r) r l
+two-operands v i k a b r l = go (ℕ-discrete k 4) (ℕ-discrete k 5) (ℕ-discrete k 6)
+  where
+    go : Dec (k ≡ 4) → Dec (k ≡ 5) → Dec (k ≡ 6) → (a < i) × (b < i)
+    go (yes e) _ _ = rw e at r
+    go (no _) (yes e) _ = rw e at r
+    go (no _) (no _) (yes e) = rw e at r
+    go (no c) (no d) (no f) = let e : k ≡ 7 = omega (arith, known-kind v i k a b r) in rw e at r
 
 -- The image of a row by its kind, over the formulas p and q that its words a and b name.
 module _ (n : ℕ) (a : ℕ) (f g : Formula) where
@@ -87,168 +62,121 @@ module _ (n : ℕ) (a : ℕ) (f g : Formula) where
   leaf-image negated (suc (suc (suc k))) b h = absurd (omega arith)
 
   negation-image :
-      (p : Polarity) (k : ℕ)
-      → k ≡ 3
-      → image n p (formula-node (formula-kind k) a f g) ≡ first-by p k (λ q. image n q f)
+      (b : Bool) (k : ℕ) → k ≡ 3 → image n (side b) (formula-node (formula-kind k) a f g) ≡ image n (side (not b)) f
   unfolding image formula-node formula-kind
-  negation-image plain k e = rw e
-  negation-image negated k e = rw e
+  negation-image false k e = rw e
+  negation-image true k e = rw e
 
+  -- "and", "or" and "implies": which side the left is on, and which join it is
   pair-image :
-      (p : Polarity) (k : ℕ)
+      (b : Bool) (k : ℕ)
       → 4 ≤ k
       → k < 7
-      → image n p (formula-node (formula-kind k) a f g)
-      ≡ pair (side (or-by p k)) (first-by p k (λ q. image n q f)) (image n p g)
+      → image n (side b) (formula-node (formula-kind k) a f g)
+      ≡ pair (side (Bool·beq (eqb k 4) b)) (image n (side (not (Bool·beq (eqb k 6) b))) f) (image n (side b) g)
   unfolding image formula-node formula-kind
-  pair-image p k l h =
-      let P : ℕ → Type 0 = λ k.
-      4 ≤ k
-      → k < 7
-      → image n p (formula-node (formula-kind k) a f g)
-      ≡ pair (side (or-by p k)) (first-by p k (λ q. image n q f)) (image n p g) in
-      by-kind P (λ l h. absurd (omega arith)) (λ l h. absurd (omega arith)) (λ l h. absurd (omega arith))
-      (λ l h. absurd (omega arith)) (λ l h. conjunct p) (λ l h. disjunct p) (λ l h. implied p) (λ l h. absurd (omega arith)) k
-      (omega arith) l h
+  pair-image b k l h = go b (ℕ-discrete k 4) (ℕ-discrete k 5)
     where
-      conjunct :
-          (p : Polarity)
-          → pair p (image n p f) (image n p g) ≡ pair (side (or-by p 4)) (first-by p 4 (λ q. image n q f)) (image n p g)
-      conjunct plain = refl
-      conjunct negated = refl
-
-      disjunct :
-          (p : Polarity)
-          → pair (opposite p) (image n p f) (image n p g)
-          ≡ pair (side (or-by p 5)) (first-by p 5 (λ q. image n q f)) (image n p g)
-      disjunct plain = refl
-      disjunct negated = refl
-
-      implied :
-          (p : Polarity)
-          → pair (opposite p) (image n (opposite p) f) (image n p g)
-          ≡ pair (side (or-by p 6)) (first-by p 6 (λ q. image n q f)) (image n p g)
-      implied plain = refl
-      implied negated = refl
+      go :
+          (b : Bool)
+          → Dec (k ≡ 4)
+          → Dec (k ≡ 5)
+          → image n (side b) (formula-node (formula-kind k) a f g)
+          ≡ pair (side (Bool·beq (eqb k 4) b)) (image n (side (not (Bool·beq (eqb k 6) b))) f) (image n (side b) g)
+      go false (yes e) _ = rw e
+      go true (yes e) _ = rw e
+      go false (no _) (yes e) = rw e
+      go true (no _) (yes e) = rw e
+      go false (no c) (no d) = let e : k ≡ 6 = omega arith in rw e
+      go true (no c) (no d) = let e : k ≡ 6 = omega arith in rw e
 
   equivalence-image :
-      (p : Polarity) (k : ℕ)
+      (b : Bool) (k : ℕ)
       → k ≡ 7
-      → image n p (formula-node (formula-kind k) a f g)
-      ≡ pair negated (pair plain (first-by p k (λ q. image n q f)) (image n p g))
-      (pair plain (image n negated f) (image n (side (not (crossed-by p))) g))
+      → image n (side b) (formula-node (formula-kind k) a f g)
+      ≡ pair negated (pair plain (image n plain f) (image n (side b) g)) (pair plain (image n negated f) (image n (side (not b)) g))
   unfolding image formula-node formula-kind
-  equivalence-image plain k e = rw e
-  equivalence-image negated k e = rw e
+  equivalence-image false k e = rw e
+  equivalence-image true k e = rw e
 
--- a row that keeps its first operand's side has two operands
-pub keeps-four : (p : Polarity) (k : ℕ) → keeps p k ≡ true → 4 ≤ k
-keeps-four plain k e = go (ltb k 4) refl e
-  where
-    go : (b : Bool) → ltb k 4 ≡ b → cond b false (not (eqb k 6)) ≡ true → 4 ≤ k
-    go true q e = absurd (true≢false (sym e))
-    go false q e = ltb-false k 4 q
-keeps-four negated k e = go (ltb k 4) refl e
-  where
-    go : (b : Bool) → ltb k 4 ≡ b → cond b false (ltb k 6) ≡ true → 4 ≤ k
-    go true q e = absurd (true≢false (sym e))
-    go false q e = ltb-false k 4 q
+-- the operands of row i are those that its words name
+pub pair-words :
+    (frame : Frame) (formulas : List ℕ) (i : ℕ) (w : Words)
+    → row-of w ≡ row-at formulas i
+    → (left right or : Bool)
+    → pair-at frame formulas i left right or
+    ≡ pair (side or) (image-at frame formulas (side left) (w .a)) (image-at frame formulas (side right) (w .b))
+unfolding pair-at
+pair-words frame formulas i w e left right or = rw (← e)
 
-pub keeps-low : (p : Polarity) (k : ℕ) → k < 4 → false ≡ keeps p k
-keeps-low plain k h = rw (lt-ltb k 4 h)
-keeps-low negated k h = rw (lt-ltb k 4 h)
-
--- the first operand of row i
-module _ (frame : Frame) (formulas : List ℕ) (p : Polarity) (i : ℕ) where
-  pub first-none : row-at formulas i .kind < 3 → first-at frame formulas p i ≡ give 0
-  unfolding first-at
-  first-none h = rw (lt-ltb (row-at formulas i .kind) 3 h)
-
-  pub first-own :
-      3 ≤ row-at formulas i .kind
-      → keeps p (row-at formulas i .kind) ≡ true
-      → first-at frame formulas p i ≡ image-at frame formulas p (row-at formulas i .a)
-  unfolding first-at
-  first-own h k = rw (le-ltb (row-at formulas i .kind) 3 h, k)
-
-  pub first-other :
-      3 ≤ row-at formulas i .kind
-      → keeps p (row-at formulas i .kind) ≡ false
-      → first-at frame formulas p i ≡ image-at frame formulas (opposite p) (row-at formulas i .a)
-  unfolding first-at
-  first-other h k = rw (le-ltb (row-at formulas i .kind) 3 h, k)
-
-module _ (frame : Frame) (formulas scratch : List ℕ) (source : Source frame formulas scratch) (i : ℕ) (h : i < frame .formulas) where
-  row-held : getD (source-rows frame formulas) i no-row ≡ row-at formulas i
+-- Row i of the source, with the words w.
+module _ {frame : Frame} {formulas : List ℕ} {at : Size} {before : Store} {scratch : List ℕ} {i : ℕ} (x : Asks frame formulas at before scratch i) (w : Words) (e : row-of w ≡ row-at formulas i) where
+  row-held : getD (source-rows frame formulas) i no-row ≡ row-of w
   unfolding source-rows
-  row-held = getD-upto (frame .formulas) (row-at formulas) i no-row h
+  row-held = getD-upto (frame .formulas) (row-at formulas) i no-row (x .formula) ∙ sym e
 
   within : i < length (source-rows frame formulas)
   unfolding source-rows
-  within = rw (length-upto (frame .formulas) (row-at formulas)) h
+  within = rw (length-upto (frame .formulas) (row-at formulas)) (x .formula)
 
-  pub rule-held : FormulaKept (frame .variables) i (row-at formulas i)
-  rule-held = rw row-held at (source .down .row i within)
+  rule-held : FormulaKept (frame .variables) i (row-of w)
+  rule-held = rw row-held at (x .source .down .row i within)
 
-  pub known : row-at formulas i .kind < 8
-  known = known-kind (frame .variables) i (row-at formulas i .kind) (row-at formulas i .a) (row-at formulas i .b) rule-held
+  known : w .kind < 8
+  known = known-kind (frame .variables) i (w .kind) (w .a) (w .b) rule-held
 
   -- the two words of a row of kind 4 to 7 name lower rows
-  pub operands : 4 ≤ row-at formulas i .kind → (row-at formulas i .a < i) × (row-at formulas i .b < i)
-  operands l =
-      two-operands (frame .variables) i (row-at formulas i .kind) (row-at formulas i .a) (row-at formulas i .b) rule-held l
+  pub operands : 4 ≤ w .kind → (w .a < i) × (w .b < i)
+  operands l = two-operands (frame .variables) i (w .kind) (w .a) (w .b) rule-held l
 
   -- and that of kind 3
-  pub negated-operand : row-at formulas i .kind ≡ 3 → row-at formulas i .a < i
+  pub negated-operand : w .kind ≡ 3 → w .a < i
   unfolding formula-kind
-  negated-operand e =
-      let r : FormulaRule (frame .variables) i (formula-kind 3) (row-at formulas i .a) (row-at formulas i .b) =
-      rw e at rule-held in
+  negated-operand k =
+      let r : FormulaRule (frame .variables) i (formula-kind 3) (w .a) (w .b) = rw k at rule-held in
       r .0
 
   -- of a variable's row the first word is a variable, and the last is not used
-  pub variable-words : row-at formulas i .kind ≡ 2 → (row-at formulas i .a < frame .variables) × (row-at formulas i .b ≡ 0)
+  pub variable-words : w .kind ≡ 2 → (w .a < frame .variables) × (w .b ≡ 0)
   unfolding formula-kind
-  variable-words e =
-      let r : FormulaRule (frame .variables) i (formula-kind 2) (row-at formulas i .a) (row-at formulas i .b) =
-      rw e at rule-held in
+  variable-words k =
+      let r : FormulaRule (frame .variables) i (formula-kind 2) (w .a) (w .b) = rw k at rule-held in
       (r .0, r .1)
 
-  module _ (p : Polarity) where
-    node : Build ℕ
-    node =
-        image (frame .variables) p
-        (formula-node (formula-kind (row-at formulas i .kind)) (row-at formulas i .a) (tree frame formulas (row-at formulas i .a))
-        (tree frame formulas (row-at formulas i .b)))
+  node : Polarity → Build ℕ
+  node p =
+      image (frame .variables) p
+      (formula-node (formula-kind (w .kind)) (w .a) (tree frame formulas (w .a)) (tree frame formulas (w .b)))
 
-    unfolds : image-at frame formulas p i ≡ node
-    unfolding image-at tree node
-    unfolds =
-        ap (image (frame .variables) p)
-        (formula-unfolds (frame .variables) (source-rows frame formulas) (source .down) i within
-        ∙ rw row-held)
+  unfolds : (p : Polarity) → image-at frame formulas p i ≡ node p
+  unfolding image-at tree node
+  unfolds p =
+      ap (image (frame .variables) p)
+      (formula-unfolds (frame .variables) (source-rows frame formulas) (x .source .down) i within ∙ rw row-held)
 
-    pub of-leaf : row-at formulas i .kind < 3 → image-at frame formulas p i ≡ leaf-built (frame .variables) p (row-at formulas i)
-    unfolding node
-    of-leaf l = unfolds ∙ leaf-image (frame .variables) _ _ _ p (row-at formulas i .kind) (row-at formulas i .b) l
+  pub of-leaf : (b : Bool) → w .kind < 3 → image-at frame formulas (side b) i ≡ leaf-built (frame .variables) (side b) (row-of w)
+  unfolding node
+  of-leaf b l = unfolds (side b) ∙ leaf-image (frame .variables) _ _ _ (side b) (w .kind) (w .b) l
 
-    pub of-negation : row-at formulas i .kind ≡ 3 → image-at frame formulas p i ≡ first-at frame formulas p i
-    unfolding node image-at first-at
-    of-negation e = unfolds ∙ negation-image (frame .variables) _ _ _ p (row-at formulas i .kind) e
+  pub of-not : (b : Bool) → w .kind ≡ 3 → image-at frame formulas (side b) i ≡ image-at frame formulas (side (not b)) (w .a)
+  unfolding node image-at
+  of-not b k = unfolds (side b) ∙ negation-image (frame .variables) _ _ _ b (w .kind) k
 
-    pub of-pair :
-        4 ≤ row-at formulas i .kind
-        → row-at formulas i .kind < 7
-        → image-at frame formulas p i
-        ≡ pair (side (or-by p (row-at formulas i .kind))) (first-at frame formulas p i)
-        (image-at frame formulas p (row-at formulas i .b))
-    unfolding node image-at first-at
-    of-pair l h = unfolds ∙ pair-image (frame .variables) _ _ _ p (row-at formulas i .kind) l h
+  pub of-pair :
+      (b : Bool)
+      → 4 ≤ w .kind
+      → (w .kind ≡ 7 → ⊥)
+      → image-at frame formulas (side b) i
+      ≡ pair-at frame formulas i (not (Bool·beq (eqb (w .kind) 6) b)) b (Bool·beq (eqb (w .kind) 4) b)
+  unfolding node image-at
+  of-pair b l m =
+      unfolds (side b)
+      ∙ pair-image (frame .variables) _ _ _ b (w .kind) l (omega (arith, known))
+      ∙ sym (pair-words frame formulas i w e (not (Bool·beq (eqb (w .kind) 6) b)) b (Bool·beq (eqb (w .kind) 4) b))
 
-    pub of-equivalent :
-        row-at formulas i .kind ≡ 7
-        → image-at frame formulas p i
-        ≡ pair negated (pair plain (first-at frame formulas p i) (image-at frame formulas p (row-at formulas i .b)))
-        (pair-at frame formulas i (crossed-by p))
-    unfolding node image-at first-at pair-at
-    of-equivalent e = unfolds ∙ equivalence-image (frame .variables) _ _ _ p (row-at formulas i .kind) e
+  pub of-equivalent : (b : Bool) → w .kind ≡ 7 → image-at frame formulas (side b) i ≡ equivalent-at frame formulas i b
+  unfolding node image-at equivalent-at
+  of-equivalent b k =
+      unfolds (side b)
+      ∙ equivalence-image (frame .variables) _ _ _ b (w .kind) k
+      ∙ ap₂ (pair negated) (sym (pair-words frame formulas i w e false b false)) (sym (pair-words frame formulas i w e true (not b) false))

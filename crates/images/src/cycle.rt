@@ -1,19 +1,24 @@
-// The two memoised functions: each goes down a row's first operands as far as they are on its own side, and calls the other
-// where negation switches. Each row is built at most once.
+// The two memoised functions: image and negated image call each other, on row numbers that fall. What they share, the step of a row kind by kind,
+// takes the side as a flag. Each row is built at most once for a side.
 use crate::leaves::leaf;
-use crate::memo::is_row;
-use crate::memo::note;
-use crate::spine::descend;
-use crate::spine::keeps_side;
-use crate::spine::over;
+use crate::memo::word_of;
 use formula_builder::FORMULAS;
+use formula_builder::NO_ROOM;
 use formula_builder::ROWS;
 use formula_builder::join;
 use formula_builder::read_row;
-ghost use Prim.Native.Nat.{_+_};
 ghost use Rattle.normal_form.specs.Builder.{plain, negated};
 ghost use Rattle.formula_builder.specs.Inner.Held.{store, side, sized, stepped, framed};
-ghost use Rattle.images.specs.Inner.Images.{image-at, first-at, pair-at, equivalent-at, Asks, AsksPair, AsksEquivalent, AsksUp, Reaches, Rises};
+ghost use Rattle.images.specs.Inner.Images.{image-at, pair-at, equivalent-at, Asks, AsksPair, Images};
+
+// Kinds of rows with operands, but for "or".
+const NOT: u16 = 3;
+
+const AND: u16 = 4;
+
+const IMPLIES: u16 = 6;
+
+const EQUIVALENT: u16 = 7;
 
 // The image of formula i: constant time if the memo has it, else what building it costs.
 pub fn image(
@@ -27,83 +32,16 @@ pub fn image(
     scratch: &mut [u16],
 ) -> u16
     requires { ⌜ Asks (framed (now frame)) (now formulas) (sized (now rows) (now twins)) (store (now table) (now originals)) (now scratch) i ⌝ }
-    ensures { λ r. ⌜ Reaches (image-at (framed (now (frame .entry))) (now (formulas .entry)) plain i) (i + 1) (framed (now (frame .entry))) (now (formulas .entry)) (sized (now (rows .entry)) (now (twins .entry))) (store (now (table .entry)) (now (originals .entry))) (store (now (table .exit)) (now (originals .exit))) (now (scratch .entry)) (now (scratch .exit)) (stepped (now (rows .exit)) (now (twins .exit)) r) ⌝ }
+    ensures { λ r. ⌜ Images (image-at (framed (now (frame .entry))) (now (formulas .entry)) plain i) (framed (now (frame .entry))) (now (formulas .entry)) (sized (now (rows .entry)) (now (twins .entry))) (store (now (table .entry)) (now (originals .entry))) (store (now (table .exit)) (now (originals .exit))) (now (scratch .entry)) (now (scratch .exit)) (stepped (now (rows .exit)) (now (twins .exit)) r) ⌝ }
 {
     let known = scratch[i];
-    if is_row(known) {
+    if known != 0 {
         return known - 1;
     }
-    image_anew(formulas, i, frame, rows, twins, table, originals, scratch)
-}
-
-// The image of formula i, whatever the memo has of row i: a step for it and for each row below it that the memo has not.
-pub fn image_anew(
-    formulas: &[u16],
-    i: usize,
-    frame: &[usize; 5],
-    rows: &mut usize,
-    twins: &mut usize,
-    table: &mut [u16],
-    originals: &mut [u16],
-    scratch: &mut [u16],
-) -> u16
-    requires { ⌜ Asks (framed (now frame)) (now formulas) (sized (now rows) (now twins)) (store (now table) (now originals)) (now scratch) i ⌝ }
-    ensures { λ r. ⌜ Reaches (image-at (framed (now (frame .entry))) (now (formulas .entry)) plain i) (i + 1) (framed (now (frame .entry))) (now (formulas .entry)) (sized (now (rows .entry)) (now (twins .entry))) (store (now (table .entry)) (now (originals .entry))) (store (now (table .exit)) (now (originals .exit))) (now (scratch .entry)) (now (scratch .exit)) (stepped (now (rows .exit)) (now (twins .exit)) r) ⌝ }
-{
-    let mut j = descend(formulas, i, false, frame, scratch);
-    let mut s = image_start(formulas, j, frame, rows, twins, table, originals, scratch);
-    while j <= i {
-        let word = scratch[j] as usize;
-        s = image_up(
-            formulas,
-            j,
-            s,
-            frame,
-            rows,
-            twins,
-            table,
-            originals,
-            scratch,
-        );
-        note(scratch, j, s);
-        j = over(i, j, word);
-    }
-    s
-}
-
-// The first operand of row j, on its side.
-fn image_start(
-    formulas: &[u16],
-    j: usize,
-    frame: &[usize; 5],
-    rows: &mut usize,
-    twins: &mut usize,
-    table: &mut [u16],
-    originals: &mut [u16],
-    scratch: &mut [u16],
-) -> u16
-    requires { ⌜ Asks (framed (now frame)) (now formulas) (sized (now rows) (now twins)) (store (now table) (now originals)) (now scratch) j ⌝ }
-    ensures { λ r. ⌜ Reaches (first-at (framed (now (frame .entry))) (now (formulas .entry)) plain j) j (framed (now (frame .entry))) (now (formulas .entry)) (sized (now (rows .entry)) (now (twins .entry))) (store (now (table .entry)) (now (originals .entry))) (store (now (table .exit)) (now (originals .exit))) (now (scratch .entry)) (now (scratch .exit)) (stepped (now (rows .exit)) (now (twins .exit)) r) ⌝ }
-{
-    let r = read_row(formulas, j);
-    if r.kind < 3 {
-        return 0;
-    }
-    if keeps_side(r.kind, false) {
-        return image(
-            formulas,
-            r.a as usize,
-            frame,
-            rows,
-            twins,
-            table,
-            originals,
-            scratch,
-        );
-    }
-    negated_image(
+    build(
         formulas,
-        r.a as usize,
+        i,
+        false,
         frame,
         rows,
         twins,
@@ -113,63 +51,7 @@ fn image_start(
     )
 }
 
-// Row j, from the step of its first operand: the second operand, then the join.
-fn image_up(
-    formulas: &[u16],
-    j: usize,
-    l: u16,
-    frame: &[usize; 5],
-    rows: &mut usize,
-    twins: &mut usize,
-    table: &mut [u16],
-    originals: &mut [u16],
-    scratch: &mut [u16],
-) -> u16
-    requires { ⌜ AsksUp (framed (now frame)) (now formulas) (store (now table) (now originals)) (now scratch) j (stepped (now rows) (now twins) l) ⌝ }
-    ensures { λ r. ⌜ Rises plain (framed (now (frame .entry))) (now (formulas .entry)) (store (now (table .entry)) (now (originals .entry))) (store (now (table .exit)) (now (originals .exit))) (now (scratch .entry)) (now (scratch .exit)) j (stepped (now (rows .entry)) (now (twins .entry)) l) (stepped (now (rows .exit)) (now (twins .exit)) r) ⌝ }
-{
-    if l == 65535 {
-        return l;
-    }
-    let w = read_row(formulas, j);
-    if w.kind < 3 {
-        return leaf(w, false, frame, rows, twins, table, originals);
-    }
-    if w.kind == 3 {
-        return l;
-    }
-    let b = image(
-        formulas,
-        w.b as usize,
-        frame,
-        rows,
-        twins,
-        table,
-        originals,
-        scratch,
-    );
-    if b == 65535 {
-        return b;
-    }
-    if w.kind == 7 {
-        return equivalent(
-            formulas,
-            j,
-            false,
-            l,
-            b,
-            frame,
-            rows,
-            twins,
-            table,
-            originals,
-            scratch,
-        );
-    }
-    join(rows, table, frame[ROWS], w.kind != 4, l, b)
-}
-
-// The negated image of formula i: constant time if the memo has it, else what building it costs.
+// The negated image of formula i, likewise.
 pub fn negated_image(
     formulas: &[u16],
     i: usize,
@@ -181,84 +63,16 @@ pub fn negated_image(
     scratch: &mut [u16],
 ) -> u16
     requires { ⌜ Asks (framed (now frame)) (now formulas) (sized (now rows) (now twins)) (store (now table) (now originals)) (now scratch) i ⌝ }
-    ensures { λ r. ⌜ Reaches (image-at (framed (now (frame .entry))) (now (formulas .entry)) negated i) (i + 1) (framed (now (frame .entry))) (now (formulas .entry)) (sized (now (rows .entry)) (now (twins .entry))) (store (now (table .entry)) (now (originals .entry))) (store (now (table .exit)) (now (originals .exit))) (now (scratch .entry)) (now (scratch .exit)) (stepped (now (rows .exit)) (now (twins .exit)) r) ⌝ }
+    ensures { λ r. ⌜ Images (image-at (framed (now (frame .entry))) (now (formulas .entry)) negated i) (framed (now (frame .entry))) (now (formulas .entry)) (sized (now (rows .entry)) (now (twins .entry))) (store (now (table .entry)) (now (originals .entry))) (store (now (table .exit)) (now (originals .exit))) (now (scratch .entry)) (now (scratch .exit)) (stepped (now (rows .exit)) (now (twins .exit)) r) ⌝ }
 {
     let known = scratch[frame[FORMULAS] + i];
-    if is_row(known) {
+    if known != 0 {
         return known - 1;
     }
-    negated_image_anew(formulas, i, frame, rows, twins, table, originals, scratch)
-}
-
-// The negated image of formula i, whatever the memo has of row i: a step for it and for each row below it that the memo has not.
-pub fn negated_image_anew(
-    formulas: &[u16],
-    i: usize,
-    frame: &[usize; 5],
-    rows: &mut usize,
-    twins: &mut usize,
-    table: &mut [u16],
-    originals: &mut [u16],
-    scratch: &mut [u16],
-) -> u16
-    requires { ⌜ Asks (framed (now frame)) (now formulas) (sized (now rows) (now twins)) (store (now table) (now originals)) (now scratch) i ⌝ }
-    ensures { λ r. ⌜ Reaches (image-at (framed (now (frame .entry))) (now (formulas .entry)) negated i) (i + 1) (framed (now (frame .entry))) (now (formulas .entry)) (sized (now (rows .entry)) (now (twins .entry))) (store (now (table .entry)) (now (originals .entry))) (store (now (table .exit)) (now (originals .exit))) (now (scratch .entry)) (now (scratch .exit)) (stepped (now (rows .exit)) (now (twins .exit)) r) ⌝ }
-{
-    let mut j = descend(formulas, i, true, frame, scratch);
-    let mut s = negated_image_start(formulas, j, frame, rows, twins, table, originals, scratch);
-    while j <= i {
-        let k = frame[FORMULAS] + j;
-        let word = scratch[k] as usize;
-        s = negated_image_up(
-            formulas,
-            j,
-            s,
-            frame,
-            rows,
-            twins,
-            table,
-            originals,
-            scratch,
-        );
-        note(scratch, k, s);
-        j = over(i, j, word);
-    }
-    s
-}
-
-// The first operand of row j, on its side.
-fn negated_image_start(
-    formulas: &[u16],
-    j: usize,
-    frame: &[usize; 5],
-    rows: &mut usize,
-    twins: &mut usize,
-    table: &mut [u16],
-    originals: &mut [u16],
-    scratch: &mut [u16],
-) -> u16
-    requires { ⌜ Asks (framed (now frame)) (now formulas) (sized (now rows) (now twins)) (store (now table) (now originals)) (now scratch) j ⌝ }
-    ensures { λ r. ⌜ Reaches (first-at (framed (now (frame .entry))) (now (formulas .entry)) negated j) j (framed (now (frame .entry))) (now (formulas .entry)) (sized (now (rows .entry)) (now (twins .entry))) (store (now (table .entry)) (now (originals .entry))) (store (now (table .exit)) (now (originals .exit))) (now (scratch .entry)) (now (scratch .exit)) (stepped (now (rows .exit)) (now (twins .exit)) r) ⌝ }
-{
-    let r = read_row(formulas, j);
-    if r.kind < 3 {
-        return 0;
-    }
-    if keeps_side(r.kind, true) {
-        return negated_image(
-            formulas,
-            r.a as usize,
-            frame,
-            rows,
-            twins,
-            table,
-            originals,
-            scratch,
-        );
-    }
-    image(
+    build(
         formulas,
-        r.a as usize,
+        i,
+        true,
         frame,
         rows,
         twins,
@@ -268,148 +82,8 @@ fn negated_image_start(
     )
 }
 
-// Row j, from the step of its first operand: the second operand, then the join.
-fn negated_image_up(
-    formulas: &[u16],
-    j: usize,
-    l: u16,
-    frame: &[usize; 5],
-    rows: &mut usize,
-    twins: &mut usize,
-    table: &mut [u16],
-    originals: &mut [u16],
-    scratch: &mut [u16],
-) -> u16
-    requires { ⌜ AsksUp (framed (now frame)) (now formulas) (store (now table) (now originals)) (now scratch) j (stepped (now rows) (now twins) l) ⌝ }
-    ensures { λ r. ⌜ Rises negated (framed (now (frame .entry))) (now (formulas .entry)) (store (now (table .entry)) (now (originals .entry))) (store (now (table .exit)) (now (originals .exit))) (now (scratch .entry)) (now (scratch .exit)) j (stepped (now (rows .entry)) (now (twins .entry)) l) (stepped (now (rows .exit)) (now (twins .exit)) r) ⌝ }
-{
-    if l == 65535 {
-        return l;
-    }
-    let r = read_row(formulas, j);
-    if r.kind < 3 {
-        return leaf(r, true, frame, rows, twins, table, originals);
-    }
-    if r.kind == 3 {
-        return l;
-    }
-    let b = negated_image(
-        formulas,
-        r.b as usize,
-        frame,
-        rows,
-        twins,
-        table,
-        originals,
-        scratch,
-    );
-    if b == 65535 {
-        return b;
-    }
-    if r.kind == 7 {
-        return equivalent(
-            formulas,
-            j,
-            true,
-            l,
-            b,
-            frame,
-            rows,
-            twins,
-            table,
-            originals,
-            scratch,
-        );
-    }
-    join(rows, table, frame[ROWS], r.kind == 4, l, b)
-}
-
-// (a and b) or (not a and not b), with row i's operands, from the rows of a and b; crossed, (a and not b) or (not a and b).
-fn equivalent(
-    formulas: &[u16],
-    i: usize,
-    crossed: bool,
-    left: u16,
-    right: u16,
-    frame: &[usize; 5],
-    rows: &mut usize,
-    twins: &mut usize,
-    table: &mut [u16],
-    originals: &mut [u16],
-    scratch: &mut [u16],
-) -> u16
-    requires { ⌜ AsksEquivalent (framed (now frame)) (now formulas) (sized (now rows) (now twins)) (store (now table) (now originals)) (now scratch) i left right ⌝ }
-    ensures { λ r. ⌜ Reaches (equivalent-at (framed (now (frame .entry))) (now (formulas .entry)) i crossed left right) i (framed (now (frame .entry))) (now (formulas .entry)) (sized (now (rows .entry)) (now (twins .entry))) (store (now (table .entry)) (now (originals .entry))) (store (now (table .exit)) (now (originals .exit))) (now (scratch .entry)) (now (scratch .exit)) (stepped (now (rows .exit)) (now (twins .exit)) r) ⌝ }
-{
-    let l = join(rows, table, frame[ROWS], false, left, right);
-    if l == 65535 {
-        return l;
-    }
-    let r = pair(
-        formulas,
-        i,
-        crossed,
-        frame,
-        rows,
-        twins,
-        table,
-        originals,
-        scratch,
-    );
-    if r == 65535 {
-        return r;
-    }
-    join(rows, table, frame[ROWS], true, l, r)
-}
-
-// Not a and not b, with row i's operands; crossed, not a and b.
-fn pair(
-    formulas: &[u16],
-    i: usize,
-    crossed: bool,
-    frame: &[usize; 5],
-    rows: &mut usize,
-    twins: &mut usize,
-    table: &mut [u16],
-    originals: &mut [u16],
-    scratch: &mut [u16],
-) -> u16
-    requires { ⌜ AsksPair (framed (now frame)) (now formulas) (sized (now rows) (now twins)) (store (now table) (now originals)) (now scratch) i ⌝ }
-    ensures { λ r. ⌜ Reaches (pair-at (framed (now (frame .entry))) (now (formulas .entry)) i crossed) i (framed (now (frame .entry))) (now (formulas .entry)) (sized (now (rows .entry)) (now (twins .entry))) (store (now (table .entry)) (now (originals .entry))) (store (now (table .exit)) (now (originals .exit))) (now (scratch .entry)) (now (scratch .exit)) (stepped (now (rows .exit)) (now (twins .exit)) r) ⌝ }
-{
-    let w = read_row(formulas, i);
-    let l = negated_image(
-        formulas,
-        w.a as usize,
-        frame,
-        rows,
-        twins,
-        table,
-        originals,
-        scratch,
-    );
-    if l == 65535 {
-        return l;
-    }
-    let r = operand(
-        formulas,
-        w.b as usize,
-        !crossed,
-        frame,
-        rows,
-        twins,
-        table,
-        originals,
-        scratch,
-    );
-    if r == 65535 {
-        return r;
-    }
-    join(rows, table, frame[ROWS], false, l, r)
-}
-
-// The image of formula i, or its negated image.
-fn operand(
+// Formula i, built on a side and noted in the memo.
+fn build(
     formulas: &[u16],
     i: usize,
     not: bool,
@@ -421,7 +95,202 @@ fn operand(
     scratch: &mut [u16],
 ) -> u16
     requires { ⌜ Asks (framed (now frame)) (now formulas) (sized (now rows) (now twins)) (store (now table) (now originals)) (now scratch) i ⌝ }
-    ensures { λ r. ⌜ Reaches (image-at (framed (now (frame .entry))) (now (formulas .entry)) (side not) i) (i + 1) (framed (now (frame .entry))) (now (formulas .entry)) (sized (now (rows .entry)) (now (twins .entry))) (store (now (table .entry)) (now (originals .entry))) (store (now (table .exit)) (now (originals .exit))) (now (scratch .entry)) (now (scratch .exit)) (stepped (now (rows .exit)) (now (twins .exit)) r) ⌝ }
+    ensures { λ r. ⌜ Images (image-at (framed (now (frame .entry))) (now (formulas .entry)) (side not) i) (framed (now (frame .entry))) (now (formulas .entry)) (sized (now (rows .entry)) (now (twins .entry))) (store (now (table .entry)) (now (originals .entry))) (store (now (table .exit)) (now (originals .exit))) (now (scratch .entry)) (now (scratch .exit)) (stepped (now (rows .exit)) (now (twins .exit)) r) ⌝ }
+{
+    let row = step(
+        formulas,
+        i,
+        not,
+        frame,
+        rows,
+        twins,
+        table,
+        originals,
+        scratch,
+    );
+    if row == NO_ROOM {
+        return row;
+    }
+    let k = word_of(frame, i, not);
+    scratch[k] = row + 1;
+    row
+}
+
+// The step of row i, by its kind: "not" changes sides, and so does the left of "implies"; "and" joins by "or" if negated, the others if not.
+fn step(
+    formulas: &[u16],
+    i: usize,
+    not: bool,
+    frame: &[usize; 5],
+    rows: &mut usize,
+    twins: &mut usize,
+    table: &mut [u16],
+    originals: &mut [u16],
+    scratch: &mut [u16],
+) -> u16
+    requires { ⌜ Asks (framed (now frame)) (now formulas) (sized (now rows) (now twins)) (store (now table) (now originals)) (now scratch) i ⌝ }
+    ensures { λ r. ⌜ Images (image-at (framed (now (frame .entry))) (now (formulas .entry)) (side not) i) (framed (now (frame .entry))) (now (formulas .entry)) (sized (now (rows .entry)) (now (twins .entry))) (store (now (table .entry)) (now (originals .entry))) (store (now (table .exit)) (now (originals .exit))) (now (scratch .entry)) (now (scratch .exit)) (stepped (now (rows .exit)) (now (twins .exit)) r) ⌝ }
+{
+    let w = read_row(formulas, i);
+    if w.kind < NOT {
+        return leaf(w, not, frame, rows, twins, table, originals);
+    }
+    if w.kind == NOT {
+        return sided(
+            formulas,
+            w.a as usize,
+            !not,
+            frame,
+            rows,
+            twins,
+            table,
+            originals,
+            scratch,
+        );
+    }
+    if w.kind == EQUIVALENT {
+        return equivalent(
+            formulas,
+            i,
+            not,
+            frame,
+            rows,
+            twins,
+            table,
+            originals,
+            scratch,
+        );
+    }
+    let left = (w.kind == IMPLIES) != not;
+    let or = (w.kind == AND) == not;
+    pair(
+        formulas,
+        i,
+        left,
+        not,
+        or,
+        frame,
+        rows,
+        twins,
+        table,
+        originals,
+        scratch,
+    )
+}
+
+// Row i as (a and b) or (not a and not b); negated, (a and not b) or (not a and b).
+fn equivalent(
+    formulas: &[u16],
+    i: usize,
+    not: bool,
+    frame: &[usize; 5],
+    rows: &mut usize,
+    twins: &mut usize,
+    table: &mut [u16],
+    originals: &mut [u16],
+    scratch: &mut [u16],
+) -> u16
+    requires { ⌜ AsksPair (framed (now frame)) (now formulas) (sized (now rows) (now twins)) (store (now table) (now originals)) (now scratch) i ⌝ }
+    ensures { λ r. ⌜ Images (equivalent-at (framed (now (frame .entry))) (now (formulas .entry)) i not) (framed (now (frame .entry))) (now (formulas .entry)) (sized (now (rows .entry)) (now (twins .entry))) (store (now (table .entry)) (now (originals .entry))) (store (now (table .exit)) (now (originals .exit))) (now (scratch .entry)) (now (scratch .exit)) (stepped (now (rows .exit)) (now (twins .exit)) r) ⌝ }
+{
+    let l = pair(
+        formulas,
+        i,
+        false,
+        not,
+        false,
+        frame,
+        rows,
+        twins,
+        table,
+        originals,
+        scratch,
+    );
+    if l == NO_ROOM {
+        return l;
+    }
+    let r = pair(
+        formulas,
+        i,
+        true,
+        !not,
+        false,
+        frame,
+        rows,
+        twins,
+        table,
+        originals,
+        scratch,
+    );
+    if r == NO_ROOM {
+        return r;
+    }
+    join(rows, table, frame[ROWS], true, l, r)
+}
+
+// Row i's operands, each on its side, and their join.
+fn pair(
+    formulas: &[u16],
+    i: usize,
+    left: bool,
+    right: bool,
+    or: bool,
+    frame: &[usize; 5],
+    rows: &mut usize,
+    twins: &mut usize,
+    table: &mut [u16],
+    originals: &mut [u16],
+    scratch: &mut [u16],
+) -> u16
+    requires { ⌜ AsksPair (framed (now frame)) (now formulas) (sized (now rows) (now twins)) (store (now table) (now originals)) (now scratch) i ⌝ }
+    ensures { λ r. ⌜ Images (pair-at (framed (now (frame .entry))) (now (formulas .entry)) i left right or) (framed (now (frame .entry))) (now (formulas .entry)) (sized (now (rows .entry)) (now (twins .entry))) (store (now (table .entry)) (now (originals .entry))) (store (now (table .exit)) (now (originals .exit))) (now (scratch .entry)) (now (scratch .exit)) (stepped (now (rows .exit)) (now (twins .exit)) r) ⌝ }
+{
+    let w = read_row(formulas, i);
+    let l = sided(
+        formulas,
+        w.a as usize,
+        left,
+        frame,
+        rows,
+        twins,
+        table,
+        originals,
+        scratch,
+    );
+    if l == NO_ROOM {
+        return l;
+    }
+    let r = sided(
+        formulas,
+        w.b as usize,
+        right,
+        frame,
+        rows,
+        twins,
+        table,
+        originals,
+        scratch,
+    );
+    if r == NO_ROOM {
+        return r;
+    }
+    join(rows, table, frame[ROWS], or, l, r)
+}
+
+// The image of formula i, or its negated image.
+pub fn sided(
+    formulas: &[u16],
+    i: usize,
+    not: bool,
+    frame: &[usize; 5],
+    rows: &mut usize,
+    twins: &mut usize,
+    table: &mut [u16],
+    originals: &mut [u16],
+    scratch: &mut [u16],
+) -> u16
+    requires { ⌜ Asks (framed (now frame)) (now formulas) (sized (now rows) (now twins)) (store (now table) (now originals)) (now scratch) i ⌝ }
+    ensures { λ r. ⌜ Images (image-at (framed (now (frame .entry))) (now (formulas .entry)) (side not) i) (framed (now (frame .entry))) (now (formulas .entry)) (sized (now (rows .entry)) (now (twins .entry))) (store (now (table .entry)) (now (originals .entry))) (store (now (table .exit)) (now (originals .exit))) (now (scratch .entry)) (now (scratch .exit)) (stepped (now (rows .exit)) (now (twins .exit)) r) ⌝ }
 {
     if not {
         return negated_image(formulas, i, frame, rows, twins, table, originals, scratch);

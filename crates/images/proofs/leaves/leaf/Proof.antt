@@ -9,54 +9,49 @@ use Rattle.formula_builder.proofs.twin_row.Reads as twin-row-reads
 use mathlib.Core.Path.{refl}
 use Rattle.normal_form.specs.Builder.{plain, negated}
 use Rattle.formula_builder.proofs.Steps.{builds-as}
-use Rattle.images.proofs.Rising.{leaf-twin, leaf-copied, leaf-constant}
+use Rattle.images.proofs.Leaf.{leaf-twin, leaf-copied, leaf-constant}
 use Rattle.formula_builder.specs.Inner.Held.{framed}
 
 twin-row-requires : tie.Need-twin-row-requires
-twin-row-requires c κs = (c .before .before .before .before .before .before .before .before .before .pre .ready, c .before .before .before .before .before .before .before .before .before .pre .variable (c .before .before .before .before .before .if1 .taken))
-
-same-length : tie.Need-same-length
-same-length c = search needs
-
-same-length-2 : tie.Need-same-length-2
-same-length-2 c = search needs
+twin-row-requires c κs =
+    let one = c .before .before .before .before .before in
+    let start = one .before .before .before .before in
+    (start .pre .ready, start .pre .variable (one .if1 .taken))
 
 returns : tie.Need-returns
-returns c = rw (c .before .before .before .before .before .before .before .before .before .if2 .taken) (builds-as (leaf-twin (framed (c .before .before .before .before .before .before .before .before .before .before .before .before .before .before .args .frame .now) .variables) (c .before .before .before .before .before .before .before .before .before .before .before .before .before .before .args .w) (c .before .before .before .before .before .before .before .before .before .before .if1 .taken)) (c .before .before .before .before .twin-row .ensures))
-
-element-copy-out-row : tie.Need-element-copy-out-row
-element-copy-out-row c = search needs
-
-row-requires : tie.Need-row-requires
-row-requires c κs = search needs
-
-same-length-3 : tie.Need-same-length-3
-same-length-3 c = search needs
+returns c =
+    let made = c .before .before .before .before in
+    let two = made .before .before .before .before .before in
+    let one = two .before in
+    let start = one .before .before .before .before in
+    rw (two .if2 .taken)
+    (builds-as (leaf-twin (framed (start .args .frame .now) .variables) (start .args .w) (one .if1 .taken))
+    (made .twin-row .ensures))
 
 returns-2 : tie.Need-returns-2
-returns-2 c = rw (c .before .before .before .before .before .before .if2 .left) (builds-as (leaf-copied (framed (c .before .before .before .before .before .before .before .before .before .before .before .args .frame .now) .variables) (c .before .before .before .before .before .before .before .before .before .before .before .args .w) (c .before .before .before .before .before .before .before .if1 .taken) (c .before .before .before .before .before .before .before .before .before .before .before .pre .unused (c .before .before .before .before .before .before .before .if1 .taken))) (c .before .before .row .ensures (framed (c .before .before .before .before .before .before .before .before .before .before .before .args .frame .now)) (c .before .before .before .before .before .before .before .before .before .before .before .args .twins .now) (c .before .before .before .before .before .before .before .before .before .before .before .args .originals .now) refl (c .before .before .before .before .before .before .before .before .before .before .before .pre .ready)))
-
-sub-result : tie.Need-sub-result
-sub-result c = search needs
+returns-2 c =
+    let made = c .before .before in
+    let two = made .before .before .before .before in
+    let one = two .before in
+    let start = one .before .before .before .before in
+    let frame = framed (start .args .frame .now) in
+    let variable = one .if1 .taken in
+    rw (two .if2 .left)
+    (builds-as (leaf-copied (frame .variables) (start .args .w) variable (start .pre .unused variable))
+    (made .row .ensures frame (start .args .twins .now) (start .args .originals .now) refl (start .pre .ready)))
 
 returns-3 : tie.Need-returns-3
-returns-3 c = rw (c .before .if3 .taken) (leaf-constant negated (c .before .before .before .before .before .before .args .w) (c .before .before .before .before .before .before .pre) (c .before .before .if1 .left))
+returns-3 c =
+    let start = c .before .before .before .before .before .before in
+    rw (c .before .if3 .taken) (leaf-constant negated (start .args .w) (start .pre) (c .before .before .if1 .left))
 
 returns-4 : tie.Need-returns-4
-returns-4 c = rw (c .if3 .left) (leaf-constant plain (c .before .before .before .before .before .args .w) (c .before .before .before .before .before .pre) (c .before .if1 .left))
+returns-4 c =
+    let start = c .before .before .before .before .before in
+    rw (c .if3 .left) (leaf-constant plain (start .args .w) (start .pre) (c .before .if1 .left))
 
 pub leaf-spec : {M : Type 1} → statement M
 leaf-spec =
     tie.close
-    (tie.spec
-    twin-row-requires
-    same-length
-    same-length-2
-    returns
-    element-copy-out-row
-    row-requires
-    same-length-3
-    returns-2
-    sub-result
-    returns-3
-    returns-4)
+    (tie.spec twin-row-requires (λ c. search needs) (λ c. search needs) returns (λ c. search needs) (λ c κs. search needs) (λ c. search needs)
+    returns-2 (λ c. search needs) returns-3 returns-4)
