@@ -21,7 +21,7 @@ use Rattle.formula_builder.proofs.Steps.{join-left-true}
 use Rattle.images.specs.Inner.Images.{tree}
 use Rattle.atom_sets.specs.Inner.Sets.{lacks, Sets}
 use Rattle.conditions.specs.declared.Target.{Target}
-use Rattle.conditions.specs.Inner.Conditions.{atom-of, acts, effect-rows, EffectSource, Unnamed, AtomSets}
+use Rattle.conditions.specs.Inner.Conditions.{atom-of, acts, atom-row, effect-rows, EffectSource, Unnamed, AtomSets}
 use Rattle.conditions.proofs.Atoms.{touch-other, other-atom}
 use Rattle.conditions.proofs.Rows.{both-lower, under-lower, known-kind, of-atom, of-both, of-under}
 
@@ -82,7 +82,7 @@ module _ (frame : Frame) (formulas effects scratch : List ℕ) (source : EffectS
         }
 
     unnamed-empty : row-at effects i .kind ≡ 0 → Unnamed frame formulas effects clear v i
-    unfolding acts effect-kind
+    unfolding acts effect-kind atom-row
     unnamed-empty k =
         record {
           idle = λ t c e.
@@ -94,6 +94,7 @@ module _ (frame : Frame) (formulas effects scratch : List ℕ) (source : EffectS
         → (row-at effects i .kind ≡ 4 → ⊥)
         → (v ≡ row-at effects i .a → clear ≡ eqb (row-at effects i .kind) 2 → ⊥)
         → Unnamed frame formulas effects clear v i
+    unfolding atom-row
     unnamed-atom three four other =
         record {
           idle = λ t c e.

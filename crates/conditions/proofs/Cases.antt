@@ -1,5 +1,5 @@
--- What is seen of a row, and what the code answers on the way up, in each case. Assumes nothing.
-use Prim.Native.Nat.{ℕ, _+_, _-_, _≤_, _<_}
+-- What the code answers for an effect row, in each case. Assumes nothing.
+use Prim.Native.Nat.{ℕ, _-_, _≤_, _<_}
 use native.Mathlib.Omega.{arith}
 use mathlib.Core.Path.{_≡_, refl, sym, ap, _∙_}
 use mathlib.Core.Bool.{Bool, true, false, cond, not}
@@ -7,424 +7,288 @@ use mathlib.Core.List.{List}
 use lib.ListN.{length}
 use lib.Dec.{eqb}
 use borrow.Author.Tests.{eq-eqb, ne-eqb}
-use Rattle.task.specs.Bounded.{upto}
-use Rattle.task.specs.Table.{Row, row-at, effect-kind}
+use Rattle.task.specs.Table.{Row, row-at}
 use Rattle.task.proofs.Bounded.{length-upto}
-use Rattle.normal_form.specs.Builder.{Build, give, bind, join, Polarity, plain, negated, image-of-false, image-of-true}
+use Rattle.normal_form.specs.Builder.{Build, give, bind, join, pair, Polarity, plain, negated, opposite, image-of-false, image-of-true}
 use Rattle.normal_form.specs.Conditions.{guarded}
-use Rattle.normal_form.specs.Growth.{Steady}
-use Rattle.normal_form.proofs.Growth.{steady-give, steady-bind, steady-join, steady-cond}
+use Rattle.normal_form.proofs.Growth.{steady-give, steady-bind, steady-join}
 use Rattle.normal_form.proofs.Steady.{steady-guarded}
 use Rattle.formula_builder.specs.declared.Words.{Words}
 use Rattle.formula_builder.specs.declared.Frame.{Frame}
 use Rattle.formula_builder.specs.declared.Size.{Size}
 use Rattle.formula_builder.specs.declared.Step.{Step}
-use Rattle.formula_builder.specs.Inner.Held.{Store, row-of, held, size-of, side}
+use Rattle.formula_builder.specs.Inner.Held.{Store, row-of, held, size-of, stepped, side}
 use Rattle.formula_builder.proofs.Steps.{builds-done, falsity-small}
-use Rattle.images.specs.Inner.Images.{tree, image-at, Known, Images, Asks as AsksImage}
-use Rattle.images.proofs.Memos.{steady-image-at, known-grows, done-grows, done-known}
+use Rattle.images.specs.Inner.Images.{tree, image-at, Images, Asks as AsksImage}
+use Rattle.images.proofs.Memos.{steady-image-at}
+use Rattle.atom_sets.specs.Inner.Sets.{lacks, InSet}
 use Rattle.conditions.specs.declared.Target.{Target}
-use Rattle.conditions.specs.Inner.Conditions.{atom-of, acts, condition-at, Looks, AsksKept, Recalls, Keeps, Asks, Conditions}
+use Rattle.conditions.specs.Inner.Conditions.{atom-of, acts, atom-row, condition-at, AsksKept, Recalls, Asks, Conditions}
 use Rattle.conditions.specs.Inner.Joins.{AsksJoin, Joined}
-use Rattle.conditions.specs.Inner.Paths.{right-of, onward, Sees, AsksRight, AsksUnder, AsksOnward, Climbs}
-use Rattle.conditions.proofs.Rows.{both-lower, under-lower, under-else, of-atom}
-use Rattle.conditions.proofs.Notes.{steady-condition-at, looks, stays-refl, stays-trans, stays-fewer}
-use Rattle.conditions.proofs.Memos.{conditions-as, conditions-of-images, conditions-leaf, conditions-bind, conditions-stop, conditions-known, conditions-kept}
+use Rattle.conditions.proofs.Rows.{both-lower, under-lower, under-else, of-atom, of-both, of-under}
+use Rattle.conditions.proofs.Notes.{steady-condition-at, looks}
+use Rattle.conditions.proofs.Memos.{conditions-as, asks-next, conditions-of-images, conditions-leaf, conditions-bind, conditions-stop, conditions-known}
 use Rattle.conditions.proofs.Joins.{conditions-joined}
 
-pub truth-small : (p : Polarity) → image-of-true p < 2
+truth-small : (p : Polarity) → image-of-true p < 2
 truth-small plain = omega arith
 truth-small negated = omega arith
 
--- What is seen of row e.
-module _ (frame : Frame) (effects notes scratch : List ℕ) (t : Target) (e : ℕ) where
-  sees-word :
-      (w : ℕ)
+-- false or true, on either side
+pub atom-small : (t : Target) (w : Row) → atom-row t w < 2
+unfolding atom-row
+atom-small t w = go (acts (atom-of t) _ (w .a))
+  where
+    go : (b : Bool) → cond b (image-of-true (side (t .negated))) (image-of-false (side (t .negated))) < 2
+    go true = truth-small (side (t .negated))
+    go false = falsity-small (side (t .negated))
+
+-- a frame that is the same, as five numbers
+pub lacks-framed :
+    {f g : Frame} (notes : List ℕ) (clear : Bool) (v e : ℕ) {b : Bool} → f ≡ g → b ≡ lacks f notes clear v e → b ≡ lacks g notes clear v e
+lacks-framed notes clear v e p h = rw (← p) h
+
+side-not : (b : Bool) → opposite (side b) ≡ side (not b)
+side-not true = refl
+side-not false = refl
+
+-- Row e, with what its condition asks.
+module _ {frame : Frame} {formulas effects notes : List ℕ} {t : Target} {at : Size} {before : Store} {scratch : List ℕ} {e : ℕ} (a : Asks frame formulas effects notes t at before scratch e) where
+  pub kept-asks : AsksKept frame notes scratch t e
+  kept-asks = record { looks = looks a (a .noted .columns); variable = a .variable; formulas = a .source .limit; memo = a .effect-source .memo }
+
+  pub in-set : InSet frame (t .variable) e
+  in-set =
+      record {
+        variables = omega (arith, a .ready .variables);
+        limit = a .effect-source .limit;
+        variable = a .variable;
+        effect = a .effect;
+      }
+
+  -- a lower row
+  lower-asks : (i : ℕ) → i < e → Asks frame formulas effects notes t at before scratch i
+  lower-asks i h =
+      record {
+        source = a .source;
+        effect-source = a .effect-source;
+        ready = a .ready;
+        noted = a .noted;
+        memo = a .memo;
+        effect-memo = a .effect-memo;
+        variable = a .variable;
+        effect = omega (arith, a .effect, h);
+      }
+
+  pub answers-known :
+      {w : ℕ}
+      → Recalls frame notes scratch t e w
       → 0 < w
-      → ((formulas : List ℕ) (at : Size) (before : Store)
-      → Asks frame formulas effects notes t at before scratch e
-      → Known (condition-at frame formulas effects t e) (held at before) (w - 1))
-      → Sees frame effects notes scratch t e w
-  sees-word w h k = record { known = λ formulas at before a g. k formulas at before a; composed = λ q. absurd (omega (arith, h, q)) }
+      → Conditions (condition-at frame formulas effects t e) frame formulas effects notes at before before scratch
+      (stepped (at .rows) (at .twins) (w - 1))
+  answers-known r h = conditions-known a (r .known formulas effects (held at before) (a .noted) (a .effect-memo) h)
 
   -- a constant
-  sees-constant :
+  constant :
       (x : ℕ)
       → x < 2
-      → ((formulas : List ℕ) (at : Size) (before : Store)
-      → Asks frame formulas effects notes t at before scratch e
-      → condition-at frame formulas effects t e ≡ give x)
-      → Sees frame effects notes scratch t e (x + 1)
+      → condition-at frame formulas effects t e ≡ give x
+      → Conditions (condition-at frame formulas effects t e) frame formulas effects notes at before before scratch (stepped (at .rows) (at .twins) x)
   unfolding held give
-  sees-constant x h k =
-      sees-word (x + 1) (omega arith)
-      (λ formulas at before a.
-      let same : x + 1 - 1 ≡ x = omega arith in
-      rw same
+  constant x h q =
+      conditions-known a
       (record {
-        again = ap (λ (m : Build ℕ). m (held at before)) (k formulas at before a);
+        again = ap (λ (m : Build ℕ). m (held at before)) q;
         below = rw (length-upto (at .rows) (row-at (before .table))) (omega (arith, h, a .ready .two));
-      }))
+      })
 
-  pub sees-kept : (w : ℕ) → Recalls frame notes scratch t e w → 0 < w → Sees frame effects notes scratch t e w
-  sees-kept w r h = sees-word w h (λ formulas at before a. r .known formulas effects (held at before) (a .noted) (a .effect-memo) h)
+  pub answers-lacking :
+      {x : ℕ}
+      → true ≡ lacks frame notes (t .clear) (t .variable) e
+      → x ≡ image-of-false (side (t .negated))
+      → Conditions (condition-at frame formulas effects t e) frame formulas effects notes at before before scratch (stepped (at .rows) (at .twins) x)
+  answers-lacking h q =
+      let idle = a .noted .sets .alone formulas (t .clear) (t .variable) e (a .variable) (a .effect) (sym h) .idle t refl refl in
+      rw q (constant (image-of-false (side (t .negated))) (falsity-small (side (t .negated))) idle)
 
   -- by its words
   module _ (w : Words) (q : row-of w ≡ row-at effects e) where
-    pub sees-none : 3 ≤ w .kind → Sees frame effects notes scratch t e 0
-    sees-none h =
-        record {
-          known = λ formulas at before a g. absurd (omega (arith, g));
-          composed = λ _. omega (arith, ap (λ (r : Row). r .kind) q, h);
-        }
+    kind-read : w .kind ≡ row-at effects e .kind
+    kind-read = ap (λ (r : Row). r .kind) q
 
-    module _ (low : w .kind < 3) where
-      constant :
-          (b : Bool)
-          → b ≡ acts (atom-of t) (effect-kind (w .kind)) (w .a)
-          → (formulas : List ℕ) (at : Size) (before : Store)
-          → Asks frame formulas effects notes t at before scratch e
-          → condition-at frame formulas effects t e ≡ give (cond b (image-of-true (side (t .negated))) (image-of-false (side (t .negated))))
-      constant b h formulas at before a =
-          of-atom frame formulas effects scratch (a .effect-source) e (a .effect) t
-          (λ k. omega (arith, ap (λ (r : Row). r .kind) q, low, k))
-          (λ k. omega (arith, ap (λ (r : Row). r .kind) q, low, k))
-          ∙ ap
-          (λ (r : Row).
-          give
-          (cond (acts (atom-of t) (effect-kind (r .kind)) (r .a)) (image-of-true (side (t .negated))) (image-of-false (side (t .negated)))))
-          (sym q)
-          ∙ ap (λ (x : Bool). give (cond x (image-of-true (side (t .negated))) (image-of-false (side (t .negated))))) (sym h)
+    pub answers-atom :
+        {x : ℕ}
+        → w .kind < 3
+        → x ≡ atom-row t (row-of w)
+        → Conditions (condition-at frame formulas effects t e) frame formulas effects notes at before before scratch (stepped (at .rows) (at .twins) x)
+    answers-atom low h =
+        rw (h, q)
+        (constant (atom-row t (row-at effects e)) (atom-small t (row-at effects e))
+        (of-atom frame formulas effects scratch (a .effect-source) e (a .effect) t (λ k. omega (arith, kind-read, low, k))
+        (λ k. omega (arith, kind-read, low, k))))
 
-      pub sees-acts :
-          true ≡ acts (atom-of t) (effect-kind (w .kind)) (w .a) → Sees frame effects notes scratch t e (image-of-true (side (t .negated)) + 1)
-      sees-acts h = sees-constant (image-of-true (side (t .negated))) (truth-small (side (t .negated))) (constant true h)
+    pub composed : 3 ≤ w .kind → 3 ≤ row-at effects e .kind
+    composed h = omega (arith, kind-read, h)
 
-      pub sees-idle :
-          false ≡ acts (atom-of t) (effect-kind (w .kind)) (w .a) → Sees frame effects notes scratch t e (image-of-false (side (t .negated)) + 1)
-      sees-idle h = sees-constant (image-of-false (side (t .negated))) (falsity-small (side (t .negated))) (constant false h)
+    pub is-both : w .kind ≡ 3 → row-at effects e .kind ≡ 3
+    is-both k = sym kind-read ∙ k
 
--- Row e's formula over the condition s of the inner effect.
-module _ {frame : Frame} {formulas effects notes : List ℕ} {t : Target} {s : Step} {before : Store} {scratch : List ℕ} {e : ℕ} (x : AsksUnder frame formulas effects notes t s before scratch e) where
-  abbrev over : Build ℕ
-  over = guarded (frame .variables) (side (t .negated)) (tree frame formulas (row-at effects e .a)) (s .row)
+    pub is-under : 3 ≤ row-at effects e .kind → (w .kind ≡ 3 → ⊥) → row-at effects e .kind ≡ 4
+    is-under c other = under-else frame formulas effects scratch (a .effect-source) e (a .effect) c (λ k. other (kind-read ∙ k))
 
-  pub under-folded :
-      s .row ≡ image-of-false (side (t .negated))
-      → Climbs over frame formulas effects notes notes (frame .effects) (size-of s) before before scratch s
-  unfolding guarded give
-  under-folded h =
-      let a = x .asks in
-      record {
-        conditions =
-            conditions-as (rw (eq-eqb (s .row) (image-of-false (side (t .negated))) h))
-            (conditions-leaf (steady-give (s .row)) (a .noted) (a .memo) (a .effect-memo)
-            (builds-done (x .going) (record { value = refl; state = refl; ready = a .ready; below = x .inner; grew = omega arith })));
-        stays = stays-refl frame notes (frame .effects);
-      }
+-- Row e is both, with the words w.
+module _ {frame : Frame} {formulas effects notes : List ℕ} {t : Target} {at : Size} {before : Store} {scratch : List ℕ} {e : ℕ} (a : Asks frame formulas effects notes t at before scratch e) (three : row-at effects e .kind ≡ 3) (w : Words) (q : row-of w ≡ row-at effects e) where
+  abbrev join-both : ℕ → ℕ → Build ℕ
+  join-both l r = join (side (not (t .negated))) l r
 
-  -- with the words w
-  module _ (w : Words) (q : row-of w ≡ row-at effects e) where
-    pub under-image-asks : AsksImage frame formulas (size-of s) before scratch (w .a)
-    under-image-asks =
-        let a = x .asks in
-        let low = under-lower frame formulas effects scratch (a .effect-source) e (a .effect) (x .under) in
-        record { source = a .source; ready = a .ready; memo = a .memo; formula = omega (arith, ap (λ (r : Row). r .a) q, low .0) }
+  abbrev right-of : ℕ → Build ℕ
+  right-of l = bind (condition-at frame formulas effects t (w .b)) (λ r. join-both l r)
 
-    module _ (h : s .row ≡ image-of-false (side (t .negated)) → ⊥) {after : Store} {s2 : List ℕ} {f : Step} (y : Images (image-at frame formulas (side (t .negated)) (w .a)) frame formulas (size-of s) before after scratch s2 f) where
-      joins : over ≡ bind (image-at frame formulas (side (t .negated)) (w .a)) (λ z. join (side (t .negated)) z (s .row))
-      unfolding guarded image-at
-      joins = rw (ne-eqb (s .row) (image-of-false (side (t .negated))) h, ← q)
+  pub effects-lower : (w .a < e) × (w .b < e)
+  effects-lower =
+      let l = both-lower frame formulas effects scratch (a .effect-source) e (a .effect) three in
+      (omega (arith, l .0, ap (λ (r : Row). r .a) q), omega (arith, l .1, ap (λ (r : Row). r .b) q))
 
-      image : Conditions (image-at frame formulas (side (t .negated)) (w .a)) frame formulas effects notes (size-of s) before after s2 f
-      image =
-          conditions-of-images (steady-image-at frame formulas (side (t .negated)) (w .a)) (x .asks .noted) (x .asks .effect-memo) y
+  pub left-asks : Asks frame formulas effects notes t at before scratch (w .a)
+  left-asks = lower-asks a (w .a) (effects-lower .0)
 
-      pub under-full :
-          f .full ≡ true → Climbs over frame formulas effects notes notes (frame .effects) (size-of s) before after s2 f
-      under-full k =
-          record {
-            conditions =
-                conditions-as joins
-                (conditions-stop (λ z. join (side (t .negated)) z (s .row)) (λ z. steady-join (side (t .negated)) z (s .row)) image k);
-            stays = stays-refl frame notes (frame .effects);
-          }
+  both-reads : condition-at frame formulas effects t e ≡ bind (condition-at frame formulas effects t (w .a)) (λ l. right-of l)
+  unfolding pair
+  both-reads = rw (← (side-not (t .negated)), ap (λ (r : Row). r .a) q, ap (λ (r : Row). r .b) q) (of-both frame formulas effects scratch (a .effect-source) e (a .effect) t three)
 
-      module _ (k : f .full ≡ false) where
-        pub under-join-asks : AsksJoin frame notes e (f .rows) (after .table) (f .row) (s .row)
-        under-join-asks =
-            let m = y .builds .done k in
-            record {
-              looks = looks (x .asks) refl;
-              twins = f .twins;
-              originals = after .originals;
-              ready = m .ready;
-              left = m .below;
-              right = omega (arith, x .inner, m .grew);
-            }
+  -- the left effect's condition is built
+  module _ {notes₁ : List ℕ} {mid : Store} {s1 : List ℕ} {l : Step} (x : Conditions (condition-at frame formulas effects t (w .a)) frame formulas effects notes₁ at before mid s1 l) where
+    pub left-full :
+        l .full ≡ true → Conditions (condition-at frame formulas effects t e) frame formulas effects notes₁ at before mid s1 l
+    left-full g =
+        conditions-as both-reads
+        (conditions-stop (λ l. right-of l)
+        (λ l. steady-bind (steady-condition-at frame formulas effects t (w .b)) (λ r. steady-join (side (not (t .negated))) l r)) x g)
 
-        pub under-done :
-            {notes' : List ℕ} {last : Store} {z : Step}
-            → Joined frame notes notes' t e (t .negated) (size-of f) (f .row) (s .row) after last z
-            → Climbs over frame formulas effects notes notes' (frame .effects) (size-of s) before last s2 z
-        under-done j =
-            let flag : t .negated ≡ false → eqb (row-at effects e .kind) 3 ≡ t .negated =
-            λ p. ne-eqb (row-at effects e .kind) 3 (λ z. omega (arith, z, x .under)) ∙ sym p in
-            record {
-              conditions =
-                  conditions-as joins
-                  (conditions-bind (λ z. join (side (t .negated)) z (s .row)) image k
-                  (conditions-joined (record { ready = y .builds .done k .ready; noted = image .noted k; flag = flag }) (image .memo k)
-                  (image .effect-memo k) j));
-              stays = j .stays;
-            }
+    module _ (g : l .full ≡ false) where
+      pub right-asks : length s1 ≡ length scratch → Asks frame formulas effects notes₁ t (size-of l) mid s1 (w .b)
+      right-asks long = asks-next (w .b) a x g long (omega (arith, effects-lower .1, a .effect))
 
--- The right effect d of row e, with the condition s of the left one.
-module _ {frame : Frame} {formulas effects notes : List ℕ} {t : Target} {s : Step} {before : Store} {scratch : List ℕ} {e d n : ℕ} (x : AsksRight frame formulas effects notes t s before scratch e d n) where
-  join-looks : {notes' : List ℕ} → length notes' ≡ length notes → Looks frame notes' e
-  join-looks {notes'} long =
-      let k = looks {notes' = notes'} (x .asks) long in
-      record { words = k .words; limit = k .limit; variables = k .variables; effect = x .effect }
+      -- and the right one's
+      module _ {notes₂ : List ℕ} {after : Store} {s2 : List ℕ} {r : Step} (y : Conditions (condition-at frame formulas effects t (w .b)) frame formulas effects notes₂ (size-of l) mid after s2 r) where
+        pub right-full :
+            r .full ≡ true → Conditions (condition-at frame formulas effects t e) frame formulas effects notes₂ at before after s2 r
+        right-full k =
+            conditions-as both-reads
+            (conditions-bind (λ l. right-of l) x g
+            (conditions-stop (λ r. join-both (l .row) r) (λ r. steady-join (side (not (t .negated))) (l .row) r) y k))
 
-  join-flag : t .negated ≡ false → eqb (row-at effects e .kind) 3 ≡ not (t .negated)
-  join-flag p = eq-eqb (row-at effects e .kind) 3 (x .both) ∙ ap (λ b. not b) (sym p)
-
-  -- it is known
-  module _ {w : ℕ} (k : Known (condition-at frame formulas effects t d) (held (size-of s) before) w) where
-    pub known-join-asks : AsksJoin frame notes e (s .rows) (before .table) (s .row) w
-    unfolding held
-    known-join-asks =
-        let b : w < length (upto (s .rows) (row-at (before .table))) = k .below in
-        record {
-          looks = join-looks refl;
-          twins = s .twins;
-          originals = before .originals;
-          ready = x .asks .ready;
-          left = x .left;
-          right = rw (length-upto (s .rows) (row-at (before .table))) at b;
-        }
-
-    pub right-known :
-        {notes' : List ℕ} {last : Store} {z : Step}
-        → Joined frame notes notes' t e (not (t .negated)) (size-of s) (s .row) w before last z
-        → Climbs (right-of frame formulas effects t d (s .row)) frame formulas effects notes notes' n (size-of s) before last scratch z
-    unfolding right-of
-    right-known j =
-        let a = x .asks in
-        record {
-          conditions =
-              conditions-bind (λ r. join (side (not (t .negated))) (s .row) r)
-              (conditions-known frame formulas effects t (size-of s) before scratch d w a k) refl
-              (conditions-joined (record { ready = a .ready; noted = a .noted; flag = join-flag }) (a .memo) (a .effect-memo) j);
-          stays = stays-fewer frame (omega (arith, x .room)) (j .stays);
-        }
-
-  -- it is built
-  module _ {notes' : List ℕ} {after : Store} {s2 : List ℕ} {r : Step} (y : Climbs (condition-at frame formulas effects t d) frame formulas effects notes notes' n (size-of s) before after s2 r) where
-    pub right-full :
-        r .full ≡ true
-        → Climbs (right-of frame formulas effects t d (s .row)) frame formulas effects notes notes' n (size-of s) before after s2 r
-    unfolding right-of
-    right-full g =
-        record {
-          conditions =
-              conditions-stop (λ r. join (side (not (t .negated))) (s .row) r) (λ r. steady-join (side (not (t .negated))) (s .row) r)
-              (y .conditions) g;
-          stays = y .stays;
-        }
-
-    module _ (g : r .full ≡ false) where
-      pub right-join-asks : AsksJoin frame notes' e (r .rows) (after .table) (s .row) (r .row)
-      right-join-asks =
-          let m = y .conditions .builds .done g in
-          record {
-            looks = join-looks (y .stays .long);
-            twins = r .twins;
-            originals = after .originals;
-            ready = m .ready;
-            left = omega (arith, x .left, m .grew);
-            right = m .below;
-          }
-
-      pub right-done :
-          {notes'' : List ℕ} {last : Store} {z : Step}
-          → Joined frame notes' notes'' t e (not (t .negated)) (size-of r) (s .row) (r .row) after last z
-          → Climbs (right-of frame formulas effects t d (s .row)) frame formulas effects notes notes'' n (size-of s) before last s2 z
-      unfolding right-of
-      right-done j =
-          let c = y .conditions in
-          record {
-            conditions =
-                conditions-bind (λ r. join (side (not (t .negated))) (s .row) r) c g
-                (conditions-joined (record { ready = c .builds .done g .ready; noted = c .noted g; flag = join-flag }) (c .memo g)
-                (c .effect-memo g) j);
-            stays = stays-trans frame (y .stays) (stays-fewer frame (omega (arith, x .room)) (j .stays));
-          }
-
-pub steady-onward :
-    (frame : Frame) (formulas effects : List ℕ) (t : Target) (pass : Bool) (e l : ℕ) → Steady (onward frame formulas effects t pass e l)
-unfolding onward right-of
-steady-onward frame formulas effects t pass e l =
-    steady-cond pass (steady-give l)
-    (steady-cond (eqb (row-at effects e .kind) 3)
-    (steady-bind (steady-condition-at frame formulas effects t (row-at effects e .b)) (λ r. steady-join (side (not (t .negated))) l r))
-    (steady-guarded (frame .variables) (side (t .negated)) (tree frame formulas (row-at effects e .a)) l))
-
--- Row e, with the condition s of the row to which the way goes.
-module _ {frame : Frame} {formulas effects notes : List ℕ} {t : Target} {s : Step} {before : Store} {scratch : List ℕ} {pass : Bool} {e n : ℕ} (x : AsksOnward frame formulas effects notes t s before scratch pass e n) where
-  row-within : s .row < s .rows
-  unfolding held
-  row-within =
-      let b : s .row < length (upto (s .rows) (row-at (before .table))) = x .known .below in
-      rw (length-upto (s .rows) (row-at (before .table))) at b
-
-  -- it is passed
-  climbs-pass :
-      pass ≡ true
-      → Climbs (onward frame formulas effects t pass e (s .row)) frame formulas effects notes notes n (size-of s) before before scratch s
-  unfolding onward give
-  climbs-pass went =
-      let a = x .below .asks in
-      record {
-        conditions =
-            conditions-as (rw went)
-            (conditions-leaf (steady-give (s .row)) (a .noted) (a .memo) (a .effect-memo)
-            (builds-done (x .going) (record { value = refl; state = refl; ready = a .ready; below = row-within; grew = omega arith })));
-        stays = stays-refl frame notes n;
-      }
-
-  -- it is not
-  module _ (left : pass ≡ false) where
-    pub asks-on : AsksOnward frame formulas effects notes t s before scratch false e n
-    asks-on = rw left at x
-
-    pub climbs-on :
-        {notes' : List ℕ} {after : Store} {s2 : List ℕ} {r : Step}
-        → Climbs (onward frame formulas effects t false e (s .row)) frame formulas effects notes notes' n (size-of s) before after s2 r
-        → Climbs (onward frame formulas effects t pass e (s .row)) frame formulas effects notes notes' n (size-of s) before after s2 r
-    climbs-on {notes'} {after} {s2} {r} y = rw left y
-
-  -- what is left is built: row e's condition is known
-  onward-known :
-      {notes' : List ℕ} {after : Store} {s2 : List ℕ} {r : Step}
-      → Conditions (onward frame formulas effects t pass e (s .row)) frame formulas effects notes' (size-of s) before after s2 r
-      → r .full ≡ false
-      → Known (condition-at frame formulas effects t e) (held (size-of r) after) (r .row)
-  unfolding bind
-  onward-known {after = after} {r = r} y g =
-      let d = y .builds .done g in
-      let steady = steady-onward frame formulas effects t pass e (s .row) in
-      let first = known-grows (steady-condition-at frame formulas effects t (x .row)) (done-grows steady d) (x .known) in
-      let then = done-known steady d in
-      record {
-        again =
-            ap (λ (m : Build ℕ). m (held (size-of r) after)) (x .leads .reads formulas)
-            ∙ rw (first .again) (then .again);
-        below = then .below;
-      }
-
-  -- what keeping it asks, and that it is kept
-  pub kept-asks :
-      {notes' s2 : List ℕ}
-      → length notes' ≡ length notes
-      → length s2 ≡ length scratch
-      → AsksKept frame notes' s2 t e
-  kept-asks {notes'} {s2} wide long =
-      let a = x .below .asks in
-      record {
-        looks = looks a wide;
-        variable = a .variable;
-        formulas = a .source .limit;
-        memo = omega (arith, a .effect-source .memo, long);
-      }
-
-  pub raised :
-      {notes' notes'' : List ℕ} {after : Store} {s2 s3 : List ℕ} {r : Step}
-      → Climbs (onward frame formulas effects t pass e (s .row)) frame formulas effects notes notes' n (size-of s) before after s2 r
-      → Keeps frame notes' notes'' s2 s3 t e (r .row)
-      → Climbs (onward frame formulas effects t pass e (s .row)) frame formulas effects notes notes'' n (size-of s) before after s3 r
-  raised y keeps =
-      record {
-        conditions = conditions-kept (onward-known (y .conditions)) (y .conditions) keeps;
-        stays = stays-trans frame (y .stays) (stays-fewer frame (omega (arith, x .below .room)) (keeps .stays));
-      }
-
-  pub raised-pass :
-      {notes' s2 : List ℕ}
-      → pass ≡ true
-      → Keeps frame notes notes' scratch s2 t e (s .row)
-      → Climbs (onward frame formulas effects t pass e (s .row)) frame formulas effects notes notes' n (size-of s) before before s2 s
-  raised-pass went keeps = raised (climbs-pass went) keeps
-
-  pub pass-small : s .row < 4096
-  pass-small = let m = x .below .asks .ready in omega (arith, row-within, m .rows .within, m .rows .limit)
-
--- Row e, which is not passed, with the words w.
-module _ {frame : Frame} {formulas effects notes : List ℕ} {t : Target} {s : Step} {before : Store} {scratch : List ℕ} {e n : ℕ} (x : AsksOnward frame formulas effects notes t s before scratch false e n) (w : Words) (q : row-of w ≡ row-at effects e) where
-  kind-read : w .kind ≡ row-at effects e .kind
-  kind-read = ap (λ (r : Row). r .kind) q
-
-  module _ (three : w .kind ≡ 3) where
-    pub right-lower : w .b < e
-    right-lower =
-        omega
-        (arith, ap (λ (r : Row). r .b) q, both-lower frame formulas effects scratch (x .below .asks .effect-source) e (x .below .asks .effect) (sym kind-read ∙ three) .1)
-
-    pub right-asks : AsksRight frame formulas effects notes t s before scratch e (w .b) n
-    right-asks =
-        let a = x .below .asks in
-        record {
-          asks =
+        module _ (k : r .full ≡ false) where
+          pub both-join-asks : AsksJoin frame notes₂ e (r .rows) (after .table) (l .row) (r .row)
+          both-join-asks =
+              let m = y .builds .done k in
               record {
-                source = a .source;
-                effect-source = a .effect-source;
-                ready = a .ready;
-                noted = a .noted;
-                memo = a .memo;
-                effect-memo = a .effect-memo;
-                variable = a .variable;
-                effect = omega (arith, a .effect, right-lower);
-              };
-          effect = a .effect;
-          both = sym kind-read ∙ three;
-          left = row-within x;
-          going = x .going;
-          room = omega (arith, x .below .room, right-lower);
-        }
+                looks = looks a (y .noted k .columns);
+                twins = r .twins;
+                originals = after .originals;
+                ready = m .ready;
+                left = omega (arith, x .builds .done g .below, m .grew);
+                right = m .below;
+              }
 
-    pub climbs-both :
-        {notes' : List ℕ} {after : Store} {s2 : List ℕ} {r : Step}
-        → Climbs (right-of frame formulas effects t (w .b) (s .row)) frame formulas effects notes notes' n (size-of s) before after s2 r
-        → Climbs (onward frame formulas effects t false e (s .row)) frame formulas effects notes notes' n (size-of s) before after s2 r
-    unfolding onward
-    climbs-both y =
-        record {
-          conditions =
-              conditions-as
-              (rw (eq-eqb (row-at effects e .kind) 3 (sym kind-read ∙ three))
-              (ap (λ (r : Row). right-of frame formulas effects t (r .b) (s .row)) (sym q)))
-              (y .conditions);
-          stays = y .stays;
-        }
+          pub both-done :
+              {notes₃ : List ℕ} {last : Store} {z : Step}
+              → Joined frame notes₂ notes₃ t e (not (t .negated)) (size-of r) (l .row) (r .row) after last z
+              → Conditions (condition-at frame formulas effects t e) frame formulas effects notes₃ at before last s2 z
+          both-done j =
+              let flag : t .negated ≡ false → eqb (row-at effects e .kind) 3 ≡ not (t .negated) =
+              λ p. eq-eqb (row-at effects e .kind) 3 three ∙ ap (λ b. not b) (sym p) in
+              conditions-as both-reads
+              (conditions-bind (λ l. right-of l) x g
+              (conditions-bind (λ r. join-both (l .row) r) y k
+              (conditions-joined (record { ready = y .builds .done k .ready; noted = y .noted k; flag = flag }) (y .memo k) (y .effect-memo k) j)))
 
-  module _ (other : w .kind ≡ 3 → ⊥) where
-    pub under-asks : AsksUnder frame formulas effects notes t s before scratch e
-    under-asks =
-        let a = x .below .asks in
-        record {
-          asks = a;
-          under = under-else frame formulas effects scratch (a .effect-source) e (a .effect) (x .leads .composed) (λ k. other (kind-read ∙ k));
-          inner = row-within x;
-          going = x .going;
-        }
+-- Row e is a formula over an effect, with the words w.
+module _ {frame : Frame} {formulas effects notes : List ℕ} {t : Target} {at : Size} {before : Store} {scratch : List ℕ} {e : ℕ} (a : Asks frame formulas effects notes t at before scratch e) (four : row-at effects e .kind ≡ 4) (w : Words) (q : row-of w ≡ row-at effects e) where
+  abbrev over : ℕ → Build ℕ
+  over c = guarded (frame .variables) (side (t .negated)) (tree frame formulas (w .a)) c
 
-    pub climbs-under :
-        {notes' : List ℕ} {after : Store} {s2 : List ℕ} {r : Step}
-        → Climbs (guarded (frame .variables) (side (t .negated)) (tree frame formulas (row-at effects e .a)) (s .row)) frame formulas effects notes notes' (frame .effects) (size-of s) before after s2 r
-        → Climbs (onward frame formulas effects t false e (s .row)) frame formulas effects notes notes' n (size-of s) before after s2 r
-    unfolding onward
-    climbs-under y =
-        record {
-          conditions = conditions-as (rw (ne-eqb (row-at effects e .kind) 3 (λ k. other (kind-read ∙ k)))) (y .conditions);
-          stays = stays-fewer frame (omega (arith, x .below .room)) (y .stays);
-        }
+  pub inner-lower : (w .a < frame .formulas) × (w .b < e)
+  inner-lower =
+      let l = under-lower frame formulas effects scratch (a .effect-source) e (a .effect) four in
+      (omega (arith, l .0, ap (λ (r : Row). r .a) q), omega (arith, l .1, ap (λ (r : Row). r .b) q))
+
+  pub inner-asks : Asks frame formulas effects notes t at before scratch (w .b)
+  inner-asks = lower-asks a (w .b) (inner-lower .1)
+
+  under-reads : condition-at frame formulas effects t e ≡ bind (condition-at frame formulas effects t (w .b)) (λ c. over c)
+  under-reads = rw (ap (λ (r : Row). r .a) q, ap (λ (r : Row). r .b) q) (of-under frame formulas effects scratch (a .effect-source) e (a .effect) t four)
+
+  -- the inner effect's condition is built
+  module _ {notes₁ : List ℕ} {mid : Store} {s1 : List ℕ} {s : Step} (x : Conditions (condition-at frame formulas effects t (w .b)) frame formulas effects notes₁ at before mid s1 s) where
+    pub inner-full :
+        s .full ≡ true → Conditions (condition-at frame formulas effects t e) frame formulas effects notes₁ at before mid s1 s
+    inner-full g =
+        conditions-as under-reads
+        (conditions-stop (λ c. over c) (λ c. steady-guarded (frame .variables) (side (t .negated)) (tree frame formulas (w .a)) c) x g)
+
+    module _ (g : s .full ≡ false) where
+      -- what is left gives the whole
+      on :
+          {notes₂ : List ℕ} {last : Store} {s2 : List ℕ} {z : Step}
+          → Conditions (over (s .row)) frame formulas effects notes₂ (size-of s) mid last s2 z
+          → Conditions (condition-at frame formulas effects t e) frame formulas effects notes₂ at before last s2 z
+      on y = conditions-as under-reads (conditions-bind (λ c. over c) x g y)
+
+      pub inner-false :
+          s .row ≡ image-of-false (side (t .negated))
+          → Conditions (condition-at frame formulas effects t e) frame formulas effects notes₁ at before mid s1 s
+      unfolding guarded give
+      inner-false h =
+          let m = x .builds .done g in
+          on
+          (conditions-as (rw (eq-eqb (s .row) (image-of-false (side (t .negated))) h))
+          (conditions-leaf (steady-give (s .row)) (x .noted g) (x .memo g) (x .effect-memo g)
+          (builds-done g (record { value = refl; state = refl; ready = m .ready; below = m .below; grew = omega arith }))))
+
+      pub image-asks : length s1 ≡ length scratch → AsksImage frame formulas (size-of s) mid s1 (w .a)
+      image-asks long =
+          let n = asks-next e a x g long (a .effect) in
+          record { source = n .source; ready = n .ready; memo = n .memo; formula = inner-lower .0 }
+
+      -- it is not false, and the formula's image is built
+      module _ (h : s .row ≡ image-of-false (side (t .negated)) → ⊥) {after : Store} {s2 : List ℕ} {f : Step} (y : Images (image-at frame formulas (side (t .negated)) (w .a)) frame formulas (size-of s) mid after s1 s2 f) where
+        joins : over (s .row) ≡ bind (image-at frame formulas (side (t .negated)) (w .a)) (λ z. join (side (t .negated)) z (s .row))
+        unfolding guarded image-at
+        joins = rw (ne-eqb (s .row) (image-of-false (side (t .negated))) h)
+
+        image : Conditions (image-at frame formulas (side (t .negated)) (w .a)) frame formulas effects notes₁ (size-of s) mid after s2 f
+        image = conditions-of-images (steady-image-at frame formulas (side (t .negated)) (w .a)) (x .noted g) (x .effect-memo g) y
+
+        pub image-full :
+            f .full ≡ true → Conditions (condition-at frame formulas effects t e) frame formulas effects notes₁ at before after s2 f
+        image-full k =
+            on
+            (conditions-as joins
+            (conditions-stop (λ z. join (side (t .negated)) z (s .row)) (λ z. steady-join (side (t .negated)) z (s .row)) image k))
+
+        module _ (k : f .full ≡ false) where
+          pub under-join-asks : AsksJoin frame notes₁ e (f .rows) (after .table) (f .row) (s .row)
+          under-join-asks =
+              let m = y .builds .done k in
+              record {
+                looks = looks a (x .noted g .columns);
+                twins = f .twins;
+                originals = after .originals;
+                ready = m .ready;
+                left = m .below;
+                right = omega (arith, x .builds .done g .below, m .grew);
+              }
+
+          pub under-done :
+              {notes₂ : List ℕ} {last : Store} {z : Step}
+              → Joined frame notes₁ notes₂ t e (t .negated) (size-of f) (f .row) (s .row) after last z
+              → Conditions (condition-at frame formulas effects t e) frame formulas effects notes₂ at before last s2 z
+          under-done j =
+              let flag : t .negated ≡ false → eqb (row-at effects e .kind) 3 ≡ t .negated =
+              λ p. ne-eqb (row-at effects e .kind) 3 (λ z. omega (arith, z, four)) ∙ sym p in
+              on
+              (conditions-as joins
+              (conditions-bind (λ z. join (side (t .negated)) z (s .row)) image k
+              (conditions-joined (record { ready = y .builds .done k .ready; noted = image .noted k; flag = flag }) (image .memo k)
+              (image .effect-memo k) j)))

@@ -23,9 +23,9 @@ use Rattle.images.specs.Inner.Images.{Known, Memo}
 use Rattle.images.proofs.Memos.{memo-grows, done-grows, done-known}
 use Rattle.atom_sets.proofs.Places.{sets-behind}
 use Rattle.conditions.specs.declared.Target.{Target}
-use Rattle.conditions.specs.Inner.Conditions.{EffectMemo, join-place, join-of, Joins, Noted, Looks, path-at, PathStays, Conditions}
+use Rattle.conditions.specs.Inner.Conditions.{EffectMemo, join-place, join-of, Joins, Noted, Looks, Conditions}
 use Rattle.conditions.specs.Inner.Joins.{Rejoins, KeepsJoin, AsksJoin, JoinsAs, Joined}
-use Rattle.conditions.proofs.Notes.{noted-grows, small-row, sets-stay, columns-stay, kept-stay, stays-refl}
+use Rattle.conditions.proofs.Notes.{noted-grows, small-row, sets-stay, columns-stay, kept-stay}
 use Rattle.conditions.proofs.Memos.{effect-memo-grows}
 
 -- nothing is kept of the two rows
@@ -105,16 +105,6 @@ module _ {frame : Frame} {notes : List ℕ} {e : ℕ} (a : Looks frame notes e) 
         with-other notes (join-place frame e) l r x j (λ q. omega (arith, q, h, a .effect)) (λ q. omega (arith, q, h, a .effect))
         (λ q. omega (arith, q, h, a .effect))
 
-    join-stays : PathStays frame notes after (frame .effects)
-    unfolding path-at
-    join-stays =
-        record {
-          long = with-long notes (join-place frame e) l r x;
-          same = λ d h.
-              rw (with-long notes (join-place frame e) l r x)
-              (high (length notes - frame .effects + d) (omega (arith, a .words, sets-behind frame)));
-        }
-
     -- what is read of row d's join
     joins-read :
         {effects : List ℕ} {s : St} (d y : ℕ)
@@ -148,18 +138,14 @@ module _ {frame : Frame} {notes : List ℕ} {e : ℕ} (a : Looks frame notes e) 
         record {
           sets = sets-stay long (λ j g h. high j g) (n .sets);
           columns = columns-stay long low (n .columns);
-          kept = kept-stay long low (λ j g h. high j (omega (arith, sets-behind frame))) (n .kept);
+          kept = kept-stay long low (λ j g. high j (omega (arith, sets-behind frame))) (n .kept);
           joins = record { known = λ d y h w. joins-read d y h now (n .joins) w (ℕ-discrete d e) };
         }
 
   pub keep-join-kept :
       (t : Target) (l r x : ℕ) → t .negated ≡ false → KeepsJoin frame notes (with-join notes (join-place frame e) l r x) t e l r x
   keep-join-kept t l r x p =
-      record { stays = join-stays l r x; noted = λ formulas effects s now n. join-noted l r x (now p) n }
-
-pub keep-join-none : (frame : Frame) (notes : List ℕ) (t : Target) (e l r x : ℕ) → KeepsJoin frame notes notes t e l r x
-keep-join-none frame notes t e l r x =
-    record { stays = stays-refl frame notes (frame .effects); noted = λ formulas effects s now n. n }
+      record { noted = λ formulas effects s now n. join-noted l r x (now p) n }
 
 -- What the join asks, and that its row fits a word.
 module _ {frame : Frame} {notes : List ℕ} {e stand : ℕ} {table : List ℕ} {l r : ℕ} (a : AsksJoin frame notes e stand table l r) where
@@ -185,7 +171,6 @@ module _ {frame : Frame} {notes : List ℕ} {t : Target} {e : ℕ} {or : Bool} {
   unfolding held
   joined-kept {w} k h =
       record {
-        stays = stays-refl frame notes (frame .effects);
         builds = λ formulas effects a.
             let known : Known (join (side or) l r) (held at before) (w - 1) =
             rw (join-flag effects e l r or (a .flag (k .plain h))) at (k .known formulas effects (held at before) (a .noted) h) in
@@ -211,7 +196,6 @@ module _ {frame : Frame} {notes : List ℕ} {t : Target} {e : ℕ} {or : Bool} {
   joined-made {after = after} {x = x} b keeps =
       let steady = steady-join (side or) l r in
       record {
-        stays = keeps .stays;
         builds = λ formulas effects a. b (a .ready);
         noted = λ formulas effects a q.
             let d = b (a .ready) .done q in

@@ -5,5 +5,3 @@ pub mod Notes
 pub mod Memos
 pub mod Joins
 pub mod Cases
-pub mod Descents
-pub mod Ascents

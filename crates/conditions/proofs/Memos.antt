@@ -18,13 +18,13 @@ use Rattle.normal_form.specs.Growth.{Grows, Steady}
 use Rattle.formula_builder.specs.declared.Frame.{Frame}
 use Rattle.formula_builder.specs.declared.Size.{Size}
 use Rattle.formula_builder.specs.declared.Step.{Step}
-use Rattle.formula_builder.specs.Inner.Held.{Store, held, size-of, stepped, done-step, Ready, Builds}
+use Rattle.formula_builder.specs.Inner.Held.{Store, held, size-of, stepped, Ready, Builds}
 use Rattle.formula_builder.proofs.Steps.{builds-done, builds-as, builds-bind, builds-stop}
 use Rattle.images.specs.Inner.Images.{Known, Memo, memo-place, Images}
-use Rattle.images.proofs.Memos.{known-grows, memo-grows, done-grows, place-within}
+use Rattle.images.proofs.Memos.{known-grows, memo-grows, done-grows, done-known, place-within}
 use Rattle.conditions.specs.declared.Target.{Target}
-use Rattle.conditions.specs.Inner.Conditions.{condition-at, tag, effect-place, tag-place, EffectMemo, Noted, Recalls, Keeps, Asks, Conditions}
-use Rattle.conditions.proofs.Notes.{steady-condition-at, noted-grows, byte-is, atoms, same-condition, stays-refl}
+use Rattle.conditions.specs.Inner.Conditions.{condition-at, tag, effect-place, tag-place, EffectMemo, Noted, RecallsNoted, Recalls, KeepsNoted, Keeps, Asks, Conditions}
+use Rattle.conditions.proofs.Notes.{steady-condition-at, noted-grows, byte-is, atoms, same-condition}
 
 -- the memo stays right while the state grows and its words stay
 pub effect-memo-grows :
@@ -103,12 +103,12 @@ module _ (frame : Frame) (scratch : List ℕ) (t : Target) (e row : ℕ) (h : e 
       let z = tags-apart u t (sym q ∙ tags) in
       rw (same-condition frame formulas effects u t d e (z .0) (z .1) (z .2) same, value) now
 
-  pub keep-row : (notes : List ℕ) → Keeps frame notes notes scratch (with-row frame scratch t e row) t e row
-  keep-row notes =
+  pub keep-row :
+      {notes notes' : List ℕ} → KeepsNoted frame notes notes' t e row → Keeps frame notes notes' scratch (with-row frame scratch t e row) t e row
+  keep-row k =
       record {
-        stays = stays-refl frame notes (frame .effects);
+        keeps-noted = k;
         images = λ j g. row-other j (λ q. omega (arith, q, g)) (λ q. omega (arith, q, g));
-        noted = λ formulas effects s now n. n;
         effect-memo = λ formulas effects s now m.
             record { known = λ u d x g q w. memo-read u d x g now m q w (ℕ-discrete d e) };
       }
@@ -122,8 +122,10 @@ pub recall-row :
 recall-row frame notes scratch t e h q =
     record { known = λ formulas effects s n m w. m .known t e (getD scratch (effect-place frame e) 0 - 1) h q (omega (arith, w)) }
 
-pub recall-none : (frame : Frame) (notes scratch : List ℕ) (t : Target) (e : ℕ) → Recalls frame notes scratch t e 0
-recall-none frame notes scratch t e = record { known = λ formulas effects s n m w. absurd (omega (arith, w)) }
+-- else the notes may
+pub recall-behind :
+    {frame : Frame} {notes : List ℕ} {t : Target} {e w : ℕ} (scratch : List ℕ) → RecallsNoted frame notes t e w → Recalls frame notes scratch t e w
+recall-behind scratch r = record { known = λ formulas effects s n m w. r .known formulas effects s n w }
 
 -- the tag as the machine makes it
 pub tag-made :
@@ -240,23 +242,32 @@ conditions-stop f steady x q =
       effect-memo = λ g. absurd (true≢false (sym q ∙ g));
     }
 
+-- a row that stands is small, and answered as a number
+pub known-small :
+    {m : Build ℕ} {frame : Frame} {at : Size} {s : Store} {r : ℕ} → Ready frame at s → Known m (held at s) r → (r < at .rows) × (eqb r 65535 ≡ false)
+unfolding held
+known-small {at = at} {s} {r} ready k =
+    let b : r < length (upto (at .rows) (row-at (s .table))) = k .below in
+    let low : r < at .rows = rw (length-upto (at .rows) (row-at (s .table))) at b in
+    (low, ne-eqb r 65535 (λ q. omega (arith, low, ready .rows .within, ready .rows .limit)))
+
 -- The row of effect e's condition is known.
 pub conditions-known :
-    {notes : List ℕ} (frame : Frame) (formulas effects : List ℕ) (t : Target) (at : Size) (before : Store) (scratch : List ℕ) (e r : ℕ)
+    {frame : Frame} {formulas effects notes : List ℕ} {t : Target} {at : Size} {before : Store} {scratch : List ℕ} {e r : ℕ}
     → Asks frame formulas effects notes t at before scratch e
     → Known (condition-at frame formulas effects t e) (held at before) r
-    → Conditions (condition-at frame formulas effects t e) frame formulas effects notes at before before scratch (done-step at r)
-unfolding held
-conditions-known frame formulas effects t at before scratch e r a k =
-    let b : r < length (upto (at .rows) (row-at (before .table))) = k .below in
+    → Conditions (condition-at frame formulas effects t e) frame formulas effects notes at before before scratch
+    (stepped (at .rows) (at .twins) r)
+conditions-known a k =
+    let small = known-small (a .ready) k in
     record {
       builds =
-          builds-done refl
+          builds-done (small .1)
           (record {
             value = ap (λ (g : Got ℕ). g .value) (k .again);
             state = ap (λ (g : Got ℕ). g .st) (k .again);
             ready = a .ready;
-            below = rw (length-upto (at .rows) (row-at (before .table))) at b;
+            below = small .0;
             grew = omega arith;
           });
       noted = λ _. a .noted;
@@ -264,35 +275,18 @@ conditions-known frame formulas effects t at before scratch e r a k =
       effect-memo = λ _. a .effect-memo;
     }
 
--- the same row is small, and answered as a number
-pub known-small :
-    {m : Build ℕ} {frame : Frame} {at : Size} {s : Store} {r : ℕ} → Ready frame at s → Known m (held at s) r → eqb r 65535 ≡ false
-unfolding held
-known-small {at = at} {s} {r} ready k =
-    let b : r < length (upto (at .rows) (row-at (s .table))) = k .below in
-    let low : r < at .rows = rw (length-upto (at .rows) (row-at (s .table))) at b in
-    ne-eqb r 65535 (λ q. omega (arith, low, ready .rows .within, ready .rows .limit))
-
-pub conditions-stands :
-    {notes : List ℕ} (frame : Frame) (formulas effects : List ℕ) (t : Target) (at : Size) (before : Store) (scratch : List ℕ) (e r : ℕ)
-    → Asks frame formulas effects notes t at before scratch e
-    → Known (condition-at frame formulas effects t e) (held at before) r
-    → Conditions (condition-at frame formulas effects t e) frame formulas effects notes at before before scratch
-    (stepped (at .rows) (at .twins) r)
-conditions-stands frame formulas effects t at before scratch e r a k =
-    rw (known-small (a .ready) k) (conditions-known frame formulas effects t at before scratch e r a k)
-
--- A step comes to effect e's condition, which is kept.
+-- Effect e's condition is built, and kept.
 pub conditions-kept :
-    {m : Build ℕ} {frame : Frame} {formulas effects notes notes' : List ℕ} {t : Target} {e : ℕ} {at : Size} {before after : Store} {s2 s3 : List ℕ} {r : Step}
-    → (r .full ≡ false → Known (condition-at frame formulas effects t e) (held (size-of r) after) (r .row))
-    → Conditions m frame formulas effects notes at before after s2 r
+    {frame : Frame} {formulas effects notes notes' : List ℕ} {t : Target} {e : ℕ} {at : Size} {before after : Store} {s2 s3 : List ℕ} {r : Step}
+    → Conditions (condition-at frame formulas effects t e) frame formulas effects notes at before after s2 r
     → Keeps frame notes notes' s2 s3 t e (r .row)
-    → Conditions m frame formulas effects notes' at before after s3 r
-conditions-kept {formulas = formulas} {effects = effects} {after = after} {r = r} known x keeps =
+    → Conditions (condition-at frame formulas effects t e) frame formulas effects notes' at before after s3 r
+conditions-kept {frame} {formulas} {effects} {t = t} {e = e} {after = after} {r = r} x keeps =
+    let known : r .full ≡ false → Known (condition-at frame formulas effects t e) (held (size-of r) after) (r .row) =
+    λ q. done-known (steady-condition-at frame formulas effects t e) (x .builds .done q) in
     record {
       builds = x .builds;
-      noted = λ q. keeps .noted formulas effects (held (size-of r) after) (known q) (x .noted q);
+      noted = λ q. keeps .keeps-noted .noted formulas effects (held (size-of r) after) (known q) (x .noted q);
       memo = λ q. memo-kept (keeps .images) (x .memo q);
       effect-memo = λ q. keeps .effect-memo formulas effects (held (size-of r) after) (known q) (x .effect-memo q);
     }

@@ -25,7 +25,7 @@ use Rattle.images.proofs.Memos.{known-grows}
 use Rattle.atom_sets.specs.Inner.Sets.{sets-end}
 use Rattle.atom_sets.proofs.Places.{sets-behind, lacks-same}
 use Rattle.conditions.specs.declared.Target.{Target}
-use Rattle.conditions.specs.Inner.Conditions.{atom-of, effect-tree, condition-at, AtomSets, column, part, width, kept-place, Columns, Kept, join-place, Joins, Noted, Looks, KeptAt, Recalls, path-at, PathStays, Keeps, Asks}
+use Rattle.conditions.specs.Inner.Conditions.{atom-of, effect-tree, condition-at, AtomSets, column, part, width, kept-place, Columns, Kept, join-place, Joins, Noted, Looks, KeptAt, RecallsNoted, KeepsNoted, Asks}
 
 pub steady-condition-at :
     (frame : Frame) (formulas effects : List ℕ) (t : Target) (e : ℕ) → Steady (condition-at frame formulas effects t e)
@@ -95,7 +95,7 @@ pub kept-stay :
     {frame : Frame} {formulas effects notes notes' : List ℕ} {s : St}
     → length notes' ≡ length notes
     → ((d : ℕ) → d < frame .effects → getD notes' d 0 ≡ getD notes d 0)
-    → ((j : ℕ) → sets-end frame ≤ j → j + frame .effects < length notes → getD notes' j 0 ≡ getD notes j 0)
+    → ((j : ℕ) → sets-end frame ≤ j → getD notes' j 0 ≡ getD notes j 0)
     → Kept frame formulas effects notes s
     → Kept frame formulas effects notes' s
 unfolding column
@@ -103,9 +103,9 @@ kept-stay {frame} {notes = notes} {notes' = notes'} long low same x =
     record {
       known = λ t e r h v p c i w.
           let k = kept-place frame (column notes e) t in
-          let within : k + frame .effects < length notes = rw (low e h, long) at i in
+          let within : k < length notes = rw (low e h, long) at i in
           let there : getD notes' k 0 ≡ r + 1 = rw (low e h) at w in
-          x .known t e r h v p (rw (low e h) at c) within (sym (same k (place-behind frame (column notes e) t) within) ∙ there);
+          x .known t e r h v p (rw (low e h) at c) within (sym (same k (place-behind frame (column notes e) t)) ∙ there);
     }
 
 -- the last joins stay right while their words stay
@@ -151,15 +151,15 @@ noted-blank {frame} {effects} {notes} formulas s sets columns free blank =
     impossible : (r : ℕ) → 0 ≡ r + 1 → ⊥
     impossible r q = omega (arith, q)
 
--- what is looked up or kept asks
+-- what looking up row e, or keeping it, asks
 pub looks :
     {frame : Frame} {formulas effects notes notes' : List ℕ} {t : Target} {at : Size} {before : Store} {scratch : List ℕ} {e : ℕ}
     → Asks frame formulas effects notes t at before scratch e
-    → length notes' ≡ length notes
+    → Columns frame notes'
     → Looks frame notes' e
-looks a long =
+looks a columns =
     record {
-      words = omega (arith, a .noted .columns .words, long);
+      words = columns .words;
       limit = a .effect-source .limit;
       variables = omega (arith, a .ready .variables);
       effect = a .effect;
@@ -214,7 +214,7 @@ pub place-found :
     → part t < width (frame .variables)
     → t .variable < frame .variables
     → k ≡ sets-end frame + (getD notes e 0 * (width (frame .variables) * frame .variables) + (width (frame .variables) * t .variable + part t))
-    → k + frame .effects < length notes
+    → k < length notes
     → KeptAt frame notes t e k
 unfolding column kept-place
 place-found frame notes t e k c p v q w =
@@ -301,27 +301,6 @@ pub same-condition :
 unfolding condition-at
 same-condition frame formulas effects t u d e n v c q = rw (n, v, c, q)
 
--- Entries of the path, which words before them do not change.
-module _ (frame : Frame) where
-  pub stays-refl : (notes : List ℕ) (n : ℕ) → PathStays frame notes notes n
-  stays-refl notes n = record { long = refl; same = λ d h. refl }
-
-  pub stays-trans : {a b c : List ℕ} {n : ℕ} → PathStays frame a b n → PathStays frame b c n → PathStays frame a c n
-  stays-trans x y = record { long = y .long ∙ x .long; same = λ d h. y .same d h ∙ x .same d h }
-
-  pub stays-fewer : {a b : List ℕ} {m n : ℕ} → m ≤ n → PathStays frame a b n → PathStays frame a b m
-  stays-fewer h x = record { long = x .long; same = λ d g. x .same d (omega arith) }
-
-  stays-before : (notes : List ℕ) (k x n : ℕ) → k + frame .effects < length notes → PathStays frame notes (set notes k x) n
-  unfolding path-at
-  stays-before notes k x n h =
-      record {
-        long = length-set notes k x;
-        same = λ d g.
-            rw (length-set notes k x)
-            (getD-set-other notes k (length notes - frame .effects + d) x 0 (λ q. omega (arith, q, h)));
-      }
-
 -- The word of target t and row e.
 module _ {frame : Frame} {notes : List ℕ} {t : Target} {e k : ℕ} (h : e < frame .effects) (p : KeptAt frame notes t e k) where
   beyond : sets-end frame ≤ k
@@ -343,7 +322,7 @@ module _ {frame : Frame} {notes : List ℕ} {t : Target} {e k : ℕ} (h : e < fr
         → u .variable < frame .variables
         → part u < width (frame .variables)
         → 0 < column notes d
-        → kept-place frame (column notes d) u + frame .effects < length notes
+        → kept-place frame (column notes d) u < length notes
         → Dec (kept-place frame (column notes d) u ≡ k)
         → getD (set notes k (r + 1)) (kept-place frame (column notes d) u) 0 ≡ x + 1
         → Known (condition-at frame formulas effects u d) s x
@@ -373,20 +352,22 @@ module _ {frame : Frame} {notes : List ℕ} {t : Target} {e k : ℕ} (h : e < fr
           joins = joins-stay (λ j g h. earlier (r + 1) j (omega (arith, sets-behind frame))) (n .joins);
         }
 
-  pub recall-kept : (scratch : List ℕ) → Recalls frame notes scratch t e (getD notes k 0)
-  recall-kept scratch =
+  pub recall-kept : RecallsNoted frame notes t e (getD notes k 0)
+  recall-kept =
       record {
-        known = λ formulas effects s n m w.
+        known = λ formulas effects s n w.
             n .kept .known t e (getD notes k 0 - 1) h (p .variable) (p .one) (p .has-column)
             (rw (p .place) at (p .within))
             (ap (λ j. getD notes j 0) (sym (p .place)) ∙ omega (arith, w));
       }
 
-  pub keep-kept : (scratch : List ℕ) (row : ℕ) → Keeps frame notes (set notes k (row + 1)) scratch scratch t e row
-  keep-kept scratch row =
-      record {
-        stays = stays-before frame notes k (row + 1) (frame .effects) (p .within);
-        images = λ j g. refl;
-        noted = λ formulas effects s now n. kept-noted formulas effects s row now n;
-        effect-memo = λ formulas effects s now m. m;
-      }
+  pub keep-kept : (row : ℕ) → KeepsNoted frame notes (set notes k (row + 1)) t e row
+  keep-kept row = record { noted = λ formulas effects s now n. kept-noted formulas effects s row now n }
+
+-- The notes have no word for it.
+module _ (frame : Frame) (notes : List ℕ) (t : Target) (e : ℕ) where
+  pub recall-unkept : RecallsNoted frame notes t e 0
+  recall-unkept = record { known = λ formulas effects s n w. absurd (omega (arith, w)) }
+
+  pub keep-unkept : (row : ℕ) → KeepsNoted frame notes notes t e row
+  keep-unkept row = record { noted = λ formulas effects s now n. n }

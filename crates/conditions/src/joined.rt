@@ -2,6 +2,7 @@
 // row of the join plus 1, or 0. A row joins for plain targets by one kind alone, so only those are kept. Constant cost, but for a join.
 use crate::Target;
 use formula_builder::EFFECTS;
+use formula_builder::NO_ROOM;
 use formula_builder::ROWS;
 use formula_builder::join;
 ghost use mathlib.Core.Path.{_≡_};
@@ -31,7 +32,8 @@ fn last_join(notes: &[u16], frame: &[usize; 5], t: Target, e: usize, l: u16, r: 
     notes[k + 2]
 }
 
-// Keeps x, the join of rows l and r for row e, if the target is plain and there was room.
+// Keeps x, the join of rows l and r for row e, if the target is plain and there was room. A join that folded, to l or to r, is not kept: it is
+// made as quickly as it is found, and would take the place of one that was searched for.
 fn keep_join(notes: &mut [u16], frame: &[usize; 5], t: Target, e: usize, l: u16, r: u16, x: u16)
     requires { ⌜ Looks (framed (now frame)) (now notes) e × (eqb x 65535 ≡ false → x < 4096) ⌝ }
     ensures { λ _. ⌜ KeepsJoin (framed (now (frame .entry))) (now (notes .entry)) (now (notes .exit)) t e l r x ⌝ }
@@ -39,7 +41,13 @@ fn keep_join(notes: &mut [u16], frame: &[usize; 5], t: Target, e: usize, l: u16,
     if t.negated {
         return;
     }
-    if x == 65535 {
+    if x == NO_ROOM {
+        return;
+    }
+    if x == l {
+        return;
+    }
+    if x == r {
         return;
     }
     let k = frame[EFFECTS] + 3 * e;

@@ -1,15 +1,12 @@
-// Where the condition of a row is kept once it is built: in the notes, if they have a word for it, which serves all operators; else in the
-// memo. Constant cost.
+// Conditions that are kept for other operators, in the columns of the notes: a second place to look, behind the memo. Constant cost.
 use crate::Target;
 use atom_sets::sets_end;
-use formula_builder::EFFECTS;
-use formula_builder::FORMULAS;
 use formula_builder::VARIABLES;
 use formula_builder::frame_of;
 ghost use mathlib.Core.Path.{_≡_};
 ghost use Prim.Native.Nat.{_≤_, _<_};
 ghost use Rattle.formula_builder.specs.Inner.Held.{framed};
-ghost use Rattle.conditions.specs.Inner.Conditions.{part, width, tag, Looks, KeptAt, AsksKept, Recalls, Keeps};
+ghost use Rattle.conditions.specs.Inner.Conditions.{part, width, Looks, KeptAt, RecallsNoted, KeepsNoted};
 
 // Which of its variable's words in a column is a target's: set, clear, or the dual of set; the dual of clear has none.
 fn part_of(t: Target) -> usize
@@ -25,8 +22,7 @@ pub fn width_of(variables: usize) -> usize
     if variables <= 256 { 3 } else { 2 }
 }
 
-// The word of the notes that keeps the condition of target t and effect e; 0, if none does. They keep as far as they reach: their last
-// E words are for a path.
+// The word of the notes that keeps the condition of target t and effect e; 0, if none does. They keep as far as they reach.
 fn place(notes: &[u16], frame: &[usize; 5], t: Target, e: usize) -> usize
     requires { ⌜ Looks (framed (now frame)) (now notes) e × (t .variable < framed (now frame) .variables) ⌝ }
     ensures { λ k. ⌜ (0 < k → KeptAt (framed (now (frame .entry))) (now (notes .entry)) t e k) ⌝ }
@@ -43,54 +39,31 @@ fn place(notes: &[u16], frame: &[usize; 5], t: Target, e: usize) -> usize
     let a = n * (t.variable as usize) + part;
     let whole = frame_of(frame);
     let k = sets_end(whole) + ((c as usize) * (n * frame[VARIABLES]) + a);
-    if notes.len() - frame[EFFECTS] <= k {
+    if notes.len() <= k {
         return 0;
     }
     k
 }
 
-// The tag of a target: no other target has it, and it is not 0.
-fn tag_of(t: Target) -> u16
-    requires { ⌜ t .variable < 512 ⌝ }
-    ensures { λ r. ⌜ r ≡ tag t ⌝ }
-{
-    2 * (2 * t.variable + t.clear as u16) + t.negated as u16 + 1
-}
-
-// What is kept of target t and effect e: its row plus 1, or 0.
-pub fn recall(notes: &[u16], scratch: &[u16], frame: &[usize; 5], t: Target, e: usize) -> u16
-    requires { ⌜ AsksKept (framed (now frame)) (now notes) (now scratch) t e ⌝ }
-    ensures { λ w. ⌜ Recalls (framed (now (frame .entry))) (now (notes .entry)) (now (scratch .entry)) t e w ⌝ }
+// What the notes keep of target t and effect e: its row plus 1, or 0.
+pub fn recall_noted(notes: &[u16], frame: &[usize; 5], t: Target, e: usize) -> u16
+    requires { ⌜ Looks (framed (now frame)) (now notes) e × (t .variable < framed (now frame) .variables) ⌝ }
+    ensures { λ w. ⌜ RecallsNoted (framed (now (frame .entry))) (now (notes .entry)) t e w ⌝ }
 {
     let k = place(notes, frame, t, e);
-    if 0 < k {
-        return notes[k];
-    }
-    let m = 2 * frame[FORMULAS] + e;
-    if scratch[m + frame[EFFECTS]] != tag_of(t) {
+    if k == 0 {
         return 0;
     }
-    scratch[m]
+    notes[k]
 }
 
-// Keeps the row of the condition of target t and effect e.
-pub fn keep(
-    notes: &mut [u16],
-    scratch: &mut [u16],
-    frame: &[usize; 5],
-    t: Target,
-    e: usize,
-    row: u16,
-)
-    requires { ⌜ AsksKept (framed (now frame)) (now notes) (now scratch) t e × (row < 4096) ⌝ }
-    ensures { λ _. ⌜ Keeps (framed (now (frame .entry))) (now (notes .entry)) (now (notes .exit)) (now (scratch .entry)) (now (scratch .exit)) t e row ⌝ }
+// Keeps the row of the condition of target t and effect e, if the notes have a word for it.
+pub fn keep_noted(notes: &mut [u16], frame: &[usize; 5], t: Target, e: usize, row: u16)
+    requires { ⌜ Looks (framed (now frame)) (now notes) e × (t .variable < framed (now frame) .variables) × (row < 4096) ⌝ }
+    ensures { λ _. ⌜ KeepsNoted (framed (now (frame .entry))) (now (notes .entry)) (now (notes .exit)) t e row ⌝ }
 {
     let k = place(notes, frame, t, e);
     if 0 < k {
         notes[k] = row + 1;
-        return;
     }
-    let m = 2 * frame[FORMULAS] + e;
-    scratch[m + frame[EFFECTS]] = tag_of(t);
-    scratch[m] = row + 1;
 }

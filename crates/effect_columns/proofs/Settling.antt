@@ -219,7 +219,7 @@ settling-more {frame} {first} {notes} {notes'} {i} {k} {last} {r} n long x s =
 pub settling-all :
     {frame : Frame} {first notes : List ℕ} {i last : ℕ}
     → i ≤ 0
-    → sets-end frame + frame .effects ≤ length first
+    → sets-end frame ≤ length first
     → Settling frame first i last notes
     → FoundColumns frame first notes
 settling-all n room x =

@@ -225,7 +225,7 @@ pub fn find_columns(
     ensures { λ _. ⌜ FoundColumns frame (now (notes .entry)) (now (notes .exit)) ⌝ }
 {
     let columns = number_rows(effects, operators, count, frame, notes);
-    let room = notes.len() - (sets_end(frame) + frame.effects);
+    let room = notes.len() - sets_end(frame);
     let most = most_columns(frame.variables, room);
     if columns as usize <= most {
         return;

@@ -160,7 +160,7 @@ module _ {l : Lent} {rows twins effects : ℕ} {x : Tables} {notes built records
         words = long l passed .effects;
         limit = few-effects l passed;
         variables = few-variables l passed;
-        room = omega (arith, o .notes-space);
+        room = o .notes-space;
         both = λ i h k. both-lower its-frame (l .formulas) (l .effects) (x .scratch) rules i h k;
         under = λ i h k. under-lower its-frame (l .formulas) (l .effects) (x .scratch) rules i h k .1;
         atom = λ i h some low.
@@ -184,11 +184,12 @@ module _ {l : Lent} {rows twins effects : ℕ} {x : Tables} {notes built records
           roots =
               record {
                 limit = few-effects l passed;
-                room = omega (arith, o .notes-space, same);
+                room = omega (arith, o .notes-space, same, sets-behind its-frame);
                 operators-limit = omega (arith, source l passed .limits .operators, length-operators l);
                 words = long l passed .operators;
                 effect = effect-below l rows twins passed;
               };
+          sets = omega (arith, o .notes-space, same);
         }
 
     -- with the notes of the two passes

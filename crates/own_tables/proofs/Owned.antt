@@ -15,12 +15,12 @@ use Rattle.finishing.proofs.Blank.{zero-at}
 use Rattle.filling.specs.Inner.Begins.{Begins, Owns}
 use Rattle.own_tables.specs.Inner.Few.{Few, BeginsSmall, BeginsFew}
 
--- so much room the sets take, with the words before them and the path
+-- so much room the sets take, with the words before them
 sets-room :
     (l : Lent) (rows twins s e : ℕ)
     → (l .head .variables + 31) / 32 * 4 ≤ s
     → l .head .effects ≤ e
-    → sets-end (frame-of (l .head) rows twins) + l .head .effects ≤ s * e + 5 * e
+    → sets-end (frame-of (l .head) rows twins) ≤ s * e + 4 * e
 unfolding sets-end set-words
 sets-room l rows twins s e h g =
     let x : (l .head .variables + 31) / 32 * 4 * l .head .effects ≤ s * e = mul-le-mul {n₂ = s} {m₂ = e} h g in
@@ -30,7 +30,7 @@ module _ {l : Lent} {rows twins effects : ℕ} {x : Tables} where
   owns :
       (notes built : ℕ)
       → Begins l rows twins effects x
-      → sets-end (frame-of (l .head) rows twins) + l .head .effects ≤ notes
+      → sets-end (frame-of (l .head) rows twins) ≤ notes
       → 9 * rows + l .head .variables ≤ built
       → Owns l rows twins effects x (replicate notes 0) (replicate built 0) (replicate 6912 0)
   owns notes built b n h =
@@ -64,7 +64,7 @@ module _ {l : Lent} {rows twins effects : ℕ} {x : Tables} where
       → Owns l rows twins effects x (replicate 163840 0) (replicate 37376 0) (replicate 6912 0)
   owns-few b = owns 163840 37376 (b .begins) (go (decLt 96 (l .head .variables))) (large (b .begins))
     where
-      go : Dec (96 < l .head .variables) → sets-end (frame-of (l .head) rows twins) + l .head .effects ≤ 163840
+      go : Dec (96 < l .head .variables) → sets-end (frame-of (l .head) rows twins) ≤ 163840
       go (yes h) =
           let room = sets-room l rows twins 64 1024 (omega (arith, few-variables l (b .begins .lends .passes))) (b .few h) in
           omega (arith, room)

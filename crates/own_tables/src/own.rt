@@ -11,8 +11,8 @@ ghost use Rattle.filling.specs.Inner.Begins.{Begins};
 ghost use Rattle.own_tables.specs.Inner.Few.{Few, BeginsSmall, BeginsFew};
 
 // The first has the words of 4,096 rows, two links and four heads for each, and a word for each of 512 variables: 73 KiB, cleared. The second has three words for
-// each of 256 operators and 2,048 changes: 13.5 KiB, cleared. The third has for each of 4,096 effects four words, a set of two bits for each of
-// 512 variables and a word of the path, and for each of 320 columns, of which the first is not used, two words for each variable: 1.2 MiB, cleared; fewer
+// each of 256 operators and 2,048 changes: 13.5 KiB, cleared. The third has for each of 4,096 effects four words and a set of two bits for each of
+// 512 variables, and for each of 324 columns, of which the first is not used, two words for each variable: 1.2 MiB, cleared; fewer
 // variables have more columns.
 fn fill_many(
     head: Head,

@@ -6,11 +6,11 @@ use mathlib.Core.List.{List}
 use lib.Dec.{eqb, leb}
 use lib.ListN.{length, getD}
 use Rattle.task.specs.Bounded.{upto}
-use Rattle.task.specs.Table.{Row, row-at, EffectKind, empty-kind, set-kind, clear-kind, both-kind, under-kind, unknown-effect}
+use Rattle.task.specs.Table.{Row, row-at, EffectKind, empty-kind, set-kind, clear-kind, both-kind, under-kind, unknown-effect, effect-kind}
 use Rattle.task.specs.Semantics.{Atom, sets, clears, same-atom, Effect}
 use Rattle.task.specs.Tree.{effect-of}
 use Rattle.task.specs.Inner.Rows.{EffectsDown}
-use Rattle.normal_form.specs.Builder.{St, Build, give, join, image-of-false}
+use Rattle.normal_form.specs.Builder.{St, Build, give, join, image-of-false, image-of-true}
 use Rattle.normal_form.specs.Conditions.{condition}
 use Rattle.formula_builder.specs.declared.Frame.{Frame}
 use Rattle.formula_builder.specs.declared.Size.{Size}
@@ -36,6 +36,11 @@ acts l clear-kind a = same-atom l (clears a)
 acts l both-kind a = false
 acts l under-kind a = false
 acts l unknown-effect a = false
+
+-- the condition of a row that names no effect: true for the atom itself, else false; negated, the other way round
+unfoldable pub atom-row : Target → Row → ℕ
+atom-row t w =
+    cond (acts (atom-of t) (effect-kind (w .kind)) (w .a)) (image-of-true (side (t .negated))) (image-of-false (side (t .negated)))
 
 -- the source's effect rows
 unfoldable pub effect-rows : Frame → List ℕ → List Row
@@ -111,9 +116,9 @@ width variables = cond (leb variables 256) 3 2
 unfoldable pub kept-place : Frame → ℕ → Target → ℕ
 kept-place frame c t = sets-end frame + (c * (width (frame .variables) * frame .variables) + (width (frame .variables) * t .variable + part t))
 
--- Each row has a word for its column, and one of the last words for a path down the rows; no two rows have the same column.
+-- Each row has a word for its column; no two rows have the same column.
 pub record Columns (frame : Frame) (notes : List ℕ) : Type 0 where
-  pub words : sets-end frame + frame .effects ≤ length notes
+  pub words : sets-end frame ≤ length notes
   pub apart :
       (d e : ℕ)
       → d < frame .effects
@@ -122,7 +127,7 @@ pub record Columns (frame : Frame) (notes : List ℕ) : Type 0 where
       → column notes d ≡ column notes e
       → d ≡ e
 
--- Each condition that is kept, for whatever operator, is the row that building gives now, plus 1. None is kept in the words of the path.
+-- Each condition that is kept, for whatever operator, is the row that building gives now, plus 1.
 pub record Kept (frame : Frame) (formulas effects notes : List ℕ) (s : St) : Type 0 where
   pub known :
       (t : Target) (e r : ℕ)
@@ -130,7 +135,7 @@ pub record Kept (frame : Frame) (formulas effects notes : List ℕ) (s : St) : T
       → t .variable < frame .variables
       → part t < width (frame .variables)
       → 0 < column notes e
-      → kept-place frame (column notes e) t + frame .effects < length notes
+      → kept-place frame (column notes e) t < length notes
       → getD notes (kept-place frame (column notes e) t) 0 ≡ r + 1
       → Known (condition-at frame formulas effects t e) s r
 
@@ -159,7 +164,7 @@ pub record Noted (frame : Frame) (formulas effects notes : List ℕ) (s : St) : 
 
 -- What looking into row e's column asks.
 pub record Looks (frame : Frame) (notes : List ℕ) (e : ℕ) : Type 0 where
-  pub words : sets-end frame + frame .effects ≤ length notes
+  pub words : sets-end frame ≤ length notes
   pub limit : frame .effects ≤ 4096
   pub variables : frame .variables ≤ 512
   pub effect : e < frame .effects
@@ -170,7 +175,7 @@ pub record KeptAt (frame : Frame) (notes : List ℕ) (t : Target) (e k : ℕ) : 
   pub variable : t .variable < frame .variables
   pub has-column : 0 < column notes e
   pub place : k ≡ kept-place frame (column notes e) t
-  pub within : k + frame .effects < length notes
+  pub within : k < length notes
 
 -- What looking for the condition of target t and row e asks, and what keeping it asks.
 pub record AsksKept (frame : Frame) (notes scratch : List ℕ) (t : Target) (e : ℕ) : Type 0 where
@@ -179,7 +184,15 @@ pub record AsksKept (frame : Frame) (notes scratch : List ℕ) (t : Target) (e :
   pub formulas : frame .formulas ≤ 4096
   pub memo : 2 * frame .formulas + 2 * frame .effects ≤ length scratch
 
--- Word w is 0, or what notes or memo have of target t and row e.
+-- Word w is 0, or what the notes have of target t and row e.
+pub record RecallsNoted (frame : Frame) (notes : List ℕ) (t : Target) (e w : ℕ) : Type 0 where
+  pub known :
+      (formulas effects : List ℕ) (s : St)
+      → Noted frame formulas effects notes s
+      → 0 < w
+      → Known (condition-at frame formulas effects t e) s (w - 1)
+
+-- Word w is 0, or what memo or notes have of target t and row e.
 pub record Recalls (frame : Frame) (notes scratch : List ℕ) (t : Target) (e w : ℕ) : Type 0 where
   pub known :
       (formulas effects : List ℕ) (s : St)
@@ -188,24 +201,18 @@ pub record Recalls (frame : Frame) (notes scratch : List ℕ) (t : Target) (e w 
       → 0 < w
       → Known (condition-at frame formulas effects t e) s (w - 1)
 
--- entry d of the path down the rows: in the last words of the notes
-unfoldable pub path-at : Frame → List ℕ → ℕ → ℕ
-path-at frame notes d = getD notes (length notes - frame .effects + d) 0
-
--- The entries before entry n are as they were.
-pub record PathStays (frame : Frame) (notes notes' : List ℕ) (n : ℕ) : Type 0 where
-  pub long : length notes' ≡ length notes
-  pub same : (d : ℕ) → d < n → path-at frame notes' d ≡ path-at frame notes d
-
--- The path and the memo of images stay as they are; notes and memo stay right if the row is known as the condition of target t and row e.
-pub record Keeps (frame : Frame) (notes notes' scratch scratch' : List ℕ) (t : Target) (e row : ℕ) : Type 0 where
-  pub stays : PathStays frame notes notes' (frame .effects)
-  pub images : (j : ℕ) → j < 2 * frame .formulas → getD scratch' j 0 ≡ getD scratch j 0
+-- The notes stay right if the row is known as the condition of target t and row e.
+pub record KeepsNoted (frame : Frame) (notes notes' : List ℕ) (t : Target) (e row : ℕ) : Type 0 where
   pub noted :
       (formulas effects : List ℕ) (s : St)
       → Known (condition-at frame formulas effects t e) s row
       → Noted frame formulas effects notes s
       → Noted frame formulas effects notes' s
+
+-- So does the memo; that of images stays as it is.
+pub record Keeps (frame : Frame) (notes notes' scratch scratch' : List ℕ) (t : Target) (e row : ℕ) : Type 0 where
+  pub keeps-noted : KeepsNoted frame notes notes' t e row
+  pub images : (j : ℕ) → j < 2 * frame .formulas → getD scratch' j 0 ≡ getD scratch j 0
   pub effect-memo :
       (formulas effects : List ℕ) (s : St)
       → Known (condition-at frame formulas effects t e) s row

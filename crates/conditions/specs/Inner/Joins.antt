@@ -12,7 +12,7 @@ use Rattle.formula_builder.specs.declared.Step.{Step}
 use Rattle.formula_builder.specs.Inner.Held.{Store, store, held, size-of, sized, side, Ready, Builds}
 use Rattle.images.specs.Inner.Images.{Known}
 use Rattle.conditions.specs.declared.Target.{Target}
-use Rattle.conditions.specs.Inner.Conditions.{join-of, Noted, Looks, PathStays}
+use Rattle.conditions.specs.Inner.Conditions.{join-of, Noted, Looks}
 
 -- Word w is 0, or the target is plain and w is what the notes keep of rows l and r for row e.
 pub record Rejoins (frame : Frame) (notes : List ℕ) (t : Target) (e l r w : ℕ) : Type 0 where
@@ -23,9 +23,8 @@ pub record Rejoins (frame : Frame) (notes : List ℕ) (t : Target) (e l r w : �
       → 0 < w
       → Known (join-of effects e l r) s (w - 1)
 
--- The path stays as it is, and the notes stay right if the target is negated, or row x is known as the join of rows l and r for row e.
+-- The notes stay right if the target is negated, or row x is known as the join of rows l and r for row e.
 pub record KeepsJoin (frame : Frame) (notes notes' : List ℕ) (t : Target) (e l r x : ℕ) : Type 0 where
-  pub stays : PathStays frame notes notes' (frame .effects)
   pub noted :
       (formulas effects : List ℕ) (s : St)
       → (t .negated ≡ false → Known (join-of effects e l r) s x)
@@ -49,7 +48,6 @@ pub record JoinsAs (frame : Frame) (formulas effects notes : List ℕ) (t : Targ
 
 -- Rows l and r are joined, and the notes stay right.
 pub record Joined (frame : Frame) (notes notes' : List ℕ) (t : Target) (e : ℕ) (or : Bool) (at : Size) (l r : ℕ) (before after : Store) (x : Step) : Type 0 where
-  pub stays : PathStays frame notes notes' (frame .effects)
   pub builds :
       (formulas effects : List ℕ) → JoinsAs frame formulas effects notes t e or at before → Builds (join (side or) l r) frame at before after x
   pub noted :

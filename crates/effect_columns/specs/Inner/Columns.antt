@@ -24,7 +24,7 @@ pub record Elsewhere (i : ℕ) (notes notes' : List ℕ) : Type 0 where
 -- Row e has a word for its column.
 pub record Meets (frame : Frame) (notes : List ℕ) (e : ℕ) : Type 0 where
   pub limit : frame .effects ≤ 4096
-  pub room : sets-end frame + frame .effects ≤ length notes
+  pub room : frame .effects ≤ length notes
   pub effect : e < frame .effects
 
 -- So do the rows that row i names, which are lower.
@@ -36,25 +36,27 @@ pub record HandsOn (frame : Frame) (notes : List ℕ) (i : ℕ) (r : Words) : Ty
 -- Each operator's effect is one of the rows.
 pub record FindsRoots (frame : Frame) (operators : List ℕ) (count : ℕ) (notes : List ℕ) : Type 0 where
   pub limit : frame .effects ≤ 4096
-  pub room : sets-end frame + frame .effects ≤ length notes
+  pub room : frame .effects ≤ length notes
   pub operators-limit : count ≤ 256
   pub words : 3 * count ≤ length operators
   pub effect : (k : ℕ) → k < count → row-at operators k .a < frame .effects
 
--- The rows keep the rules, too.
+-- The rows keep the rules, too, and there is room for the sets.
 pub record FindsColumns (frame : Frame) (effects operators : List ℕ) (count : ℕ) (notes : List ℕ) : Type 0 where
   pub rows : Rows frame effects
   pub roots : FindsRoots frame operators count notes
+  pub sets : sets-end frame ≤ length notes
 
--- Each row has a word for its column.
+-- Each row has a word for its column, and there is room for the sets.
 pub record Renumbers (frame : Frame) (notes : List ℕ) : Type 0 where
   pub limit : frame .effects ≤ 4096
-  pub room : sets-end frame + frame .effects ≤ length notes
+  pub room : frame .effects ≤ length notes
+  pub sets : sets-end frame ≤ length notes
 
 -- The rows keep the rules, too.
 pub record Thins (frame : Frame) (effects notes : List ℕ) : Type 0 where
   pub rows : Rows frame effects
-  pub room : sets-end frame + frame .effects ≤ length notes
+  pub room : frame .effects ≤ length notes
 
 -- Row i is the next one.
 pub record Settles (frame : Frame) (effects notes : List ℕ) (i : ℕ) : Type 0 where

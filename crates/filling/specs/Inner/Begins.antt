@@ -1,5 +1,5 @@
 -- Filling the lent tables: what it asks, without and with notes on the effect rows.
-use Prim.Native.Nat.{ℕ, _+_, _≤_}
+use Prim.Native.Nat.{ℕ, _≤_}
 use mathlib.Core.Path.{_≡_}
 use mathlib.Core.List.{List}
 use lib.ListN.{length, replicate}
@@ -20,7 +20,7 @@ pub record Begins (l : Lent) (rows twins effects : ℕ) (x : Tables) : Type 0 wh
 -- All tables are 0, and so are the one in which rows are built and the one for notes; there is room for records.
 pub record Owns (l : Lent) (rows twins effects : ℕ) (x : Tables) (notes built records : List ℕ) : Type 0 where
   pub begins : Begins l rows twins effects x
-  pub notes-space : sets-end (frame-of (l .head) rows twins) + l .head .effects ≤ length notes
+  pub notes-space : sets-end (frame-of (l .head) rows twins) ≤ length notes
   pub blank-notes : Zeros notes
   pub fresh : Fresh (frame-of (l .head) rows twins) built
   pub space : 6912 ≤ length records

@@ -17,9 +17,6 @@ number-rows-requires c κs = search needs
 sets-end-requires : tie.Need-sets-end-requires
 sets-end-requires c κs = search needs
 
-add-room : tie.Need-add-room
-add-room c = search needs
-
 sub-room : tie.Need-sub-room
 sub-room c = search needs
 
@@ -45,7 +42,11 @@ same-length-2 : tie.Need-same-length-2
 same-length-2 c = search needs
 
 returns-2 : tie.Need-returns-2
-returns-2 c = found-after (c .before .before .before .before .before .before .before .before .before .before .before .before .before .before .number-rows .ensures .elsewhere) (found-after (c .before .before .before .before .before .before .choose .ensures) (c .before .before .renumber .ensures))
+returns-2 c =
+    let at-renumber = c .before .before in
+    let at-choose = at-renumber .before .before .before .before in
+    let at-number-rows = at-choose .before .before .before .before .before .before .before in
+    found-after (at-number-rows .number-rows .ensures .elsewhere) (found-after (at-choose .choose .ensures) (at-renumber .renumber .ensures))
 
 pub find-columns-spec : {M : Type 1} → statement M
 find-columns-spec =
@@ -53,7 +54,6 @@ find-columns-spec =
     (tie.spec
     number-rows-requires
     sets-end-requires
-    add-room
     sub-room
     most-columns-requires
     cast-if1

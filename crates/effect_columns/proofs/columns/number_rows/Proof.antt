@@ -46,7 +46,7 @@ same-length c = c .before .loop .inv .long ∙ c .before .before .before .before
 
 -- src/columns.rt:95:1
 returns : tie.Need-returns Inv-loop μ-loop
-returns c = found-after (c .before .before .before .before .meet-roots .ensures) (settling-all (omega arith) (omega (arith, c .before .before .before .before .before .before .before .before .before .pre .roots .room, c .before .before .before .before .meet-roots .kept .1 .1 .1 .0)) (c .before .loop .inv))
+returns c = found-after (c .before .before .before .before .meet-roots .ensures) (settling-all (omega arith) (omega (arith, c .before .before .before .before .before .before .before .before .before .pre .sets, c .before .before .before .before .meet-roots .kept .1 .1 .1 .0)) (c .before .loop .inv))
 
 pub number-rows-spec : {M : Type 1} → statement M
 number-rows-spec =

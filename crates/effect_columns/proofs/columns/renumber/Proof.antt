@@ -53,7 +53,7 @@ same-length c = c .before .loop .inv .long
 
 -- src/columns.rt:143:1
 returns : tie.Need-returns Inv-loop μ-loop
-returns c = settling-all (omega arith) (c .before .before .before .pre .room) (c .before .loop .inv)
+returns c = settling-all (omega arith) (c .before .before .before .pre .sets) (c .before .loop .inv)
 
 pub renumber-spec : {M : Type 1} → statement M
 renumber-spec =
