@@ -1,17 +1,19 @@
 -- The operators one after another: each behind those before it, its rules and its row. Assumes nothing.
-use Prim.Native.Nat.{ℕ, zero, suc, _+_, _-_, _≤_, _<_}
+use Prim.Native.Nat.{ℕ, zero, suc, _+_, _-_, _≤_, _<_, _*_}
 use native.Mathlib.Omega.{arith}
 use native.Mathlib.Numerals.{add-one}
 use native.Mathlib.Decide.{decLe}
-use mathlib.Core.Path.{_≡_, refl, sym, ap, ap₂, _∙_}
+use mathlib.Core.Path.{_≡_, refl, sym, ap, _∙_}
 use mathlib.Core.Bool.{true, false, true≢false}
 use mathlib.Core.List.{List, [], _∷_, _++_}
 use lib.ListN.{length, replicate, length-append}
 use Rattle.task.specs.Bounded.{upto}
-use Rattle.task.specs.Table.{Row, Operator, row-at}
+use Rattle.task.specs.Table.{Row, Operator, row-at, operator-width, with-parts, operator-at}
 use Rattle.task.specs.Words.{joined, operator-words, padded}
+use Rattle.task.specs.Inner.Stored.{operator-stored}
+use Rattle.task.proofs.Stores.{length-operator-stored, padded-operator}
 use Rattle.normal_form.specs.Operators.{Changes, Built}
-use Rattle.normal_form.specs.Assembly.{rules-of, rules, write-rules, Assembled, assemble-operator, assemble, unassembled}
+use Rattle.normal_form.specs.Assembly.{rules-of, rules, Assembled, assemble-operator, assemble, unassembled}
 use Rattle.normal_form.proofs.Growth.{longer}
 use Rattle.normal_form.proofs.Padded.{padded-none, padded-empty}
 use Rattle.normal_form.proofs.ShapeAssembled.{unwritten}
@@ -21,7 +23,7 @@ use Rattle.formula_builder.specs.declared.Words.{Words}
 use Rattle.formula_builder.specs.Inner.Held.{row-of}
 use Rattle.rule_writer.specs.declared.Chain.{Chain}
 use Rattle.rule_writer.specs.declared.Frame.{Frame}
-use Rattle.rule_writer.specs.Inner.Writes.{Holds, Writes, OneMore, Ready as RuleReady}
+use Rattle.rule_writer.specs.Inner.Writes.{Holds, Writes, Ready as RuleReady}
 use Rattle.rule_writer.proofs.Writing.{writes-none, writes-as, writes-variable}
 use Rattle.rule_writer.specs.Inner.Places.{begun}
 use Rattle.records.specs.Inner.Recorded.{change-at, changes-from}
@@ -84,32 +86,37 @@ module _ (n : ℕ) (twins records : List ℕ) where
       → Writes (rules n twins (changes-between records k end)) room chain out out' r
   records-all k i end e x = rw (sym e) x
 
--- One operator: its rules, then its row.
-module _ (n : ℕ) (twins records : List ℕ) (w : Row) (k : ℕ) {cost room rows o : ℕ} {r : Chain} {out out' operators operators' : List ℕ} (y : Writes (rules n twins (changes-between records k (w .a))) room (begun rows) out out' r) (z : OneMore o (record { precondition = w .kind; effect = r .stands; cost = cost }) operators operators') where
+-- One operator: its rules, then its row, which is the source's with another precondition and effect.
+module _ (n : ℕ) (twins records : List ℕ) (w : Row) (k : ℕ) (source : Operator) {room rows o : ℕ} {r : Chain} {out out' operators operators' : List ℕ} (y : Writes (rules n twins (changes-between records k (w .a))) room (begun rows) out out' r) (space : operator-width * o + operator-width ≤ length operators) (stored : operators' ≡ operator-stored operators o (with-parts source (w .kind) (r .stands))) where
   held-before : (a : Assembled) → Holding a rows o out operators → Holds (unwritten (a .effects)) (begun rows) out
   held-before a h = record { rows = h .effect-rows; stands = refl; words = h .effect-words }
 
-  pub operator-written : WroteOperator (built-of records w k cost) n twins room rows o r out out' operators operators'
+  -- behind the operators that stand, one more
+  row-written :
+      (before : List Operator) (stands : ℕ)
+      → length before ≡ o
+      → operators ≡ padded (length operators) (operator-words before)
+      → stands ≡ r .stands
+      → operators' ≡ padded (length operators') (operator-words (before ++ (with-parts source (w .kind) stands ∷ [])))
+  row-written before stands count held e =
+      let row : Operator = with-parts source (w .kind) (r .stands) in
+      let long : length operators' ≡ length operators = ap length stored ∙ length-operator-stored operators o row in
+      rw (e, long)
+      (stored
+      ∙ ap (λ (t : List ℕ). operator-stored t o row) held
+      ∙ padded-operator (length operators) before o row count space)
+
+  pub operator-written : WroteOperator (built-of records w k source) n twins room rows o r out out' operators operators'
   unfolding assemble-operator built-of
   operator-written =
       record {
         done = λ a h q.
             let s = y .done (unwritten (a .effects)) (held-before a h) q in
-            let e : Operator = record { precondition = w .kind; effect = r .stands; cost = cost } in
-            let b : Operator =
-            record {
-              precondition = w .kind;
-              effect = write-rules (unwritten (a .effects)) (rules n twins (changes-between records k (w .a))) .stands;
-              cost = cost;
-            } in
-            let same : e ≡ b = λ i. record { precondition = w .kind; effect = sym (s .stands) i; cost = cost } in
             record {
               effect-rows = s .rows;
-              operator-rows = length-append (a .operators) (b ∷ []) ∙ omega (arith, h .operator-rows);
+              operator-rows = length-append (a .operators) (_ ∷ []) ∙ omega (arith, h .operator-rows);
               effect-words = s .words;
-              held-operators =
-                  z .words (a .operators) (h .operator-rows) (h .held-operators)
-                  ∙ ap₂ (λ (m : ℕ) (u : Operator). padded m (operator-words (a .operators ++ (u ∷ [])))) (sym (z .same)) same;
+              held-operators = row-written (a .operators) _ (h .operator-rows) (h .held-operators) (s .stands);
             };
         over = λ a h q few. y .over (unwritten (a .effects)) (held-before a h) refl q few;
       }
@@ -192,10 +199,10 @@ module _ (n : ℕ) (twins operators records : List ℕ) where
       none : (m : ℕ) → padded m [] ≡ padded m (operator-words (unassembled .operators))
       none m = unfold unassembled operator-words in refl
 
-  module _ {room rows k : ℕ} {r : Chain} {out out' outs outs' : List ℕ} (o : ℕ) (w c : Words) (words : row-of w ≡ row-at records o) (source : row-of c ≡ row-at operators o) (from : k ≡ begins-at records o) (h : Holding (assembled-in n twins operators records o) rows o out outs) (x : WroteOperator (built-of records (row-of w) k (c .b)) n twins room rows o r out out' outs outs') where
-    its : built-of records (row-of w) k (c .b) ≡ built-in operators records o
+  module _ {room rows k : ℕ} {r : Chain} {out out' outs outs' : List ℕ} (o : ℕ) (w : Words) (words : row-of w ≡ row-at records o) (from : k ≡ begins-at records o) (h : Holding (assembled-in n twins operators records o) rows o out outs) (x : WroteOperator (built-of records (row-of w) k (operator-at operators o)) n twins room rows o r out out' outs outs') where
+    its : built-of records (row-of w) k (operator-at operators o) ≡ built-in operators records o
     unfolding built-in
-    its = rw (words, from, ap (λ (r : Row). r .b) source)
+    its = rw (words, from)
 
     one-more : WroteOperator (built-in operators records o) n twins room rows o r out out' outs outs'
     one-more = rw its at x
@@ -239,7 +246,7 @@ pub asks-operator :
     → rows ≤ frame .room
     → length out ≡ length out₀
     → length written ≡ length written₀
-    → WritesOperator frame records places (row-of w) o k rows out written
+    → WritesOperator frame operators records places (row-of w) o k rows out written
 asks-operator {o = o} w a all h words from most long wide =
     record {
       changes =
@@ -253,5 +260,6 @@ asks-operator {o = o} w a all h words from most long wide =
             room = a .room;
             in-order = rw (from, ap (λ (r : Row). r .a) words) (a .in-order o h);
           };
+      words = omega (arith, a .words);
       space = omega (arith, a .operator-space, wide);
     }

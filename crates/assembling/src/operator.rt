@@ -5,7 +5,8 @@ use rule_writer::Chain;
 use rule_writer::Changes;
 use rule_writer::Frame;
 use rule_writer::write_changes;
-use rule_writer::write_operator;
+use task::operator_rows::store_with_parts;
+ghost use Rattle.task.specs.Table.{operator-at};
 ghost use Rattle.normal_form.specs.Assembly.{rules};
 ghost use Rattle.formula_builder.specs.Inner.Held.{row-of};
 ghost use Rattle.rule_writer.specs.Inner.Writes.{Ready, Writes};
@@ -44,21 +45,21 @@ fn write_records(
     r
 }
 
-// Operator o, its record being w and its changes recorded from k on, behind so many effect rows.
+// Operator o of the source, its record being w and its changes recorded from k on, behind so many effect rows.
 pub fn assemble_operator(
+    source: &[u16],
     records: &[u16],
     places: &[u16],
     w: Words,
-    cost: u16,
     o: usize,
     k: usize,
     frame: Frame,
     rows: usize,
     out: &mut [u16],
-    operators: &mut [u16],
+    written: &mut [u16],
 ) -> Chain
-    requires { ⌜ WritesOperator frame (now records) (now places) (row-of w) o k rows (now out) (now operators) ⌝ }
-    ensures { λ r. ⌜ Ready (frame .room) r (now (out .exit)) × ForTwins frame (now (places .entry)) (λ twins. WroteOperator (built-of (now (records .entry)) (row-of w) k cost) (frame .variables) twins (frame .room) rows o r (now (out .entry)) (now (out .exit)) (now (operators .entry)) (now (operators .exit))) ⌝ }
+    requires { ⌜ WritesOperator frame (now source) (now records) (now places) (row-of w) o k rows (now out) (now written) ⌝ }
+    ensures { λ r. ⌜ Ready (frame .room) r (now (out .exit)) × ForTwins frame (now (places .entry)) (λ twins. WroteOperator (built-of (now (records .entry)) (row-of w) k (operator-at (now (source .entry)) o)) (frame .variables) twins (frame .room) rows o r (now (out .entry)) (now (out .exit)) (now (written .entry)) (now (written .exit))) ⌝ }
 {
     let r = write_records(
         records,
@@ -73,6 +74,6 @@ pub fn assemble_operator(
         },
         out,
     );
-    write_operator(operators, o, w.kind, r.stands, cost);
+    store_with_parts(source, o, w.kind, r.stands, written);
     r
 }

@@ -27,12 +27,11 @@ fn assemble_placed(
     let mut o = 0;
     while o < count {
         let w = read_row(records, o);
-        let source = read_row(operators, o);
         let r = assemble_operator(
+            operators,
             records,
             places,
             w,
-            source.b,
             o,
             k,
             frame,

@@ -6,15 +6,13 @@ use mathlib.Core.Path.{_≡_, refl, sym, ap, _∙_}
 use mathlib.Core.Bool.{true, false, true≢false}
 use mathlib.Core.List.{List, []}
 use lib.ListN.{length}
-use Rattle.task.specs.Table.{Row, row-at}
+use Rattle.task.specs.Table.{operator-at}
 use Rattle.normal_form.specs.Builder.{St, Got, give, bind, each, place, start, plain}
-use Rattle.normal_form.specs.Operators.{Changes}
-use Rattle.normal_form.specs.Inner.Stored.{three}
-use Rattle.formula_builder.specs.declared.Words.{Words}
+use Rattle.task.specs.Inner.Stored.{three}
 use Rattle.formula_builder.specs.declared.Frame.{Frame}
 use Rattle.formula_builder.specs.declared.Step.{Step}
 use Rattle.formula_builder.specs.Inner.Index.{FirstTwo}
-use Rattle.formula_builder.specs.Inner.Held.{Store, store, row-of, held, twin-word, TwinsNamed, Within}
+use Rattle.formula_builder.specs.Inner.Held.{Store, store, held, twin-word, TwinsNamed, Within}
 use Rattle.formula_builder.proofs.Steps.{within-before}
 use Rattle.images.specs.Inner.Images.{image-at, memo-place, Images, Asks}
 use Rattle.images.proofs.Memos.{steady-image-at}
@@ -154,47 +152,48 @@ module _ (frame : Frame) (formulas effects operators : List ℕ) where
               };
         })
 
-    module _ (q : p .full ≡ false) (w : Words) (words : row-of w ≡ row-at operators (p .operators)) where
+    module _ (q : p .full ≡ false) {f e : ℕ} (its-formula : f ≡ operator-at operators (p .operators) .precondition) (its-effect : e ≡ operator-at operators (p .operators) .effect) where
       stood : Stood (operators-built frame formulas effects operators (p .operators) start .st) frame formulas effects (size-at p) s scratch
       stood = t .taken .done q
 
-      pub asks-operator : BuildsOperator frame formulas effects notes (size-at p) s scratch (w .kind) (w .a)
+      pub asks-operator : BuildsOperator frame formulas effects notes (size-at p) s scratch f e
       asks-operator =
           record {
             stands =
-                record { stands = stood .stands; noted = t .leaves .noted q; effect = omega (arith, ap (λ (r : Row). r .a) words, t .effect) };
-            formula = omega (arith, ap (λ (r : Row). r .kind) words, t .precondition);
+                record { stands = stood .stands; noted = t .leaves .noted q; effect = omega (arith, its-effect, t .effect) };
+            formula = omega (arith, its-formula, t .precondition);
           }
+
+      -- what operator p .operators gives in a state is what f and e give in the state that is held
+      here :
+          {A : Type 0} (step : ℕ → ℕ → St → A)
+          → let source = operator-at operators (p .operators) in
+          step (source .precondition) (source .effect) (operators-built frame formulas effects operators (p .operators) start .st)
+          ≡ step f e (held (size-at p) s)
+      here step = rw (stood .state, its-formula, its-effect)
 
       one-more :
           operators-built frame formulas effects operators (p .operators + 1) start .st
-          ≡ operator-built frame formulas effects (w .kind) (w .a) (held (size-at p) s) .st
+          ≡ operator-built frame formulas effects f e (held (size-at p) s) .st
       unfolding operators-built operator-here each bind give
-      one-more =
-          let step : Row → St → St = λ r m. operator-built frame formulas effects (r .kind) (r .a) m .st in
-          rw (add-one (p .operators))
-          (ap (step (row-at operators (p .operators))) (stood .state) ∙ ap (λ (r : Row). step r (held (size-at p) s)) (sym words))
+      one-more = rw (add-one (p .operators)) (here (λ a b m. operator-built frame formulas effects a b m .st))
 
       pub opens : Opens (p .records) records
       opens = record { room = t .room; limit = t .taken .kept q .limit }
 
       here-changes :
           changes-here frame formulas effects operators (p .operators)
-          ≡ operator-built frame formulas effects (w .kind) (w .a) (held (size-at p) s) .value
+          ≡ operator-built frame formulas effects f e (held (size-at p) s) .value
       unfolding changes-here operator-here
-      here-changes =
-          let step : Row → St → List Changes = λ r m. operator-built frame formulas effects (r .kind) (r .a) m .value in
-          ap (step (row-at operators (p .operators))) (stood .state) ∙ ap (λ (r : Row). step r (held (size-at p) s)) (sym words)
+      here-changes = here (λ a b m. operator-built frame formulas effects a b m .value)
 
       here-precondition :
           precondition-here frame formulas effects operators (p .operators)
-          ≡ image-at frame formulas plain (w .kind) (held (size-at p) s) .value
+          ≡ image-at frame formulas plain f (held (size-at p) s) .value
       unfolding precondition-here
-      here-precondition =
-          let step : Row → St → ℕ = λ r m. image-at frame formulas plain (r .kind) m .value in
-          ap (step (row-at operators (p .operators))) (stood .state) ∙ ap (λ (r : Row). step r (held (size-at p) s)) (sym words)
+      here-precondition = here (λ a b m. image-at frame formulas plain a m .value)
 
-      module _ {after : Store} {s2 l : List ℕ} (z : Tally) (y : OperatorWalked frame formulas effects (w .kind) (w .a) (size-at p) s after s2 (p .records) records l z) where
+      module _ {after : Store} {s2 l : List ℕ} (z : Tally) (y : OperatorWalked frame formulas effects f e (size-at p) s after s2 (p .records) records l z) where
         -- no room for its rows or twins
         pub took-over : {r : Progress} → z .full ≡ true → r ≡ stopped (p .operators + 1) → Took frame formulas effects operators after s2 l p r
         took-over g e =

@@ -4,7 +4,7 @@ use native.Mathlib.Omega.{arith}
 use mathlib.Core.Path.{_≡_, refl, ap, _∙_}
 use lib.ListN.{length}
 use mathlib.Core.List.{List, [], _∷_, _++_}
-use Rattle.task.specs.Table.{Task, row-at}
+use Rattle.task.specs.Table.{Task, operator-at}
 use Rattle.task.specs.Run.{operator-of, effect-of-operator}
 use Rattle.task.specs.Tree.{formula-of}
 use Rattle.task.specs.Bounded.{upto}
@@ -43,15 +43,15 @@ made-here frame formulas effects operators o =
     record {
       precondition = precondition-here frame formulas effects operators o;
       changes = changes-here frame formulas effects operators o;
-      cost = row-at operators o .b;
+      source = operator-at operators o;
     }
 
 -- The task t is what the tables hold.
-module _ (t : Task) (frame : Frame) (formulas effects operators : List ℕ) (count goal : ℕ) (variables : length (t .initial) ≡ frame .variables) (its-formulas : t .formulas ≡ source-rows frame formulas) (its-effects : t .effects ≡ effect-rows frame effects) (its-count : length (t .operators) ≡ count) (precondition : (o : ℕ) → o < count → operator-of t o .precondition ≡ row-at operators o .kind) (effect : (o : ℕ) → o < count → operator-of t o .effect ≡ row-at operators o .a) (its-goal : t .goal ≡ goal) where
+module _ (t : Task) (frame : Frame) (formulas effects operators : List ℕ) (count goal : ℕ) (variables : length (t .initial) ≡ frame .variables) (its-formulas : t .formulas ≡ source-rows frame formulas) (its-effects : t .effects ≡ effect-rows frame effects) (its-count : length (t .operators) ≡ count) (its-operator : (o : ℕ) → o < count → operator-of t o ≡ operator-at operators o) (its-goal : t .goal ≡ goal) where
   same-operator :
       (o : ℕ) → o < count → (s : St) → built-operator t o s .st ≡ operator-here frame formulas effects operators o s .st
   unfolding built-operator operator-here operator-built all-changes image-at tree effect-tree effect-of-operator bind give
-  same-operator o h s = rw (precondition o h, effect o h, variables, its-formulas, its-effects)
+  same-operator o h s = rw (its-operator o h, variables, its-formulas, its-effects)
 
   same-operators :
       (s : St)
@@ -82,39 +82,38 @@ module _ (t : Task) (frame : Frame) (formulas effects operators : List ℕ) (cou
       ∙ ap (λ (g : Got ℕ). g .value) (last s)
 
   -- the operators
-  module _ (cost : (o : ℕ) → o < count → operator-of t o .cost ≡ row-at operators o .b) where
-    state-here :
-        (o : ℕ) → o < count → each o (built-operator t) start .st ≡ operators-built frame formulas effects operators o start .st
-    unfolding operators-built
-    state-here o h =
-        each-same o (built-operator t) (operator-here frame formulas effects operators) (λ k b. same-operator k (omega arith)) start
+  state-here :
+      (o : ℕ) → o < count → each o (built-operator t) start .st ≡ operators-built frame formulas effects operators o start .st
+  unfolding operators-built
+  state-here o h =
+      each-same o (built-operator t) (operator-here frame formulas effects operators) (λ k b. same-operator k (omega arith)) start
 
-    same-made :
-        (o : ℕ)
-        → o < count
-        → (s : St)
-        → built-operator t o s .value
-        ≡ record {
-          precondition = image-at frame formulas plain (row-at operators o .kind) s .value;
-          changes = operator-here frame formulas effects operators o s .value;
-          cost = row-at operators o .b;
-        }
-    unfolding built-operator operator-here operator-built all-changes image-at tree effect-tree effect-of-operator bind give
-    same-made o h s = rw (precondition o h, effect o h, cost o h, variables, its-formulas, its-effects)
+  same-made :
+      (o : ℕ)
+      → o < count
+      → (s : St)
+      → built-operator t o s .value
+      ≡ record {
+        precondition = image-at frame formulas plain (operator-at operators o .precondition) s .value;
+        changes = operator-here frame formulas effects operators o s .value;
+        source = operator-at operators o;
+      }
+  unfolding built-operator operator-here operator-built all-changes image-at tree effect-tree effect-of-operator bind give
+  same-made o h s = rw (its-operator o h, variables, its-formulas, its-effects)
 
-    its-made :
-        (o : ℕ)
-        → o < count
-        → built-operator t o (each o (built-operator t) start .st) .value ≡ made-here frame formulas effects operators o
-    unfolding precondition-here changes-here
-    its-made o h =
-        ap (λ (s : St). built-operator t o s .value) (state-here o h)
-        ∙ same-made o h (operators-built frame formulas effects operators o start .st)
+  its-made :
+      (o : ℕ)
+      → o < count
+      → built-operator t o (each o (built-operator t) start .st) .value ≡ made-here frame formulas effects operators o
+  unfolding precondition-here changes-here
+  its-made o h =
+      ap (λ (s : St). built-operator t o s .value) (state-here o h)
+      ∙ same-made o h (operators-built frame formulas effects operators o start .st)
 
-    pub same-operators-made : parts t start .value .operators ≡ upto count (made-here frame formulas effects operators)
-    unfolding parts bind give
-    same-operators-made =
-        each-upto (length (t .operators)) (built-operator t) start
-        ∙ ap (λ (n : ℕ). upto n (λ o. built-operator t o (each o (built-operator t) start .st) .value)) its-count
-        ∙ upto-same count (λ o. built-operator t o (each o (built-operator t) start .st) .value) (made-here frame formulas effects operators)
-        its-made
+  pub same-operators-made : parts t start .value .operators ≡ upto count (made-here frame formulas effects operators)
+  unfolding parts bind give
+  same-operators-made =
+      each-upto (length (t .operators)) (built-operator t) start
+      ∙ ap (λ (n : ℕ). upto n (λ o. built-operator t o (each o (built-operator t) start .st) .value)) its-count
+      ∙ upto-same count (λ o. built-operator t o (each o (built-operator t) start .st) .value) (made-here frame formulas effects operators)
+      its-made

@@ -3,9 +3,10 @@ use crate::Progress;
 use formula_builder::Frame;
 use formula_builder::Size;
 use formula_builder::first_rows;
-use formula_builder::read_row;
 use operators::build_operator;
 use rule_writer::store;
+use task::operator_rows::effect_of;
+use task::operator_rows::precondition_of;
 ghost use mathlib.Core.Path.{_≡_};
 ghost use mathlib.Core.Bool.{true};
 ghost use Rattle.formula_builder.specs.Inner.Held.{store};
@@ -65,13 +66,14 @@ pub fn take_operator(
     if at.full {
         return no_room(next);
     }
-    let w = read_row(operators, at.operators);
+    let precondition = precondition_of(operators, at.operators);
+    let effect = effect_of(operators, at.operators);
     let r = build_operator(
         formulas,
         effects,
         notes,
-        w.kind as usize,
-        w.a as usize,
+        precondition as usize,
+        effect as usize,
         frame,
         Size {
             rows: at.rows,

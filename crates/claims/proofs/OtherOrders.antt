@@ -5,6 +5,7 @@ use mathlib.Core.Path.{_≡_, ap}
 use mathlib.Core.List.{[], _∷_}
 use Rattle.task.specs.Table.{Row}
 use Rattle.task.specs.Semantics.{variable, sets, clears, Effect, atomic, both, under}
+use Rattle.task.specs.Rules.{no-operator}
 use Rattle.normal_form.specs.Builder.{St, Build, give, bind, place, including, same-row, row, twin, variable-row, twin-row, start, plain, negated, choice, join-as, join, pair}
 use Rattle.normal_form.specs.Image.{literal, image}
 use Rattle.normal_form.specs.Conditions.{guarded, condition}
@@ -102,7 +103,7 @@ n-left-of-d o =
 
 -- the goal "not v1" before an operator that requires "not v0": v1's twin is met first
 abbrev operator : ℕ → Build Built
-operator o = bind (image 2 negated (variable 0)) (λ p. give (record { precondition = p; changes = []; cost = 0 }))
+operator o = bind (image 2 negated (variable 0)) (λ p. give (record { precondition = p; changes = []; source = no-operator }))
 
 abbrev goal : Build ℕ
 goal = image 2 negated (variable 1)

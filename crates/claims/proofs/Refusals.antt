@@ -10,7 +10,7 @@ use lib.ListN.{length, getD, replicate, length-append, length-replicate, getD-re
 use lib.Seq.{getD-append-add}
 use lib.Dec.{leb, eqb}
 use borrow.Author.Tests.{leb-true}
-use Rattle.task.specs.Table.{Row, Operator, Lent, Task, task-of}
+use Rattle.task.specs.Table.{Row, Operator, Lent, Task, task-of, operator-width}
 use Rattle.task.specs.Check.{state-kept, sequence-kept, refusal, unless}
 use Rattle.task.specs.Run.{Run, Stop, ended, stopped, plain-run}
 use Rattle.task.specs.Words.{padded, head-of, words-of, operator-words}
@@ -75,10 +75,10 @@ rows-past n rows h = zero-past n (words-of rows) (3 * length rows) (length-words
 
 operators-past :
     (n : ℕ) (operators : List Operator)
-    → 3 * length operators ≤ n
-    → ZeroPast (3 * length operators) n (operator-words operators ++ replicate (n - length (operator-words operators)) 0)
+    → operator-width * length operators ≤ n
+    → ZeroPast (operator-width * length operators) n (operator-words operators ++ replicate (n - length (operator-words operators)) 0)
 operators-past n operators h =
-    zero-past n (operator-words operators) (3 * length operators) (length-operator-words operators) h
+    zero-past n (operator-words operators) (operator-width * length operators) (length-operator-words operators) h
 
 -- read: a refusal leaves all five tables 0; a task that is read leaves 0 past V bytes, W originals and three words a row.
 pub read-leaves : (l : Lengths) (file : List ℕ) → OfBytes file → ReadLeaves l (read-outcome l file)

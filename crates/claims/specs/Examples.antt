@@ -4,7 +4,7 @@ use Prim.Native.Nat.{ℕ}
 use mathlib.Core.Bool.{true}
 use mathlib.Core.List.{List, [], _∷_}
 use lib.ListN.{replicate}
-use Rattle.task.specs.Table.{Row, Operator, Lent, Task, task-of}
+use Rattle.task.specs.Table.{Row, Operator, Lent, Task, task-of, operator}
 use Rattle.task.specs.Check.{refusal}
 use Rattle.task.specs.Words.{lent-of}
 use Rattle.printing.specs.Lines.{bytes}
@@ -49,12 +49,9 @@ pub record Example : Type 0 where
   pub asked : Asked
   pub told : Told
 
--- a row: kind, a, b; of an operator: precondition, effect, cost
+-- a row: kind, a, b
 abbrev pub a-row : (kind a b : ℕ) → Row
 a-row k a b = record { kind = k; a = a; b = b }
-
-abbrev pub operator : (precondition effect cost : ℕ) → Operator
-operator p e c = record { precondition = p; effect = e; cost = c }
 
 -- tables without twins: initial values, formulas, effects, operators, goal
 abbrev pub task-tables : List ℕ → (formulas effects : List Row) → List Operator → (goal : ℕ) → Lent

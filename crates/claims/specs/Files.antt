@@ -3,7 +3,7 @@ use Prim.Native.Nat.{ℕ, _*_}
 use mathlib.Core.Path.{_≡_}
 use mathlib.Core.List.{List}
 use lib.ListN.{length, take}
-use Rattle.task.specs.Table.{Lent}
+use Rattle.task.specs.Table.{Lent, operator-width}
 use Rattle.task_file.specs.declared.ReadAnswer.the-variants.{Read}
 use Rattle.task_file.specs.Outcome.{ReadOutcome}
 use Rattle.task_writer.specs.declared.WriteAnswer.the-variants.{Written}
@@ -16,7 +16,7 @@ pub record SameTables (l : Lent) (o : ReadOutcome) : Type 0 where
   pub twins : take (l .head .twins) (o .twins) ≡ take (l .head .twins) (l .twins)
   pub formulas : take (3 * l .head .formulas) (o .formulas) ≡ take (3 * l .head .formulas) (l .formulas)
   pub effects : take (3 * l .head .effects) (o .effects) ≡ take (3 * l .head .effects) (l .effects)
-  pub operators : take (3 * l .head .operators) (o .operators) ≡ take (3 * l .head .operators) (l .operators)
+  pub operators : take (operator-width * l .head .operators) (o .operators) ≡ take (operator-width * l .head .operators) (l .operators)
 
 -- A writing answers the length of a file, and gives its bytes.
 pub record SameFile (file : List ℕ) (o : WriteOutcome) : Type 0 where

@@ -7,7 +7,7 @@ use mathlib.Core.Bool.{Bool, false}
 use mathlib.Core.List.{List}
 use lib.ListN.{length, getD}
 use Rattle.task.specs.declared.Head.{Head}
-use Rattle.task.specs.Table.{Task}
+use Rattle.task.specs.Table.{Task, operator-width}
 use Rattle.file_format.specs.Bytes.{file-of}
 use Rattle.file_format.specs.Reading.{Lengths, accepted, reading}
 use Rattle.task_file.specs.declared.ReadAnswer.the-variants.{Read, Refused}
@@ -48,7 +48,7 @@ pub record TaskRead (l : Lengths) (h : Head) (o : ReadOutcome) : Type 0 where
   pub twins : ZeroPast (h .twins) (l .twins) (o .twins)
   pub formulas : ZeroPast (3 * h .formulas) (l .formulas) (o .formulas)
   pub effects : ZeroPast (3 * h .effects) (l .effects) (o .effects)
-  pub operators : ZeroPast (3 * h .operators) (l .operators) (o .operators)
+  pub operators : ZeroPast (operator-width * h .operators) (l .operators) (o .operators)
 
 pub record ReadLeaves (l : Lengths) (o : ReadOutcome) : Type 0 where
   pub after-refusal : (n : ℕ) → o .answer ≡ Refused n → NoTaskRead l o
@@ -72,7 +72,7 @@ pub record TaskCompiled (room : Room) (h : Head) (o : CompileOutcome) : Type 0 w
   pub twins : ZeroPast (h .twins) (room .twins) (o .twins)
   pub formulas : ZeroPast (3 * h .formulas) (room .formulas) (o .formulas)
   pub effects : ZeroPast (3 * h .effects) (room .effects) (o .effects)
-  pub operators : ZeroPast (3 * h .operators) (room .operators) (o .operators)
+  pub operators : ZeroPast (operator-width * h .operators) (room .operators) (o .operators)
 
 pub record CompileLeaves (room : Room) (o : CompileOutcome) : Type 0 where
   pub after-refusal : (n : ℕ) → o .answer ≡ not-compiled n → NoTaskCompiled room o

@@ -5,6 +5,8 @@ ghost use Rattle.task_file.specs.Outcome.{lengths};
 ghost use Rattle.entry_tables.specs.Own.{small};
 ghost use Rattle.compiled_file.specs.Filed.{CompileGives};
 ghost use Rattle.compile_entry.specs.Entry.{compile-entry-by, compile-entry};
+use entry_tables::SMALL_OPERATOR_WORDS;
+use task::operator_rows::MOST_OPERATOR_WORDS;
 use task_file::ReadAnswer;
 
 // Reads into tables that are lent, then compiles. What these hold afterwards is left open: they end with the caller's call.
@@ -44,7 +46,7 @@ fn compile_from_small(file: &[u8], out: &mut [u8], result: &mut [u8]) -> u32
     let mut twins = [0u16; 64];
     let mut formulas = [0u16; 384];
     let mut effects = [0u16; 384];
-    let mut operators = [0u16; 384];
+    let mut operators = [0u16; SMALL_OPERATOR_WORDS];
     read_and_compile(
         file,
         &mut initial,
@@ -65,7 +67,7 @@ fn compile_from_full(file: &[u8], out: &mut [u8], result: &mut [u8]) -> u32
     let mut twins = [0u16; 256];
     let mut formulas = [0u16; 12288];
     let mut effects = [0u16; 12288];
-    let mut operators = [0u16; 768];
+    let mut operators = [0u16; MOST_OPERATOR_WORDS];
     read_and_compile(
         file,
         &mut initial,

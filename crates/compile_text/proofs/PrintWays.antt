@@ -8,6 +8,7 @@ use lib.ListN.{length, getD, replicate, length-append, length-take}
 use Rattle.task.specs.Table.{Lent, task-of}
 use Rattle.task.specs.Check.{refusal}
 use Rattle.task.specs.Words.{padded}
+use Rattle.task.proofs.Stores.{cost-among}
 use Rattle.printing.specs.declared.PrintAnswer.{PrintAnswer}
 use Rattle.printing.specs.declared.PrintAnswer.the-variants.{Printed}
 use Rattle.printing.specs.Lines.{lines, refusal-line}
@@ -53,4 +54,4 @@ pub task-given :
     → length out ≡ n
     → TextGives (lines (task-of l)) r out
 task-given l n e words s p told long =
-    printed-whole (lines (task-of l)) (ap (printing l) s ∙ task-printed l most e (λ i h. words (3 * i + 2)) (omega arith)) p told (long ∙ s)
+    printed-whole (lines (task-of l)) (ap (printing l) s ∙ task-printed l most e (λ i h. cost-among (λ c. c < 65536) (l .operators) i words) (omega arith)) p told (long ∙ s)

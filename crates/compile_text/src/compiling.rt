@@ -11,6 +11,7 @@ use crate::answers::number_line;
 use crate::answers::task_lines;
 use compiler::CompileAnswer;
 use task::Head;
+use task::operator_rows::MOST_OPERATOR_WORDS;
 
 // Through tables that are lent. What these hold afterwards is left open: they end with the caller's call. The compiling, and one pass over the
 // compiled task.
@@ -69,7 +70,7 @@ pub fn compile_text(
     let mut originals = [0u16; 256];
     let mut table = [0u16; 12288];
     let mut rules = [0u16; 12288];
-    let mut written = [0u16; 768];
+    let mut written = [0u16; MOST_OPERATOR_WORDS];
     let mut scratch = [0u16; 16384];
     compile_through(
         head,

@@ -4,6 +4,7 @@ ghost use Rattle.compile_text.specs.Inner.Giving.{Own};
 ghost use Rattle.compile_text.specs.Text.{TextGives};
 use crate::answers::number_line;
 use crate::compiling::compile_text;
+use task::operator_rows::MOST_OPERATOR_WORDS;
 use task_file::ReadAnswer;
 
 // Through tables that are lent. What these hold afterwards is left open: they end with the caller's call.
@@ -35,7 +36,7 @@ pub fn text_of(file: &[u8], out: &mut [u8; 164384]) -> usize
     let mut twins = [0u16; 256];
     let mut formulas = [0u16; 12288];
     let mut effects = [0u16; 12288];
-    let mut operators = [0u16; 768];
+    let mut operators = [0u16; MOST_OPERATOR_WORDS];
     text_through(
         file,
         &mut initial,

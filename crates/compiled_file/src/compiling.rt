@@ -12,7 +12,9 @@ ghost use Rattle.compiled_file.specs.Filed.{CompileGives};
 use crate::filing::give_file;
 use crate::filing::refuse;
 use compiler::CompileAnswer;
+use entry_tables::SMALL_OPERATOR_WORDS;
 use task::Head;
+use task::operator_rows::MOST_OPERATOR_WORDS;
 
 // A refusal's number. Constant time.
 fn refused(r: CompileAnswer) -> u32
@@ -92,7 +94,7 @@ fn compile_small(
     let mut originals = [0u16; 256];
     let mut table = [0u16; 1536];
     let mut rules = [0u16; 1536];
-    let mut written = [0u16; 384];
+    let mut written = [0u16; SMALL_OPERATOR_WORDS];
     let mut scratch = [0u16; 512];
     compile_through(
         head,
@@ -130,7 +132,7 @@ fn compile_full(
     let mut originals = [0u16; 256];
     let mut table = [0u16; 12288];
     let mut rules = [0u16; 12288];
-    let mut written = [0u16; 768];
+    let mut written = [0u16; MOST_OPERATOR_WORDS];
     let mut scratch = [0u16; 16384];
     compile_through(
         head,

@@ -6,7 +6,7 @@ use mathlib.Core.Bool.{true, false}
 use mathlib.Core.List.{List}
 use lib.ListN.{length, replicate}
 use Rattle.task.specs.declared.Head.{Head}
-use Rattle.task.specs.Table.{Lent, Task, task-of}
+use Rattle.task.specs.Table.{Lent, Task, task-of, operator-width}
 use Rattle.task.specs.Check.{refusal}
 use Rattle.task.specs.Words.{head-of}
 use Rattle.task.proofs.Held.{length-operators}
@@ -76,7 +76,7 @@ module _ {l : Lent} {x : Tables} (p : Passed l x) where
   short-initial h =
       refuses-room (λ fit. omega (arith, fit .tables .initial, finished-variables t, its-variables l (p .passes))) (p .blank)
 
-  pub short-operators : length (x .operators) < 3 * l .head .operators → compile-left (Refused 15) x ≡ compiling l (room-of x)
+  pub short-operators : length (x .operators) < operator-width * l .head .operators → compile-left (Refused 15) x ≡ compiling l (room-of x)
   short-operators h =
       refuses-room (λ fit. omega (arith, fit .tables .operators, finished-operators t, length-operators l)) (p .blank)
 

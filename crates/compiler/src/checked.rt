@@ -5,6 +5,7 @@ use lent_tables::compiled_head;
 use sizing::fill_lent;
 use task::Head;
 use task::clear::clear_words;
+use task::operator_rows::OPERATOR_WORDS;
 ghost use mathlib.Core.Path.{_≡_};
 ghost use Rattle.task.specs.Table.{lent};
 ghost use Rattle.normal_form.specs.Compiled.{compiling};
@@ -33,7 +34,7 @@ pub fn compile_checked(
     if values.len() < head.variables as usize {
         return CompileAnswer::Refused(15);
     }
-    if written.len() < 3 * (head.operators as usize) {
+    if written.len() < OPERATOR_WORDS * (head.operators as usize) {
         return CompileAnswer::Refused(15);
     }
     if out.len() < 3 {

@@ -6,7 +6,7 @@ use mathlib.Core.Path.{_≡_, refl, sym, ap, _∙_}
 use mathlib.Core.List.{List}
 use lib.ListN.{length, getD, set}
 use lib.Seq.{getD-set-same, getD-set-other}
-use Rattle.task.specs.Table.{Row, row-at}
+use Rattle.task.specs.Table.{Row, row-at, operator-at}
 use Rattle.formula_builder.specs.declared.Words.{Words}
 use Rattle.formula_builder.specs.declared.Frame.{Frame}
 use Rattle.formula_builder.specs.Inner.Held.{row-of}
@@ -40,20 +40,16 @@ pub meets-lower :
 meets-lower m long b =
     record { limit = m .limit; room = omega (arith, m .room); effect = omega (arith, m .effect) }
 
--- and the effect of operator k, with the words r
+-- and the effect e of operator k
 pub meets-root :
-    (frame : Frame) (operators first notes : List ℕ) (count k : ℕ) (r : Words)
+    (frame : Frame) (operators first notes : List ℕ) (count k e : ℕ)
     → FindsRoots frame operators count first
     → length notes ≡ length first
     → k < count
-    → row-of r ≡ row-at operators k
-    → Meets frame notes (r .a)
-meets-root frame operators first notes count k r f long h q =
-    record {
-      limit = f .limit;
-      room = omega (arith, f .room);
-      effect = omega (arith, f .effect k h, ap (λ (w : Row). w .a) q);
-    }
+    → e ≡ operator-at operators k .effect
+    → Meets frame notes e
+meets-root frame operators first notes count k e f long h q =
+    record { limit = f .limit; room = omega (arith, f .room); effect = omega (arith, f .effect k h, q) }
 
 pub hands-on :
     (frame : Frame) (effects notes : List ℕ) (i : ℕ) (r : Words)

@@ -10,6 +10,7 @@ use conditions::width_of;
 use formula_builder::Frame;
 use formula_builder::Words;
 use formula_builder::read_row;
+use task::operator_rows::effect_of;
 ghost use Prim.Native.Nat.{_+_, _≤_};
 ghost use Rattle.effect_columns.specs.Inner.Columns.{Elsewhere, Meets, HandsOn, Settles, Settled, Renumbers, Thins, FindsRoots, FindsColumns, FoundColumns};
 
@@ -59,8 +60,8 @@ fn meet_roots(operators: &[u16], count: usize, frame: Frame, notes: &mut [u16])
 {
     let mut k = 0;
     while k < count {
-        let r = read_row(operators, k);
-        meet(frame, r.a as usize, (k + 1) as u16, notes);
+        let e = effect_of(operators, k);
+        meet(frame, e as usize, (k + 1) as u16, notes);
         k += 1;
     }
 }

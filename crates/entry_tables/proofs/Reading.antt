@@ -7,7 +7,7 @@ use mathlib.Core.List.{List}
 use lib.ListN.{length, replicate}
 use borrow.Author.Tests.{le-leb}
 use Rattle.task.specs.declared.Head.{Head}
-use Rattle.task.specs.Table.{Lent, Task, lent, task-of}
+use Rattle.task.specs.Table.{Lent, Task, lent, task-of, operator-width}
 use Rattle.task.specs.Check.{counts-kept, goal-kept, refusal}
 use Rattle.task.specs.Words.{head-of, words-of, operator-words, padded}
 use Rattle.task.proofs.Bounded.{and-both}
@@ -31,7 +31,7 @@ limits-room h e =
     (and-both (le-leb (h .twins) 256 (omega (arith, c .variables, c .twins)))
     (and-both (le-leb (3 * h .formulas) 12288 (omega (arith, c .formulas)))
     (and-both (le-leb (3 * h .effects) 12288 (omega (arith, c .effects)))
-    (le-leb (3 * h .operators) 768 (omega (arith, c .operators))))))
+    (le-leb (operator-width * h .operators) (operator-width * 256) (omega (arith, c .operators))))))
 
 same-head : (l : Lengths) (h : Head) (rest : List ℕ) → (head-kept l h rest ≡ unparsed 5 → ⊥) → head-kept l h rest ≡ head-kept own h rest
 unfolding head-kept next kept

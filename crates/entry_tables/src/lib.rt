@@ -2,3 +2,7 @@
 mod answer;
 
 pub use answer::not_read;
+use task::operator_rows::OPERATOR_WORDS;
+
+// Operators of small tables, which are tried first: 128 rows.
+pub const SMALL_OPERATOR_WORDS: usize = OPERATOR_WORDS * 128;

@@ -6,11 +6,11 @@ use native.Mathlib.Omega.{arith}
 use mathlib.Core.Path.{refl}
 use mathlib.Core.List.{List, [], _∷_, _++_}
 use lib.ListN.{length, getD}
-use Rattle.task.specs.Table.{Row, Operator, Task}
+use Rattle.task.specs.Table.{Row, Operator, Task, operator-width}
 use Rattle.task.specs.Rules.{no-row, no-operator, Rules, OperatorWords}
-use Rattle.task.specs.Words.{joined, head-of}
+use Rattle.task.specs.Words.{joined, head-of, operator-row-words}
 use Rattle.task.proofs.Sixteen.{formula-known, effect-known}
-use Rattle.file_format.specs.Bytes.{word-bytes, field-bytes, head-fields, head-bytes, row-bytes, operator-fields, operator-bytes, packed, file-of}
+use Rattle.file_format.specs.Bytes.{word-bytes, field-bytes, head-fields, head-bytes, row-bytes, operator-bytes, packed, file-of}
 use Rattle.file_format.proofs.Parse.{Bytes, bytes-behind, bytes-front}
 use Rattle.file_format.proofs.Fields.{map-lt}
 use Rattle.file_format.proofs.Initial.{bits-of-state, packed-byte}
@@ -66,9 +66,9 @@ unfolding row-bytes
 row-small r k a b = (omega (arith, map-lt 2 (r .a ∷ r .b ∷ []) refl), two-fields (r .a) (r .b) a b)
 
 operator-small : (o : Operator) → OperatorWords o → Bytes (operator-bytes o)
-unfolding operator-bytes operator-fields joined
+unfolding operator-bytes operator-row-words joined
 operator-small o w = (
-  omega (arith, map-lt 3 (operator-fields o) refl),
+  omega (arith, map-lt operator-width (operator-row-words o) refl),
   bytes-append (field-bytes (o .precondition)) _ (field-small (o .precondition) (w .precondition))
       (two-fields (o .effect) (o .cost) (w .effect) (w .cost)),
 )
@@ -109,7 +109,7 @@ module _ (t : Task) (r : Rules t) where
 -- where a file is a list of bytes, no cost is above 65,535
 pub costs-of-bytes :
     (t : Task) → Bytes (file-of t) → (i : ℕ) → i < length (t .operators) → getD (t .operators) i no-operator .cost ≤ 65535
-unfolding file-of operator-bytes operator-fields joined
+unfolding file-of operator-bytes operator-row-words joined
 costs-of-bytes t b i h =
     let operators : Bytes (joined operator-bytes (t .operators)) =
     bytes-behind (joined row-bytes (t .effects)) _

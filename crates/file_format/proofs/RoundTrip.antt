@@ -6,7 +6,7 @@ use mathlib.Core.Logic.{_↔_}
 use mathlib.Core.List.{List, [], _∷_, _++_, append-nil}
 use native.Mathlib.Omega.{arith}
 use lib.ListN.{length}
-use Rattle.task.specs.Table.{Task}
+use Rattle.task.specs.Table.{Task, operator-width}
 use Rattle.task.specs.Rules.{Checked, HasRoom}
 use Rattle.file_format.specs.Bytes.{file-of}
 use Rattle.file_format.specs.Parse.{Parsed, parsed, unparsed}
@@ -70,7 +70,7 @@ both-fit t u =
       twins = length (t .originals) + length (u .originals);
       formulas = 3 * length (t .formulas) + 3 * length (u .formulas);
       effects = 3 * length (t .effects) + 3 * length (u .effects);
-      operators = 3 * length (t .operators) + 3 * length (u .operators);
+      operators = operator-width * length (t .operators) + operator-width * length (u .operators);
     }
 
 -- no task's file is the beginning of another's, and two tasks have two files

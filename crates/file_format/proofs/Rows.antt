@@ -11,9 +11,9 @@ use borrow.Author.Tests.{ltb-true, lt-ltb, eqb-true, eq-eqb}
 use Rattle.task.specs.declared.Head.{Head}
 use Rattle.task.specs.Bounded.{upto}
 use Rattle.task.proofs.Bounded.{length-upto, getD-upto}
-use Rattle.task.specs.Table.{Row, Operator}
-use Rattle.task.specs.Words.{joined}
-use Rattle.file_format.specs.Bytes.{field-bytes, map-of, head-fields, head-bytes, row-bytes, operator-fields, operator-bytes}
+use Rattle.task.specs.Table.{Row, Operator, operator-width}
+use Rattle.task.specs.Words.{joined, operator-row-words}
+use Rattle.file_format.specs.Bytes.{field-bytes, map-of, head-fields, head-bytes, row-bytes, operator-bytes}
 use Rattle.file_format.specs.Parse.{Parsed, parsed, next, kept, byte-read, fields-read, mapped-read}
 use Rattle.file_format.specs.Reading.{head-from, head-clear, head-read, row-from, row-clear, operator-from, operator-clear, row-read, operator-fields-read}
 use Rattle.file_format.proofs.Parse.{Bytes, parsed-value, parsed-rest, kept-parsed, kept-true, Steps, next-parsed, next-to, Stable, pure-stable, kept-stable, byte-stable, next-stable}
@@ -133,20 +133,20 @@ row-parsed bytes {x} {rest} b e = go (mapped-parsed 2 row-clear row-from bytes b
         cc (r .same, l, m)
 
 pub operator-fields-reads : (o : Operator) (rest : List ℕ) → operator-fields-read (operator-bytes o ++ rest) ≡ parsed o rest
-unfolding operator-fields-read operator-bytes operator-fields
+unfolding operator-fields-read operator-bytes operator-row-words
 operator-fields-reads o rest =
-    mapped-reads 3 operator-clear operator-from (map-of (operator-fields o)) (operator-fields o) rest refl
-    (lt-ltb (map-of (operator-fields o)) 8 (map-lt 3 (operator-fields o) refl))
-    (map-alone (operator-fields o))
+    mapped-reads operator-width operator-clear operator-from (map-of (operator-row-words o)) (operator-row-words o) rest refl
+    (lt-ltb (map-of (operator-row-words o)) 8 (map-lt operator-width (operator-row-words o) refl))
+    (map-alone (operator-row-words o))
 
 pub operator-fields-parsed : (bytes : List ℕ) {o : Operator} {rest : List ℕ} → Bytes bytes → operator-fields-read bytes ≡ parsed o rest → bytes ≡ operator-bytes o ++ rest
-unfolding operator-fields-read operator-bytes operator-fields upto
-operator-fields-parsed bytes {o} {rest} b e = go (mapped-parsed 3 operator-clear operator-from bytes b e)
+unfolding operator-fields-read operator-bytes operator-row-words upto
+operator-fields-parsed bytes {o} {rest} b e = go (mapped-parsed operator-width operator-clear operator-from bytes b e)
   where
-    go : MappedRow 3 operator-clear operator-from bytes o rest → bytes ≡ operator-bytes o ++ rest
+    go : MappedRow operator-width operator-clear operator-from bytes o rest → bytes ≡ operator-bytes o ++ rest
     go r =
-        let l : r .fields ≡ operator-fields o = listed 3 (r .fields) (r .size) ∙ ap operator-fields (r .value) in
-        let m : r .byte ≡ map-of (r .fields) = alone-same 3 (r .byte) (r .fields) (r .size) (ltb-true (r .byte) 8 (r .passed)) (r .by-map) in
+        let l : r .fields ≡ operator-row-words o = listed operator-width (r .fields) (r .size) ∙ ap operator-row-words (r .value) in
+        let m : r .byte ≡ map-of (r .fields) = alone-same operator-width (r .byte) (r .fields) (r .size) (ltb-true (r .byte) 8 (r .passed)) (r .by-map) in
         cc (r .same, l, m)
 
 -- A row with its own number: its rule is a test.

@@ -9,7 +9,7 @@ use lib.ListN.{length, getD, take}
 use lib.Seq.{take-suc, getD-take}
 use Rattle.task.specs.Bounded.{upto}
 use Rattle.task.proofs.Bounded.{length-upto, getD-upto}
-use Rattle.task.specs.Table.{Row, Operator}
+use Rattle.task.specs.Table.{Row, Operator, operator-width}
 use Rattle.task.specs.Check.{twin-kept, formula-kept, effect-kept, operator-kept}
 use Rattle.task.specs.Rules.{no-row, no-operator, TwinRule}
 use Rattle.task.specs.Words.{joined}
@@ -229,4 +229,4 @@ operators-parsed f e count bytes {rows} {rest} b q =
 pub operators-stable : (f e count : ℕ) → Stable (table-read (operator-read f e) count)
 unfolding operator-read operator-fields-read
 operators-stable f e count =
-    rows-stable operator-bytes operator-fields-read no-operator (λ i. operator-kept f e) 12 (mapped-stable 3 operator-clear operator-from) count
+    rows-stable operator-bytes operator-fields-read no-operator (λ i. operator-kept f e) 12 (mapped-stable operator-width operator-clear operator-from) count

@@ -5,7 +5,7 @@ use lib.ListN.{length, getD}
 use Rattle.task.specs.declared.Head.{Head}
 use Rattle.task.specs.Bounded.{upto}
 use Rattle.task.specs.Table.{Row, Operator, Task}
-use Rattle.task.specs.Words.{joined, head-of}
+use Rattle.task.specs.Words.{joined, head-of, operator-row-words}
 
 -- the number whose bits these are, the lowest first
 unfoldable pub number : List ℕ → ℕ
@@ -40,12 +40,9 @@ head-bytes h = map-of (head-fields h) ∷ joined field-bytes (head-fields h)
 unfoldable pub row-bytes : Row → List ℕ
 row-bytes r = (map-of (r .a ∷ r .b ∷ []) + 16 * r .kind) ∷ joined field-bytes (r .a ∷ r .b ∷ [])
 
-unfoldable pub operator-fields : Operator → List ℕ
-operator-fields o = o .precondition ∷ o .effect ∷ o .cost ∷ []
-
 -- an operator's map uses bits 0, 1, 2
 unfoldable pub operator-bytes : Operator → List ℕ
-operator-bytes o = map-of (operator-fields o) ∷ joined field-bytes (operator-fields o)
+operator-bytes o = map-of (operator-row-words o) ∷ joined field-bytes (operator-row-words o)
 
 -- the bytes that so many bits take
 unfoldable pub bytes-for : ℕ → ℕ

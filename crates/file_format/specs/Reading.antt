@@ -7,7 +7,7 @@ use lib.ListN.{getD}
 use lib.Dec.{ltb, eqb}
 use Rattle.task.specs.declared.Head.{Head}
 use Rattle.task.specs.Bounded.{upto}
-use Rattle.task.specs.Table.{Row, Operator, Task}
+use Rattle.task.specs.Table.{Row, Operator, Task, operator-width, operator}
 pub use Rattle.task.specs.Check.{Lengths}
 unfoldable pub use Rattle.task.specs.Check.{room}
 use Rattle.task.specs.Check.{counts-kept, goal-kept, twin-kept, formula-kept, effect-kept, operator-kept}
@@ -76,10 +76,10 @@ abbrev pub operator-clear : ℕ → Bool
 operator-clear m = ltb m 8
 
 abbrev pub operator-from : ℕ → List ℕ → Operator
-operator-from m ws = record { precondition = getD ws 0 0; effect = getD ws 1 0; cost = getD ws 2 0 }
+operator-from m ws = operator (getD ws 0 0) (getD ws 1 0) (getD ws 2 0)
 
 unfoldable pub operator-fields-read : List ℕ → Parsed Operator
-operator-fields-read = mapped-read 3 operator-clear operator-from
+operator-fields-read = mapped-read operator-width operator-clear operator-from
 
 unfoldable pub operator-read : (f e : ℕ) → ℕ → List Operator → List ℕ → Parsed Operator
 operator-read f e i done bytes = next (operator-fields-read bytes) (λ o. kept (operator-kept f e o) 12 o)

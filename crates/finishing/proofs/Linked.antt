@@ -5,7 +5,7 @@ use mathlib.Core.Path.{_≡_, refl, sym, ap, _∙_}
 use mathlib.Core.List.{List}
 use lib.ListN.{length}
 use Rattle.task.specs.Bounded.{upto}
-use Rattle.task.specs.Table.{Operator, Lent, Task, task-of, row-at, operator-at}
+use Rattle.task.specs.Table.{Operator, Lent, Task, task-of, operator-at}
 use Rattle.task.specs.Check.{refusal}
 use Rattle.task.specs.Run.{operator-of}
 use Rattle.task.proofs.Held.{length-formulas, length-effects, length-operators, operator-held}
@@ -37,17 +37,9 @@ module _ (l : Lent) (rows twins : ℕ) (passes : refusal l ≡ 0) where
   unfolding task-of effect-rows
   its-effects = refl
 
-  precondition-is : (o : ℕ) → o < l .head .operators → operator-of (task-of l) o .precondition ≡ row-at (l .operators) o .kind
-  unfolding operator-of row-at operator-at
-  precondition-is o h = ap (λ (r : Operator). r .precondition) (operator-held l o h)
-
-  effect-is : (o : ℕ) → o < l .head .operators → operator-of (task-of l) o .effect ≡ row-at (l .operators) o .a
-  unfolding operator-of row-at operator-at
-  effect-is o h = ap (λ (r : Operator). r .effect) (operator-held l o h)
-
-  cost-is : (o : ℕ) → o < l .head .operators → operator-of (task-of l) o .cost ≡ row-at (l .operators) o .b
-  unfolding operator-of row-at operator-at
-  cost-is o h = ap (λ (r : Operator). r .cost) (operator-held l o h)
+  operator-is : (o : ℕ) → o < l .head .operators → operator-of (task-of l) o ≡ operator-at (l .operators) o
+  unfolding operator-of
+  operator-is o h = operator-held l o h
 
   goal-is : task-of l .goal ≡ l .head .goal
   unfolding task-of
@@ -60,7 +52,7 @@ module _ (l : Lent) (rows twins : ℕ) (passes : refusal l ≡ 0) where
   unfolding built
   state-built =
       same-state t frame (l .formulas) (l .effects) (l .operators) (l .head .operators) (l .head .goal) (its-variables l passes) its-formulas
-      its-effects (length-operators l) precondition-is effect-is goal-is start
+      its-effects (length-operators l) operator-is goal-is start
 
   pub goal-built :
       built (task-of l) .value .goal
@@ -68,19 +60,19 @@ module _ (l : Lent) (rows twins : ℕ) (passes : refusal l ≡ 0) where
   unfolding built
   goal-built =
       same-value t frame (l .formulas) (l .effects) (l .operators) (l .head .operators) (l .head .goal) (its-variables l passes) its-formulas
-      its-effects (length-operators l) precondition-is effect-is goal-is start
+      its-effects (length-operators l) operator-is goal-is start
 
   module _ (o : ℕ) (h : o < l .head .operators) where
     below : o < length (task-of l .operators)
     below = omega (arith, length-operators l)
 
-    pub precondition-below : row-at (l .operators) o .kind < l .head .formulas
+    pub precondition-below : operator-at (l .operators) o .precondition < l .head .formulas
     unfolding operator-of
-    precondition-below = omega (arith, precondition-is o h, source l passes .operator o below .formula, length-formulas l)
+    precondition-below = omega (arith, ap (λ (x : Operator). x .precondition) (operator-is o h), source l passes .operator o below .formula, length-formulas l)
 
-    pub effect-below : row-at (l .operators) o .a < l .head .effects
+    pub effect-below : operator-at (l .operators) o .effect < l .head .effects
     unfolding operator-of
-    effect-below = omega (arith, effect-is o h, source l passes .operator o below .changes, length-effects l)
+    effect-below = omega (arith, ap (λ (x : Operator). x .effect) (operator-is o h), source l passes .operator o below .changes, length-effects l)
 
   -- what is assembled is so from the operators that are built
   assembled-made :
@@ -98,7 +90,7 @@ module _ (l : Lent) (rows twins : ℕ) (passes : refusal l ≡ 0) where
       all-made =
           unfold built in
           same-operators-made t frame (l .formulas) (l .effects) (l .operators) (l .head .operators) (l .head .goal) (its-variables l passes) its-formulas
-          its-effects (length-operators l) precondition-is effect-is goal-is cost-is
+          its-effects (length-operators l) operator-is goal-is
 
   -- and from what was recorded of them
   pub assembled-is :

@@ -6,7 +6,7 @@ use mathlib.Core.Path.{_≡_, refl, sym, ap, ap₂, _∙_}
 use mathlib.Core.List.{List, [], _∷_}
 use lib.ListN.{length, getD}
 use Rattle.task.specs.Bounded.{upto}
-use Rattle.task.specs.Table.{row-at}
+use Rattle.task.specs.Table.{row-at, operator-at}
 use Rattle.task.proofs.Bounded.{getD-upto}
 use Rattle.normal_form.specs.Operators.{Changes, Built}
 use Rattle.normal_form.specs.Assembly.{Assembled, assemble-operator, assemble, unassembled}
@@ -23,7 +23,7 @@ use Rattle.assembling.specs.Inner.Assembles.{changes-between, built-of, begins-
 
 -- with the changes that bring rules alone
 abbrev acted : Built → Built
-acted b = record { precondition = b .precondition; changes = acting (b .changes); cost = b .cost }
+acted b = record { precondition = b .precondition; changes = acting (b .changes); source = b .source }
 
 module _ (n : ℕ) (twins : List ℕ) where
   last-one :
@@ -77,7 +77,7 @@ module _ (frame : Frame) (formulas effects operators records : List ℕ) (n : �
       record {
         precondition = each o h .precondition i;
         changes = its-changes o h i;
-        cost = row-at operators o .b;
+        source = operator-at operators o;
       }
 
   pub recalled :

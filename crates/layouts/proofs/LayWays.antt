@@ -11,7 +11,7 @@ use lib.Seq.{sets-eq, take-suc, take-at, take-append-seam}
 use lib.Dec.{leb}
 use borrow.Author.Tests.{le-leb, lt-leb}
 use Rattle.task.specs.declared.Head.{Head}
-use Rattle.task.specs.Table.{Lent, Task}
+use Rattle.task.specs.Table.{Lent, Task, operator-width}
 use Rattle.task.specs.Words.{joined, head-of, padded}
 use Rattle.task.proofs.Words.{lent-in, length-words, length-operator-words}
 use Rattle.file_format.specs.Bytes.{word-bytes, head-fields}
@@ -59,7 +59,7 @@ pub tables-put :
     → Put (joined word-bytes (take (l .head .twins) (l .twins))) b c o2 o3
     → Put (joined word-bytes (take (3 * l .head .formulas) (l .formulas))) c d o3 o4
     → Put (joined word-bytes (take (3 * l .head .effects) (l .effects))) d e o4 o5
-    → Put (joined word-bytes (take (3 * l .head .operators) (l .operators))) e r o5 o6
+    → Put (joined word-bytes (take (operator-width * l .head .operators) (l .operators))) e r o5 o6
     → Put (flat-bytes l) 0 r o o6
 unfolding flat-bytes
 tables-put l h i t f e p = put-then h (put-then i (put-then t (put-then f (put-then e p))))
@@ -109,4 +109,4 @@ module _ (bytes out : List ℕ) {z out′ : List ℕ} {end : ℕ} (clear : z ≡
 pub flat-in : (t : Task) (i w f e o : List ℕ) → flat-bytes (lent-in t i w f e o) ≡ tables-bytes t
 unfolding flat-bytes lent-in head-of tables-bytes
 flat-in t i w f e o =
-    rw (take-append-seam (t .initial) i, take-append-seam (t .originals) w, take-at _ f (3 * length (t .formulas)) (length-words (t .formulas)), take-at _ e (3 * length (t .effects)) (length-words (t .effects)), take-at _ o (3 * length (t .operators)) (length-operator-words (t .operators)))
+    rw (take-append-seam (t .initial) i, take-append-seam (t .originals) w, take-at _ f (3 * length (t .formulas)) (length-words (t .formulas)), take-at _ e (3 * length (t .effects)) (length-words (t .effects)), take-at _ o (operator-width * length (t .operators)) (length-operator-words (t .operators)))

@@ -8,6 +8,7 @@ ghost use Rattle.layouts.specs.Inner.Giving.{LayIn, flat-bytes};
 ghost use Rattle.layouts.specs.Layout.{Lays};
 use task::Head;
 use task::clear::clear_bytes;
+use task::operator_rows::OPERATOR_WORDS;
 use task_writer::put::put_byte;
 use task_writer::put_tables::put_words;
 
@@ -51,7 +52,12 @@ fn put_tables(
     let to_formulas = put_words(twins, head.twins as usize, out, to_twins);
     let to_effects = put_words(formulas, 3 * (head.formulas as usize), out, to_formulas);
     let to_operators = put_words(effects, 3 * (head.effects as usize), out, to_effects);
-    put_words(operators, 3 * (head.operators as usize), out, to_operators)
+    put_words(
+        operators,
+        OPERATOR_WORDS * (head.operators as usize),
+        out,
+        to_operators,
+    )
 }
 
 // The layout, and 0 past it; 20 and all 0 if it does not fit. Linear in the counts and the output.

@@ -10,7 +10,7 @@ use lib.ListN.{length, replicate, length-append, length-replicate}
 use lib.Dec.{leb, eqb, eqb·suc-zero}
 use borrow.Author.Tests.{leb-true, leb-false, le-leb, lt-leb, eqb-true, eqb-false, eq-eqb, ne-eqb}
 use Rattle.task.specs.declared.Head.{Head}
-use Rattle.task.specs.Table.{Lent, Task, task-of}
+use Rattle.task.specs.Table.{Lent, Task, task-of, operator-width}
 use Rattle.task.specs.Check.{counts-kept, goal-kept, room as has-room, long-enough, initial-kept, twins-kept, formulas-kept, effects-kept, operators-kept, unless, refusal}
 use Rattle.task.specs.Rules.{Checked}
 use Rattle.task.specs.Run.{plain-run, effect-of-operator}
@@ -71,7 +71,7 @@ pub fits-if :
     → 3 * length (finished t .formulas) ≤ room .formulas
     → length (finished t .effects) ≤ 4096
     → 3 * length (finished t .effects) ≤ room .effects
-    → 3 * length (t .operators) ≤ room .operators
+    → operator-width * length (t .operators) ≤ room .operators
     → Fits (finished t) room
 fits-if t room source v i w f rows e effects o =
     record {

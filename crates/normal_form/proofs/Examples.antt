@@ -3,7 +3,7 @@ use Prim.Native.Nat.{ℕ}
 use mathlib.Core.Path.{_≡_, refl}
 use mathlib.Core.List.{[], _∷_}
 use Rattle.task.specs.Bounded.{upto}
-use Rattle.task.specs.Table.{Row, Operator, Lent, Task, formula-kind, effect-kind, row-at, operator-at, task-of}
+use Rattle.task.specs.Table.{Row, Operator, Lent, Task, formula-kind, effect-kind, row-at, operator-at, task-of, operator}
 use Rattle.task.specs.Tree.{formula-node, formula-within, formula-of, effect-node, effect-within, effect-of}
 use Rattle.task.specs.Run.{operator-of, effect-of-operator}
 use Rattle.normal_form.specs.Builder.{give, bind, each, place, including, same-row, row, twin, variable-row, twin-row, start, choice, join-as, join, pair}
@@ -15,9 +15,6 @@ use Rattle.normal_form.specs.Finished.{built, assembled, twin-values, fi
 
 abbrev pub words : ℕ → ℕ → ℕ → Row
 words k a b = record { kind = k; a = a; b = b }
-
-abbrev pub operator : ℕ → ℕ → ℕ → Operator
-operator p e c = record { precondition = p; effect = e; cost = c }
 
 -- finished, computed
 result : Task → Task

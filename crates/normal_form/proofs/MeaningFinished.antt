@@ -8,7 +8,7 @@ use mathlib.Core.List.{List}
 use lib.ListN.{length, getD}
 use lib.Dec.{eqb, ltb}
 use borrow.Author.Tests.{eq-eqb, ne-eqb}
-use Rattle.task.specs.Table.{Row, Task}
+use Rattle.task.specs.Table.{Row, Task, Operator}
 use Rattle.task.specs.Rules.{Checked}
 use Rattle.task.specs.Semantics.{holds, Atom, sets, clears, effcond}
 use Rattle.task.specs.Tree.{formula-of}
@@ -97,7 +97,7 @@ module _ (t : Task) (rules : Checked t) (source compiled : List ℕ) (width : le
     unfolding operator-of finished
     same-cost =
         finished-operator t o h .cost
-        ∙ good-parts t rules .value .operators .at no-built o h .cost
+        ∙ ap (λ (x : Operator). x .cost) (good-parts t rules .value .operators .at no-built o h .source)
 
     -- where an atom acts: at one source variable y, or nowhere
     acts-there : (l : Atom) → effcond compiled l (effect-of-operator (finished t) o)

@@ -140,14 +140,14 @@ changes-later :
 changes-later e v s t c f g m =
     record { variable = m .variable; adds = means-later f g (m .adds); deletes = means-later f g (m .deletes) }
 
--- What is built of operator o: its precondition, the changes of every source variable, its cost.
+-- What is built of operator o: its precondition, the changes of every source variable, and the operator itself.
 pub record BuiltMeans (t : Task) (o : ℕ) (s : St) (b : Built) : Type 0 where
   pub precondition :
       Means (length (t .initial)) (λ source. holds source (formula-of (t .formulas) (operator-of t o .precondition))) s
       (b .precondition)
   pub changes :
       Each (λ v. ChangesMean (length (t .initial)) (effect-of-operator t o) v s) (length (t .initial)) (b .changes)
-  pub cost : b .cost ≡ operator-of t o .cost
+  pub source : b .source ≡ operator-of t o
 
 built-later :
     (t : Task) (o : ℕ) (s u : St) (b : Built)
@@ -165,7 +165,7 @@ built-later t o s u b f g m =
                 λ d v h.
                 changes-later (effect-of-operator t o) v s u (getD (b .changes) v d) f g (m .changes .at d v h);
           };
-      cost = m .cost;
+      source = m .source;
     }
 
 -- What is built of the task.
@@ -201,7 +201,7 @@ module _ (t : Task) (rules : Checked t) where
             record {
               precondition = means-later (gp .fine) (steady-each n (steady-changes n e) .grow (p .st)) (gp .value);
               changes = gc .value;
-              cost = refl;
+              source = refl;
             };
       }
 

@@ -7,7 +7,7 @@ use mathlib.Core.Path.{_≡_, refl, ap, subst, _∙_}
 use mathlib.Core.List.{List, [], _∷_, _++_}
 use lib.ListN.{length, getD, length-append}
 use lib.Seq.{getD-append-seam}
-use Rattle.task.specs.Table.{Row, Operator, effect-kind}
+use Rattle.task.specs.Table.{Row, Operator, effect-kind, with-parts}
 use Rattle.task.specs.Rules.{no-row, no-operator}
 use Rattle.task.specs.Tree.{effect-of}
 use Rattle.task.proofs.Down.{effects-none, effects-more}
@@ -90,14 +90,14 @@ module _ (n : ℕ) (twins : List ℕ) where
   unfolding assemble assemble-operator
   assemble-length w [] = omega arith
   assemble-length w (b ∷ bs) =
-      let o : Operator = record { precondition = b .precondition; effect = written w b .stands; cost = b .cost } in
+      let o : Operator = with-parts (b .source) (b .precondition) (written w b .stands) in
       omega (arith, assemble-length (assemble-operator n twins w b) bs, length-append (w .operators) (o ∷ []))
 
   module _ (formulas : List Row) where
     -- Operator i is what was built as b.
     pub record Operated (w : Assembled) (i : ℕ) (b : Built) : Type 0 where
       pub precondition : getD (w .operators) i no-operator .precondition ≡ b .precondition
-      pub cost : getD (w .operators) i no-operator .cost ≡ b .cost
+      pub cost : getD (w .operators) i no-operator .cost ≡ b .source .cost
       pub there : getD (w .operators) i no-operator .effect < length (w .effects)
       pub tree :
           effect-of formulas (w .effects) (getD (w .operators) i no-operator .effect)
@@ -110,7 +110,7 @@ module _ (n : ℕ) (twins : List ℕ) where
     unfolding assemble assemble-operator
     operated-first w b bs g =
         let next = assemble-operator n twins w b in
-        let o : Operator = record { precondition = b .precondition; effect = written w b .stands; cost = b .cost } in
+        let o : Operator = with-parts (b .source) (b .precondition) (written w b .stands) in
         let d = rules-down (unwritten (w .effects)) (rules n twins (b .changes)) (g .down) in
         let p = assemble-effects next bs in
         let e : getD (assemble n twins next bs .operators) (length (w .operators)) no-operator ≡ o =
@@ -134,7 +134,7 @@ module _ (n : ℕ) (twins : List ℕ) where
         → Operated (assemble n twins w (b ∷ bs)) (length (w .operators) + suc o) c
     unfolding assemble assemble-operator
     operated-later w b bs o c h =
-        let op : Operator = record { precondition = b .precondition; effect = written w b .stands; cost = b .cost } in
+        let op : Operator = with-parts (b .source) (b .precondition) (written w b .stands) in
         let e : length (w .operators ++ (op ∷ [])) + o ≡ length (w .operators) + suc o =
         omega (arith, length-append (w .operators) (op ∷ [])) in
         subst (λ (i : ℕ). Operated (assemble n twins (assemble-operator n twins w b) bs) i c) e h

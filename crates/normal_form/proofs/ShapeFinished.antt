@@ -25,7 +25,7 @@ abbrev pub no-changes : Changes
 no-changes = record { variable = 0; adds = 0; deletes = 0 }
 
 abbrev pub no-built : Built
-no-built = record { precondition = 0; changes = []; cost = 0 }
+no-built = record { precondition = 0; changes = []; source = no-operator }
 
 -- what was built for operator o
 abbrev pub built-at : Task → ℕ → Built

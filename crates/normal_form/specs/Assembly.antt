@@ -4,7 +4,7 @@ use mathlib.Core.Bool.{cond}
 use mathlib.Core.List.{List, [], _∷_, _++_, foldl}
 use lib.ListN.{length}
 use lib.Dec.{eqb, ltb}
-use Rattle.task.specs.Table.{Row, Operator}
+use Rattle.task.specs.Table.{Row, Operator, with-parts}
 use Rattle.task.specs.Semantics.{Atom, sets, clears}
 use Rattle.normal_form.specs.Builder.{place}
 use Rattle.normal_form.specs.Operators.{Changes, Built}
@@ -77,9 +77,7 @@ assemble-operator n twins w o =
     let e = write-rules (record { rows = w .effects; stands = 0 }) (rules n twins (o .changes)) in
     record {
       effects = e .rows;
-      operators =
-          w .operators
-          ++ (record { precondition = o .precondition; effect = e .stands; cost = o .cost } ∷ []);
+      operators = w .operators ++ (with-parts (o .source) (o .precondition) (e .stands) ∷ []);
     }
 
 -- operator by operator

@@ -4,7 +4,7 @@ use mathlib.Core.Bool.{cond}
 use mathlib.Core.List.{List}
 use lib.ListN.{length}
 use lib.Dec.{eqb}
-use Rattle.task.specs.Table.{Task}
+use Rattle.task.specs.Table.{Task, Operator}
 use Rattle.task.specs.Semantics.{Effect, sets, clears}
 use Rattle.task.specs.Tree.{formula-of}
 use Rattle.task.specs.Run.{operator-of, effect-of-operator}
@@ -19,11 +19,11 @@ pub record Changes : Type 0 where
   pub adds : ℕ
   pub deletes : ℕ
 
--- Of an operator: the row of its precondition, the changes of each source variable, its cost.
+-- Of an operator: the row of its precondition, the changes of each source variable, and the operator itself, of which the rest is kept.
 pub record Built : Type 0 where
   pub precondition : ℕ
   pub changes : List Changes
-  pub cost : ℕ
+  pub source : Operator
 
 -- Of the task: its operators and the row of its goal.
 pub record Parts : Type 0 where
@@ -52,7 +52,7 @@ built-operator t o =
     bind (image (length (t .initial)) plain (formula-of (t .formulas) (operator-of t o .precondition)))
     (λ p.
     bind (each (length (t .initial)) (changes-of (length (t .initial)) (effect-of-operator t o)))
-    (λ c. give (record { precondition = p; changes = c; cost = operator-of t o .cost })))
+    (λ c. give (record { precondition = p; changes = c; source = operator-of t o })))
 
 -- The operators in order; the goal last. Built first, a goal "not v1" would take variable n for v1's twin before the operators' twins.
 unfoldable pub parts : Task → Build Parts

@@ -2,7 +2,7 @@
 use Prim.Native.Nat.{ℕ, _+_}
 use native.Mathlib.Omega.{arith}
 use mathlib.Core.List.{List}
-use Rattle.task.specs.Table.{row-at}
+use Rattle.task.specs.Table.{operator-at}
 use Rattle.normal_form.specs.Builder.{St, plain}
 use Rattle.normal_form.specs.Growth.{Grows, Steady}
 use Rattle.normal_form.proofs.Growth.{steady-bind, steady-each}
@@ -25,7 +25,9 @@ steady-operator-built frame formulas effects p e =
 module _ (frame : Frame) (formulas effects operators : List ℕ) where
   steady-here : (o : ℕ) → Steady (operator-here frame formulas effects operators o)
   unfolding operator-here
-  steady-here o = steady-operator-built frame formulas effects (row-at operators o .kind) (row-at operators o .a)
+  steady-here o =
+      let source = operator-at operators o in
+      steady-operator-built frame formulas effects (source .precondition) (source .effect)
 
   -- one more operator
   pub more-grows :

@@ -2,7 +2,7 @@
 use Prim.Native.Nat.{ℕ}
 use mathlib.Core.Path.{_≡_, refl}
 use mathlib.Core.List.{[], _∷_}
-use Rattle.task.specs.Table.{Row, Task}
+use Rattle.task.specs.Table.{Row, Task, operator}
 use Rattle.task.specs.Words.{joined, row-words, operator-row-words}
 use Rattle.printing.specs.Lines.{bytes, digits-within, decimal, word, line, numbered, values, initial-line, head-line, twin-lines, lines, refusal-line}
 
@@ -30,7 +30,7 @@ compiled =
           ∷ words 4 3 9
           ∷ words 3 8 10
           ∷ [];
-      operators = record { precondition = 2; effect = 11; cost = 3 } ∷ [];
+      operators = operator 2 11 3 ∷ [];
       goal = 6;
     }
 

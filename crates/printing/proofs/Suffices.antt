@@ -1,5 +1,5 @@
 -- A buffer of 164,384 bytes has room for the lines of any tables that pass the check, and one of 8 bytes for any refusal of 16 bits.
-use Prim.Native.Nat.{ℕ, _+_, _*_, _≤_, _<_}
+use Prim.Native.Nat.{ℕ, _≤_, _<_}
 use native.Mathlib.Omega.{arith}
 use mathlib.Core.Path.{_≡_, _∙_}
 use lib.ListN.{length, getD}
@@ -18,11 +18,10 @@ use Rattle.printing.proofs.Short.{lines-short, refusal-line-short}
 -- the costs of the task that lent tables hold
 costs-held :
     (l : Lent)
-    → ((i : ℕ) → i < l .head .operators → getD (l .operators) (3 * i + 2) 0 < 65536)
+    → ((i : ℕ) → i < l .head .operators → operator-at (l .operators) i .cost < 65536)
     → (i : ℕ)
     → i < length (task-of l .operators)
     → getD (task-of l .operators) i no-operator .cost < 65536
-unfolding operator-at
 costs-held l costs i h =
     let b : i < l .head .operators = rw (length-operators l) at h in
     rw (operator-held l i b) (costs i b)
@@ -30,7 +29,7 @@ costs-held l costs i h =
 pub task-printed :
     (l : Lent) (n : ℕ)
     → refusal l ≡ 0
-    → ((i : ℕ) → i < l .head .operators → getD (l .operators) (3 * i + 2) 0 < 65536)
+    → ((i : ℕ) → i < l .head .operators → operator-at (l .operators) i .cost < 65536)
     → 164384 ≤ n
     → let text = lines (task-of l) in
     printing l n ≡ record { answer = Printed (length text); out = padded n text }

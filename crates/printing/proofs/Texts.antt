@@ -3,7 +3,7 @@ use Prim.Native.Nat.{ℕ, zero, suc, _+_, _-_, _≤_, _<_}
 use native.Mathlib.Nat.{not-suc-le-zero, add-zero}
 use native.Mathlib.Numerals.{add-one}
 use native.Mathlib.Omega.{arith}
-use mathlib.Core.Path.{_≡_, refl, sym, ap, ap₂, _∙_}
+use mathlib.Core.Path.{_≡_, refl, sym, ap, ap₂, _∙_, subst}
 use mathlib.Core.List.{List, [], _∷_, _++_, map, append-nil, append-assoc}
 use lib.ListN.{length, getD, take}
 use lib.Seq.{take-suc}
@@ -14,8 +14,12 @@ use Rattle.task.specs.Rules.{LongEnough}
 use Rattle.task.specs.Words.{joined, row-words, operator-row-words}
 use Rattle.task.proofs.Bounded.{length-upto}
 use Rattle.task.proofs.Held.{length-initial, length-originals, length-formulas, length-effects, length-operators}
+use Rattle.task.specs.declared.Table.the-variants.{Formulas, Effects, Operators}
+use Rattle.task.specs.declared.Table.{Table}
+use Rattle.task.specs.declared.TableRow.{TableRow}
+use Rattle.task.specs.Inner.Tables.{words-at}
 use Rattle.printing.specs.Lines.{newline, blank, digit, word, line, numbered, values, initial-line, head-line, twin-lines, lines}
-use Rattle.printing.specs.Inner.Put.{Put, counts-of, words-at, original-at, front-text, tables-text}
+use Rattle.printing.specs.Inner.Put.{Put, counts-of, listed, original-at, front-text, tables-text}
 use Rattle.printing.proofs.Puts.{nothing-put, then-put, put-as}
 
 -- Lines of one, two and four numbers.
@@ -113,6 +117,15 @@ rows-more letter first n i f p q e h =
     put-as (then-put p q)
     (ap (λ (j : ℕ). numbered letter first (upto i f) ++ line letter (j ∷ f i)) e ∙ numbered-more letter first i f) h
 
+-- the line of a row, by its words
+pub row-put :
+    (letter i : ℕ) (table : Table) (words : List ℕ) {r : TableRow} {before after : List ℕ} {at most last : ℕ}
+    → r ≡ words-at table words i
+    → Put before at (line letter (i ∷ r .first ∷ r .second ∷ r .third ∷ [])) most after last
+    → Put before at (line letter (i ∷ listed table words i)) most after last
+row-put letter i table words {before = before} {after} {at} {most} {last} e p =
+    subst (λ (r : TableRow). Put before at (line letter (i ∷ r .first ∷ r .second ∷ r .third ∷ [])) most after last) e p
+
 -- The lines of lent tables are those of the task that they hold.
 map-upto : {A B : Type 0} (g : A → B) (f : ℕ → A) (n : ℕ) → map g (upto n f) ≡ upto n (λ i. g (f i))
 unfolding upto
@@ -128,12 +141,17 @@ map-take {B} g l (suc n) h =
     ∙ map-append g (take n l) (getD l n 0 ∷ [])
     ∙ ap (λ (r : List B). r ++ (g (getD l n 0) ∷ [])) (map-take g l n (omega arith))
 
-formulas-text : (letter : ℕ) (words : List ℕ) (n : ℕ) → numbered letter 0 (upto n (words-at words)) ≡ numbered letter 0 (map row-words (upto n (row-at words)))
-unfolding row-words row-at
+formulas-text :
+    (letter : ℕ) (words : List ℕ) (n : ℕ)
+    → numbered letter 0 (upto n (listed Formulas words)) ≡ numbered letter 0 (map row-words (upto n (row-at words)))
+unfolding row-words
 formulas-text letter words n = ap (numbered letter 0) (sym (map-upto row-words (row-at words) n))
 
-operators-text : (letter : ℕ) (words : List ℕ) (n : ℕ) → numbered letter 0 (upto n (words-at words)) ≡ numbered letter 0 (map operator-row-words (upto n (operator-at words)))
-unfolding operator-row-words operator-at
+operators-text :
+    (letter : ℕ) (words : List ℕ) (n : ℕ)
+    → numbered letter 0 (upto n (listed Operators words))
+    ≡ numbered letter 0 (map operator-row-words (upto n (operator-at words)))
+unfolding operator-row-words
 operators-text letter words n = ap (numbered letter 0) (sym (map-upto operator-row-words (operator-at words) n))
 
 pub front-joined :
@@ -148,14 +166,14 @@ front-joined h initial twins =
 
 pub tables-joined :
     (h : Head) (formulas effects operators : List ℕ)
-    → (numbered 102 0 (upto (h .formulas) (words-at formulas)) ++ numbered 101 0 (upto (h .effects) (words-at effects)))
-    ++ numbered 111 0 (upto (h .operators) (words-at operators))
+    → (numbered 102 0 (upto (h .formulas) (listed Formulas formulas)) ++ numbered 101 0 (upto (h .effects) (listed Effects effects)))
+    ++ numbered 111 0 (upto (h .operators) (listed Operators operators))
     ≡ tables-text h formulas effects operators
 unfolding tables-text
 tables-joined h formulas effects operators =
-    append-assoc (numbered 102 0 (upto (h .formulas) (words-at formulas)))
-    (numbered 101 0 (upto (h .effects) (words-at effects)))
-    (numbered 111 0 (upto (h .operators) (words-at operators)))
+    append-assoc (numbered 102 0 (upto (h .formulas) (listed Formulas formulas)))
+    (numbered 101 0 (upto (h .effects) (listed Effects effects)))
+    (numbered 111 0 (upto (h .operators) (listed Operators operators)))
 
 module _ (l : Lent) (long : LongEnough l) where
   head-held : line 116 (counts-of (l .head)) ≡ head-line (task-of l)

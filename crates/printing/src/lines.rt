@@ -8,11 +8,13 @@ ghost use Rattle.task.specs.Words.{joined};
 ghost use Rattle.task.specs.Table.{lent, task-of};
 ghost use Rattle.task.specs.Check.{refusal};
 ghost use Rattle.printing.specs.Lines.{digit, word as word-text, line, numbered, values as values-text, initial-line, lines};
-ghost use Rattle.printing.specs.Inner.Put.{Put, counts-of, words-at, original-at, front-text, tables-text, BitsReady, TwinsReady, RowsReady, FrontReady, TablesReady};
+ghost use Rattle.printing.specs.Inner.Put.{Put, counts-of, listed, original-at, front-text, tables-text, BitsReady, TwinsReady, RowsReady, FrontReady, TablesReady};
 use crate::bytes::put;
 use crate::bytes::three;
 use crate::bytes::word;
 use task::Head;
+use task::Table;
+use task::table_rows::row_at;
 
 // A line's letter and its first number.
 fn opening(out: &mut [u8], at: usize, letter: u8, n: u16) -> usize
@@ -121,23 +123,30 @@ fn twin_lines(out: &mut [u8], at: usize, first: u16, twins: &[u16], count: usize
     next
 }
 
-// Lines f, e or o, by the letter.
-fn row_lines(out: &mut [u8], at: usize, letter: u8, words: &[u16], count: usize) -> usize
-    requires { ⌜ RowsReady at count (now words) ⌝ }
-    ensures { λ r. ⌜ Put (now (out .entry)) at (numbered letter 0 (upto count (words-at (now (words .entry))))) (26 * count) (now (out .exit)) r ⌝ }
+// Lines f, e or o: the rows of a table, by its letter.
+fn row_lines(
+    out: &mut [u8],
+    at: usize,
+    letter: u8,
+    table: Table,
+    words: &[u16],
+    count: usize,
+) -> usize
+    requires { ⌜ RowsReady table at count (now words) ⌝ }
+    ensures { λ r. ⌜ Put (now (out .entry)) at (numbered letter 0 (upto count (listed table (now (words .entry))))) (26 * count) (now (out .exit)) r ⌝ }
 {
     let mut next = at;
     let mut i = 0;
     while i < count {
-        let k = 3 * i;
+        let row = row_at(table, words, i);
         next = line_of_four(
             out,
             next,
             letter,
             i as u16,
-            words[k],
-            words[k + 1],
-            words[k + 2],
+            row.first,
+            row.second,
+            row.third,
         );
         i += 1;
     }
@@ -172,9 +181,30 @@ fn tables(
     requires { ⌜ TablesReady at head (now formulas) (now effects) (now operators) ⌝ }
     ensures { λ r. ⌜ Put (now (out .entry)) at (tables-text head (now (formulas .entry)) (now (effects .entry)) (now (operators .entry))) 220000 (now (out .exit)) r ⌝ }
 {
-    let after_formulas = row_lines(out, at, b'f', formulas, head.formulas as usize);
-    let after_effects = row_lines(out, after_formulas, b'e', effects, head.effects as usize);
-    row_lines(out, after_effects, b'o', operators, head.operators as usize)
+    let after_formulas = row_lines(
+        out,
+        at,
+        b'f',
+        Table::Formulas,
+        formulas,
+        head.formulas as usize,
+    );
+    let after_effects = row_lines(
+        out,
+        after_formulas,
+        b'e',
+        Table::Effects,
+        effects,
+        head.effects as usize,
+    );
+    row_lines(
+        out,
+        after_effects,
+        b'o',
+        Table::Operators,
+        operators,
+        head.operators as usize,
+    )
 }
 
 // All lines of tables that pass the check.

@@ -5,7 +5,9 @@ ghost use Rattle.task_file.specs.Outcome.{lengths};
 ghost use Rattle.layouts.specs.Layout.{Lays};
 ghost use Rattle.entry_tables.specs.Own.{small};
 ghost use Rattle.read_entry.specs.Entry.{read-entry, read-entry-by};
+use entry_tables::SMALL_OPERATOR_WORDS;
 use task::clear::clear_bytes;
+use task::operator_rows::MOST_OPERATOR_WORDS;
 use task_file::ReadAnswer;
 
 // Through tables that are lent. What these hold afterwards is left open: they end with the caller's call. One pass over the file and one over its
@@ -37,7 +39,7 @@ fn read_small(file: &[u8], tables: &mut [u8]) -> u32
     let mut twins = [0u16; 64];
     let mut formulas = [0u16; 384];
     let mut effects = [0u16; 384];
-    let mut operators = [0u16; 384];
+    let mut operators = [0u16; SMALL_OPERATOR_WORDS];
     read_through(
         file,
         &mut initial,
@@ -57,7 +59,7 @@ fn read_full(file: &[u8], tables: &mut [u8]) -> u32
     let mut twins = [0u16; 256];
     let mut formulas = [0u16; 12288];
     let mut effects = [0u16; 12288];
-    let mut operators = [0u16; 768];
+    let mut operators = [0u16; MOST_OPERATOR_WORDS];
     read_through(
         file,
         &mut initial,

@@ -77,7 +77,7 @@ module _ (n : ℕ) (twins : List ℕ) where
   -- an operator, with the changes that bring rules alone
   pub acting-operator :
       (w : Assembled) (b : Built)
-      → assemble-operator n twins w (record { precondition = b .precondition; changes = acting (b .changes); cost = b .cost })
+      → assemble-operator n twins w (record { precondition = b .precondition; changes = acting (b .changes); source = b .source })
       ≡ assemble-operator n twins w b
   unfolding assemble-operator
   acting-operator w b = rw (rules-acting (b .changes))

@@ -10,7 +10,7 @@ use borrow.Author.Tests.{eq-eqb, ne-eqb}
 use Rattle.task.specs.Bounded.{upto}
 use Rattle.task.specs.Table.{Row, row-at}
 use Rattle.normal_form.specs.Operators.{Changes}
-use Rattle.normal_form.specs.Inner.Stored.{three}
+use Rattle.task.specs.Inner.Stored.{three}
 use Rattle.formula_builder.specs.Inner.Index.{three as row-stored}
 use Rattle.formula_builder.proofs.Stored.{upto-same, three-other, three-before, three-at}
 use Rattle.records.specs.Inner.Recorded.{idle, acting, change-at, changes-from, Recorded}

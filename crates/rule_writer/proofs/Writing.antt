@@ -8,7 +8,7 @@ use mathlib.Core.List.{List, [], _∷_, _++_, append-assoc, append-nil}
 use lib.ListN.{length, getD, replicate, length-append, length-set, length-replicate}
 use lib.Dec.{eqb, ltb}
 use borrow.Author.Tests.{eq-eqb, ne-eqb, lt-ltb, le-ltb}
-use Rattle.task.specs.Table.{Row, Operator}
+use Rattle.task.specs.Table.{Row}
 use Rattle.task.specs.Semantics.{sets, clears}
 use Rattle.task.specs.Words.{words-of, padded}
 use Rattle.normal_form.specs.Builder.{place}
@@ -16,8 +16,9 @@ use Rattle.normal_form.specs.Operators.{Changes}
 use Rattle.normal_form.specs.Assembly.{Rule, rule, with-twin, rules-of, rules, Written, atom-row, rule-rows, write-rule, write-rules, unassembled}
 use Rattle.normal_form.proofs.Assembling.{rules-none}
 use Rattle.normal_form.proofs.Growth.{longer}
-use Rattle.normal_form.proofs.Padded.{padded-empty, padded-row, padded-operator}
-use Rattle.normal_form.specs.Inner.Stored.{three}
+use Rattle.normal_form.proofs.Padded.{padded-empty}
+use Rattle.task.proofs.Stores.{padded-row}
+use Rattle.task.specs.Inner.Stored.{three}
 use Rattle.normal_form.proofs.ShapeAssembled.{unwritten}
 use Rattle.normal_form.proofs.ShapeCounts.{first-length, next-length, rules-split}
 use Rattle.normal_form.proofs.ShapeRules.{rules-snoc}
@@ -27,7 +28,7 @@ use Rattle.rule_writer.specs.declared.Rule.{Rule as CodeRule}
 use Rattle.rule_writer.specs.declared.Frame.{Frame}
 use Rattle.rule_writer.specs.declared.Changes.{Changes as CodeChanges}
 use Rattle.rule_writer.specs.Inner.Places.{Placed, begun}
-use Rattle.rule_writer.specs.Inner.Writes.{atom-of, kind-of, changes-in, alone, rule-in, twin-rule-in, all-in, two-rows, Holds, Ready, First, Next, Writes, OneMore}
+use Rattle.rule_writer.specs.Inner.Writes.{atom-of, kind-of, changes-in, alone, rule-in, twin-rule-in, all-in, two-rows, Holds, Ready, First, Next, Writes}
 
 abbrev pub filled : Chain → Chain
 filled at = record { rows = at .rows; stands = at .stands; full = true }
@@ -324,22 +325,6 @@ holds-begun n h =
 pub holds-next :
     {w : Written} {at : Chain} {table : List ℕ} → Holds w at table → Holds (unwritten (w .rows)) (begun (at .rows)) table
 holds-next h = record { rows = h .rows; stands = refl; words = h .words }
-
--- one operator more
-pub operator-stored :
-    (t : List ℕ) (i : ℕ) (o : Operator) (after : List ℕ)
-    → 3 * i + 3 ≤ length t
-    → after ≡ three t i (o .precondition) (o .effect) (o .cost)
-    → OneMore i o t after
-operator-stored t i o after h e =
-    record {
-      same = ap length e ∙ length-three t i (o .precondition) (o .effect) (o .cost);
-      stored = e;
-      words = λ operators l held.
-          e
-          ∙ ap (λ (x : List ℕ). three x i (o .precondition) (o .effect) (o .cost)) held
-          ∙ padded-operator (length t) operators i o l h;
-    }
 
 -- all rules of one variable, if its twin is at place k
 changes-written :

@@ -1,12 +1,10 @@
-// The second pass of compiling: the rules of the compiled operators as effect rows, the operators' rows, and the new initial values.
+// The second pass of compiling: the rules of the compiled operators as effect rows, and the new initial values.
 mod initial;
-mod operators;
 mod places;
 mod rows;
 mod rules;
 
 pub use initial::write_initial;
-pub use operators::write_operator;
 pub use places::find_places;
 pub use rows::store;
 pub use rules::write_changes;

@@ -2,7 +2,7 @@
 ghost use mathlib.Core.Path.{_≡_};
 ghost use Prim.Native.Nat.{_+_, _*_, _≤_};
 ghost use lib.ListN.{length};
-ghost use Rattle.normal_form.specs.Inner.Stored.{three};
+ghost use Rattle.task.specs.Inner.Stored.{three};
 
 // Stores three words as row n.
 pub fn store(table: &mut [u16], n: usize, x: u16, y: u16, z: u16)

@@ -11,8 +11,10 @@ ghost use Rattle.layouts.specs.Layout.{run-number};
 ghost use Rattle.run_entry.specs.Entry.{run-given, run-entry, run-entry-by};
 ghost use Rattle.run_entry.specs.Inner.Giving.{small-run, FreeRun, SmallRun, RunIn};
 ghost use Rattle.run_entry.specs.Entry.{RunEntryGives};
+use entry_tables::SMALL_OPERATOR_WORDS;
 use task::Head;
 use task::clear::clear_bytes;
+use task::operator_rows::MOST_OPERATOR_WORDS;
 use task_file::ReadAnswer;
 
 // The run where nothing refuses it, with room lent for its numbers and for scratch. What these hold afterwards is left open: they end with the caller's call.
@@ -242,7 +244,7 @@ fn run_from_small(file: &[u8], state: &mut [u8], sequence: &[u8], result: &mut [
     let mut twins = [0u16; 64];
     let mut formulas = [0u16; 384];
     let mut effects = [0u16; 384];
-    let mut operators = [0u16; 384];
+    let mut operators = [0u16; SMALL_OPERATOR_WORDS];
     run_through(
         file,
         &mut initial,
@@ -264,7 +266,7 @@ fn run_from_full(file: &[u8], state: &mut [u8], sequence: &[u8], result: &mut [u
     let mut twins = [0u16; 256];
     let mut formulas = [0u16; 12288];
     let mut effects = [0u16; 12288];
-    let mut operators = [0u16; 768];
+    let mut operators = [0u16; MOST_OPERATOR_WORDS];
     run_through(
         file,
         &mut initial,

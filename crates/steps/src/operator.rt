@@ -5,20 +5,23 @@ ghost use lib.ListN.{length, getD};
 ghost use Rattle.task.specs.Bounded.{upto};
 ghost use Rattle.task.specs.Check.{unless};
 ghost use Rattle.task.specs.Rules.{no-operator};
-ghost use Rattle.task.specs.Table.{operator-at};
+ghost use Rattle.task.specs.Table.{operator-width, operator-at};
 ghost use Rattle.steps.specs.Inner.Steps.{running, Ready, Takes, Scratched};
 use crate::Taken;
 use task::Head;
+use task::operator_rows::cost_of;
+use task::operator_rows::effect_of;
+use task::operator_rows::precondition_of;
 
 // The formula that operator `number` asks for, row 0 if it is not there. Constant time.
-fn precondition_of(count: u16, operators: &[u16], number: u16) -> usize
-    requires { ⌜ 3 * count ≤ length (now operators) ⌝ }
+fn asked(count: u16, operators: &[u16], number: u16) -> usize
+    requires { ⌜ operator-width * count ≤ length (now operators) ⌝ }
     ensures { λ r. ⌜ r ≡ getD (upto count (operator-at (now (operators .entry)))) number no-operator .precondition ⌝ }
 {
     if count <= number {
         return 0;
     }
-    operators[3 * (number as usize)] as usize
+    precondition_of(operators, number as usize) as usize
 }
 
 // What stops a step: 17 comes before 18. Constant time.
@@ -50,14 +53,13 @@ pub fn take(
     ensures { λ r. ⌜ Scratched head (now (formulas .entry)) (now (effects .entry)) (now (operators .entry)) (now (state .entry)) number r (now (scratch .entry)) (now (scratch .exit)) ⌝ }
 {
     let count = head.formulas as usize;
-    let precondition = precondition_of(head.operators, operators, number);
+    let precondition = asked(head.operators, operators, number);
     let applicable = evaluating::holds(formulas, precondition, state, scratch);
     let stop = stop_of(number < head.operators, applicable);
     if stop != 0 {
         return Taken { stop, charge: 0 };
     }
-    let row = 3 * (number as usize);
-    let effect = operators[row + 1] as usize;
+    let effect = effect_of(operators, number as usize) as usize;
     applying::carry_out(
         formulas,
         precondition + 1,
@@ -69,6 +71,6 @@ pub fn take(
     );
     Taken {
         stop: 0,
-        charge: operators[row + 2] as u64,
+        charge: cost_of(operators, number as usize) as u64,
     }
 }

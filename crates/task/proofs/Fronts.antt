@@ -7,7 +7,7 @@ use mathlib.Core.List.{List, [], _∷_, _++_, append-nil}
 use lib.ListN.{length, getD, take}
 use lib.Seq.{take-add, drop-cons}
 use Rattle.task.specs.Bounded.{upto}
-use Rattle.task.specs.Table.{row-at, operator-at}
+use Rattle.task.specs.Table.{operator-width, row-at, operator-at}
 use Rattle.task.specs.Words.{joined, row-words, operator-row-words, words-of, operator-words}
 use Rattle.task.proofs.Words.{joined-append}
 
@@ -46,6 +46,6 @@ pub rows-front : (t : List ℕ) (n : ℕ) → 3 * n ≤ length t → take (3 * n
 unfolding words-of row-words row-at
 rows-front t n h = joined-front row-words (row-at t) t (λ i. refl) n h
 
-pub operators-front : (t : List ℕ) (n : ℕ) → 3 * n ≤ length t → take (3 * n) t ≡ operator-words (upto n (operator-at t))
+pub operators-front : (t : List ℕ) (n : ℕ) → operator-width * n ≤ length t → take (operator-width * n) t ≡ operator-words (upto n (operator-at t))
 unfolding operator-words operator-row-words operator-at
 operators-front t n h = joined-front operator-row-words (operator-at t) t (λ i. refl) n h

@@ -8,6 +8,7 @@ pub mod Passed
 pub mod Kept
 pub mod Words
 pub mod Fronts
+pub mod Stores
 pub mod Trees
 pub mod Down
 pub mod Values

@@ -10,7 +10,7 @@ use lib.Dec.{leb, ltb, eqb}
 use borrow.Author.Tests.{leb-true, ltb-true, eqb-false, not-true, le-leb, lt-ltb, ne-eqb}
 use Rattle.task.specs.declared.Head.{Head}
 use Rattle.task.specs.Bounded.{every}
-use Rattle.task.specs.Table.{Lent, row-at, operator-at, formula-kind, effect-kind}
+use Rattle.task.specs.Table.{Lent, operator-width, row-at, operator-at, formula-kind, effect-kind}
 use Rattle.task.specs.Check.{Lengths, lengths-of, counts-kept, goal-kept, long-enough, room, initial-kept, twin-kept, twins-kept, formula-kept, formulas-kept, effect-kept, effects-kept, operator-kept, operators-kept, unless, refusal}
 use Rattle.task.specs.Rules.{Counts, TwinRule, RoomFor, LongEnough, FormulaRule, EffectRule, OperatorRule}
 use Rattle.task.proofs.Bounded.{and-left, and-right, and-both, every-at, every-from}
@@ -134,7 +134,7 @@ room-tested n h = (told, tested)
           twins = leb-true (h .twins) (n .twins) (search (and-left, and-right));
           formulas = leb-true (3 * h .formulas) (n .formulas) (search (and-left, and-right));
           effects = leb-true (3 * h .effects) (n .effects) (search (and-left, and-right));
-          operators = leb-true (3 * h .operators) (n .operators) (search (and-left, and-right));
+          operators = leb-true (operator-width * h .operators) (n .operators) (search (and-left, and-right));
         }
 
     tested : RoomFor n (h .variables) (h .twins) (h .formulas) (h .effects) (h .operators) → room n h ≡ true
@@ -143,7 +143,7 @@ room-tested n h = (told, tested)
         (and-both (le-leb (h .twins) (n .twins) (r .twins))
         (and-both (le-leb (3 * h .formulas) (n .formulas) (r .formulas))
         (and-both (le-leb (3 * h .effects) (n .effects) (r .effects))
-        (le-leb (3 * h .operators) (n .operators) (r .operators)))))
+        (le-leb (operator-width * h .operators) (n .operators) (r .operators)))))
 
 module _ (l : Lent) where
   pub lengths-tested : long-enough l ≡ true ↔ LongEnough l

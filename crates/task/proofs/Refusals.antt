@@ -1,7 +1,7 @@
 -- Laws of the check's definitions, one for each way out of the functions that are held to them. Assumes nothing.
 use Prim.Native.Nat.{ℕ, zero, suc, _+_, _-_, _*_, _/_, _≤_, _<_}
 use native.Mathlib.Omega.{arith}
-use mathlib.Core.Path.{_≡_, refl}
+use mathlib.Core.Path.{_≡_, refl, sym, ap, _∙_}
 use mathlib.Core.Bool.{Bool, true, false, not, _&&_, and-false}
 use mathlib.Core.List.{List, []}
 use lib.ListN.{length, getD, take, drop}
@@ -11,10 +11,11 @@ use Rattle.task.specs.Bounded.{every}
 use Rattle.task.specs.declared.Head.{Head}
 use Rattle.task.specs.declared.Table.{Table}
 use Rattle.task.specs.declared.Table.the-variants.{Formulas, Effects, Operators}
-use Rattle.task.specs.Table.{Lent, formula-kind, effect-kind, row-at, operator-at, row-part}
-use Rattle.task.specs.Inner.Tables.{words-kept, row-kept}
+use Rattle.task.specs.Table.{Lent, operator-width, formula-kind, effect-kind, row-at, operator-at, row-part, part}
+use Rattle.task.specs.Inner.Tables.{words-at, words-kept, row-kept}
 use Rattle.task.specs.Check.{counts-kept, long-enough, room, twin-kept, formula-words-kept, effect-words-kept}
 use Rattle.task.proofs.Bounded.{and-both}
+use Rattle.task.specs.declared.TableRow.{TableRow}
 
 -- a conjunction fails with either half
 pub fails-left : (a b : Bool) → a ≡ false → (a && b) ≡ false
@@ -116,15 +117,19 @@ module _ (v f i a b : ℕ) where
   effect-unknown (suc (suc (suc (suc zero)))) l = absurd (omega arith)
   effect-unknown (suc (suc (suc (suc (suc n))))) l = refl
 
--- a row of any of the three tables is its three words
-pub row-by-words :
-    (t : Table) (h : Head) (words : List ℕ) (i : ℕ)
-    → words-kept t h i (getD words (3 * i) 0) (getD words (3 * i + 1) 0) (getD words (3 * i + 2) 0)
-    ≡ row-kept t h words i
-unfolding row-at operator-at
-row-by-words Formulas h words i = refl
-row-by-words Effects h words i = refl
-row-by-words Operators h words i = refl
+-- a row of any of the three tables is tested by its words
+pub row-tested :
+    (t : Table) (h : Head) (words : List ℕ) (i : ℕ) {r : TableRow} {b : Bool}
+    → r ≡ words-at t words i
+    → b ≡ words-kept t h i (r .first) (r .second) (r .third)
+    → row-kept t h words i ≡ b
+row-tested t h words i read tested =
+    sym (tested ∙ ap (λ (r : TableRow). words-kept t h i (r .first) (r .second) (r .third)) read ∙ same t)
+  where
+    same : (t : Table) → let r = words-at t words i in words-kept t h i (r .first) (r .second) (r .third) ≡ row-kept t h words i
+    same Formulas = unfold row-at in refl
+    same Effects = unfold row-at in refl
+    same Operators = unfold operator-at in refl
 
 -- the last tests of the counts and of the lengths, where those before them passed
 pub counts-last :
@@ -151,7 +156,7 @@ pub lengths-last :
     → l .head .twins ≤ length (l .twins)
     → 3 * l .head .formulas ≤ length (l .formulas)
     → 3 * l .head .effects ≤ length (l .effects)
-    → leb (3 * l .head .operators) (length (l .operators)) ≡ long-enough l
+    → leb (operator-width * l .head .operators) (length (l .operators)) ≡ long-enough l
 unfolding long-enough room
 lengths-last l a b c d =
     rw (
@@ -166,11 +171,11 @@ pub row-inside :
     (words : List ℕ) (i : ℕ)
     → i < length words / 3
     → take (3 * i + 3 - 3 * i) (drop (3 * i) words) ≡ row-part words i
-unfolding row-part
+unfolding part
 row-inside words i h =
     let three : 3 * i + 3 - 3 * i ≡ 3 = omega arith in
     rw (le-leb (3 * i + 3) (length words) (omega arith), three)
 
 pub row-outside : (words : List ℕ) (i : ℕ) → length words / 3 ≤ i → [] ≡ row-part words i
-unfolding row-part
+unfolding part
 row-outside words i h = rw (lt-leb (3 * i + 3) (length words) (omega arith))

@@ -6,22 +6,22 @@ use mathlib.Core.List.{List, []}
 use lib.ListN.{length, getD, drop, length-drop}
 use lib.Seq.{length-take-le, getD-take, getD-drop}
 use borrow.Author.Tests.{le-leb, lt-leb}
-use Rattle.task.specs.Table.{row-part}
+use Rattle.task.specs.Table.{row-part, part}
 
 module _ (words : List ℕ) (i : ℕ) where
   module _ (inside : 3 * i + 3 ≤ length words) where
     pub row-length : length (row-part words i) ≡ 3
-    unfolding row-part
+    unfolding part
     row-length =
         rw (le-leb (3 * i + 3) (length words) inside)
         (length-take-le 3 (drop (3 * i) words) (omega (arith, length-drop (3 * i) words)))
 
     pub row-word : (k : ℕ) → k < 3 → getD (row-part words i) k 0 ≡ getD words (3 * i + k) 0
-    unfolding row-part
+    unfolding part
     row-word k below =
         rw (le-leb (3 * i + 3) (length words) inside)
         (getD-take 3 (drop (3 * i) words) k 0 below ∙ getD-drop (3 * i) words k 0)
 
   pub no-part : length words < 3 * i + 3 → row-part words i ≡ []
-  unfolding row-part
+  unfolding part
   no-part past = rw (lt-leb (3 * i + 3) (length words) past)

@@ -8,7 +8,7 @@ use mathlib.Core.Path.{_≡_}
 use mathlib.Core.List.{List, [], _∷_, _++_}
 use lib.ListN.{length, getD, length-append, List·getD-append}
 use lib.Seq.{getD-append-add}
-use Rattle.task.specs.Table.{Row, Operator, Lent, Task, operator-at, task-of, FormulaKind, false-kind, true-kind, variable-kind, not-kind, and-kind, or-kind, implies-kind, equivalent-kind, unknown-formula, formula-kind, EffectKind, empty-kind, set-kind, clear-kind, both-kind, under-kind, unknown-effect, effect-kind}
+use Rattle.task.specs.Table.{Row, Operator, operator-width, Lent, Task, operator-at, task-of, FormulaKind, false-kind, true-kind, variable-kind, not-kind, and-kind, or-kind, implies-kind, equivalent-kind, unknown-formula, formula-kind, EffectKind, empty-kind, set-kind, clear-kind, both-kind, under-kind, unknown-effect, effect-kind}
 use Rattle.task.specs.Rules.{no-row, no-operator, FormulaRule, EffectRule, Checked, word-limit, RowWords, OperatorWords, Rules, LentWords, LongEnough}
 use Rattle.task.specs.Words.{joined, row-words, operator-row-words, words-of, operator-words, lent-of}
 use Rattle.task.proofs.KindNumbers.{HasFormulaNumber, formula-number, HasEffectNumber, effect-number}
@@ -108,7 +108,7 @@ unfolding operator-at
 lent-rules l words long c =
     rules-with-costs (task-of l) c (λ i h.
     let b : i < l .head .operators = rw (length-operators l) at h in
-    rw (operator-held l i b) (omega (arith, words .operators (3 * i + 2) (omega (arith, long .operators)))))
+    rw (operator-held l i b) (omega (arith, words .operators (operator-width * i + 2) (omega (arith, long .operators)))))
 
 -- what holds of each word of each element's words holds of each word of all
 joined-each :

@@ -7,7 +7,7 @@ use mathlib.Core.List.{List, [], _∷_, _++_, append-assoc, append-nil}
 use lib.ListN.{length, getD, length-append, List·getD-append}
 use lib.Seq.{ext-getD, getD-append-add, take-append-seam}
 use Rattle.task.specs.Bounded.{upto}
-use Rattle.task.specs.Table.{Row, Operator, Lent, Task, row-at, operator-at, task-of}
+use Rattle.task.specs.Table.{Row, Operator, operator-width, operator, Lent, Task, row-at, operator-at, task-of}
 use Rattle.task.specs.Check.{refusal}
 use Rattle.task.specs.Rules.{no-row, no-operator, Checked, LongEnough}
 use Rattle.task.specs.Words.{joined, row-words, operator-row-words, words-of, operator-words, head-of, lent-of}
@@ -49,9 +49,18 @@ pub length-words : (rows : List Row) → length (words-of rows) ≡ 3 * length r
 unfolding words-of row-words
 length-words rows = length-joined row-words (λ r. refl) rows
 
-pub length-operator-words : (operators : List Operator) → length (operator-words operators) ≡ 3 * length operators
+pub length-operator-words : (operators : List Operator) → length (operator-words operators) ≡ operator-width * length operators
 unfolding operator-words operator-row-words
 length-operator-words operators = length-joined operator-row-words (λ o. refl) operators
+
+-- an operator is what its words say
+pub operator-by-words : {p e c : ℕ} (o : Operator) → operator-row-words o ≡ p ∷ e ∷ c ∷ [] → o ≡ operator p e c
+unfolding operator-row-words
+operator-by-words {p} {e} {c} o q =
+    let a : o .precondition ≡ p = cc in
+    let b : o .effect ≡ e = cc in
+    let d : o .cost ≡ c = cc in
+    λ j. operator (a j) (b j) (d j)
 
 pub words-append : (rows more : List Row) → words-of (rows ++ more) ≡ words-of rows ++ words-of more
 unfolding words-of
@@ -84,10 +93,20 @@ unfolding operator-at operator-words operator-row-words
 operator-read operators tail i h =
     λ j.
     record {
-      precondition = joined-at operator-row-words (λ o. refl) operators tail no-operator i 0 (3 * i) h (omega arith) (omega arith) j;
-      effect = joined-at operator-row-words (λ o. refl) operators tail no-operator i 1 (3 * i + 1) h (omega arith) refl j;
-      cost = joined-at operator-row-words (λ o. refl) operators tail no-operator i 2 (3 * i + 2) h (omega arith) refl j;
+      precondition = word 0 at (omega arith) (omega arith) j;
+      effect = word 1 (at + 1) (omega arith) refl j;
+      cost = word 2 (at + 2) (omega arith) refl j;
     }
+  where
+    at : ℕ
+    at = operator-width * i
+
+    word :
+        (k n : ℕ)
+        → k < operator-width
+        → n ≡ at + k
+        → getD (operator-words operators ++ tail) n 0 ≡ getD (operator-row-words (getD operators i no-operator)) k 0
+    word k n b e = unfold operator-words operator-row-words in joined-at operator-row-words (λ o. refl) operators tail no-operator i k n h b e
 
 -- a list is made again from its elements
 upto-getD : {A : Type 0} (xs : List A) (f : ℕ → A) (d : A) → ((i : ℕ) → i < length xs → f i ≡ getD xs i d) → upto (length xs) f ≡ xs

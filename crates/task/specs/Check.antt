@@ -6,7 +6,7 @@ use lib.ListN.{length, getD}
 use lib.Dec.{leb, ltb, eqb}
 use Rattle.task.specs.declared.Head.{Head}
 use Rattle.task.specs.Bounded.{every}
-use Rattle.task.specs.Table.{Row, Operator, Lent, row-at, operator-at, FormulaKind, false-kind, true-kind, variable-kind, not-kind, and-kind, or-kind, implies-kind, equivalent-kind, unknown-formula, formula-kind, EffectKind, empty-kind, set-kind, clear-kind, both-kind, under-kind, unknown-effect, effect-kind}
+use Rattle.task.specs.Table.{Row, Operator, Lent, operator-width, row-at, operator-at, FormulaKind, false-kind, true-kind, variable-kind, not-kind, and-kind, or-kind, implies-kind, equivalent-kind, unknown-formula, formula-kind, EffectKind, empty-kind, set-kind, clear-kind, both-kind, under-kind, unknown-effect, effect-kind}
 
 -- 6: V 512, F 1 to 4,096, E 4,096, O 256, W at most V − W. Over the integers: with V 0 and W 1, V − W in machine words would wrap and pass.
 unfoldable pub counts-kept : Head → Bool
@@ -43,7 +43,7 @@ room n h =
     leb (h .variables) (n .initial)
     && (leb (h .twins) (n .twins)
     && (leb (3 * h .formulas) (n .formulas)
-    && (leb (3 * h .effects) (n .effects) && leb (3 * h .operators) (n .operators))))
+    && (leb (3 * h .effects) (n .effects) && leb (operator-width * h .operators) (n .operators))))
 
 -- 5
 unfoldable pub long-enough : Lent → Bool

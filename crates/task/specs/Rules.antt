@@ -5,14 +5,14 @@ use mathlib.Core.List.{List}
 use lib.ListN.{length, getD}
 use Rattle.task.specs.declared.Head.{Head}
 use Rattle.task.specs.Check.{Lengths, lengths-of}
-use Rattle.task.specs.Table.{Row, Operator, Lent, Task, FormulaKind, false-kind, true-kind, variable-kind, not-kind, and-kind, or-kind, implies-kind, equivalent-kind, unknown-formula, formula-kind, EffectKind, empty-kind, set-kind, clear-kind, both-kind, under-kind, unknown-effect, effect-kind}
+use Rattle.task.specs.Table.{Row, Operator, operator-width, operator, Lent, Task, FormulaKind, false-kind, true-kind, variable-kind, not-kind, and-kind, or-kind, implies-kind, equivalent-kind, unknown-formula, formula-kind, EffectKind, empty-kind, set-kind, clear-kind, both-kind, under-kind, unknown-effect, effect-kind}
 
 -- A row that no table has: what stands past a table's end.
 abbrev pub no-row : Row
 no-row = record { kind = 0; a = 0; b = 0 }
 
 abbrev pub no-operator : Operator
-no-operator = record { precondition = 0; effect = 0; cost = 0 }
+no-operator = operator 0 0 0
 
 -- Row i of the formulas over v variables: its kind, a and b. An unused word is 0; a formula that is named has a lower number.
 abbrev pub FormulaRule : (v i : ℕ) → FormulaKind → (a b : ℕ) → Type 0
@@ -123,7 +123,7 @@ pub record RoomFor (n : Lengths) (v w f e o : ℕ) : Type 0 where
   pub twins : w ≤ n .twins
   pub formulas : 3 * f ≤ n .formulas
   pub effects : 3 * e ≤ n .effects
-  pub operators : 3 * o ≤ n .operators
+  pub operators : operator-width * o ≤ n .operators
 
 -- Each lent table is as long as its count asks.
 abbrev pub LongEnough : Lent → Type 0

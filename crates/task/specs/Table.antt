@@ -45,6 +45,17 @@ pub record Operator : Type 0 where
   pub effect : ℕ
   pub cost : ℕ
 
+abbrev pub operator-width : ℕ
+operator-width = 3
+
+-- the operator whose row has these words, in their order
+abbrev pub operator : (precondition effect cost : ℕ) → Operator
+operator p e c = record { precondition = p; effect = e; cost = c }
+
+-- the same operator with another precondition and effect: cost is kept
+abbrev pub with-parts : Operator → (precondition effect : ℕ) → Operator
+with-parts o p e = record { precondition = p; effect = e; cost = o .cost }
+
 -- What a caller lends: the head, and for each table at least as many words (of the initial state: bytes) as the head counts.
 pub record Lent : Type 0 where
   pub head : Head
@@ -70,11 +81,15 @@ row-at words i = record { kind = getD words (3 * i) 0; a = getD words (3 * i + 1
 
 unfoldable pub operator-at : List ℕ → ℕ → Operator
 operator-at words i =
-    record { precondition = getD words (3 * i) 0; effect = getD words (3 * i + 1) 0; cost = getD words (3 * i + 2) 0 }
+    let at = operator-width * i in
+    operator (getD words at 0) (getD words (at + 1) 0) (getD words (at + 2) 0)
 
 -- A row on request: that part of the lent table, three words; where the row is not wholly inside it, the empty part. Only the range is looked at.
-unfoldable pub row-part : List ℕ → ℕ → List ℕ
-row-part words i = cond (leb (3 * i + 3) (length words)) (take 3 (drop (3 * i) words)) []
+unfoldable pub part : (width : ℕ) → List ℕ → ℕ → List ℕ
+part width words i = cond (leb (width * i + width) (length words)) (take width (drop (width * i) words)) []
+
+abbrev pub row-part : List ℕ → ℕ → List ℕ
+row-part words i = part 3 words i
 
 -- what a call on tables is lent, from its arguments
 abbrev pub lent : Head → (initial twins formulas effects operators : List ℕ) → Lent

@@ -6,9 +6,10 @@ ghost use lib.Dec.{leb};
 ghost use Rattle.task.specs.Bounded.{every};
 ghost use Rattle.task.specs.Table.{lent};
 ghost use Rattle.task.specs.Check.{twin-kept, refusal};
-ghost use Rattle.task.specs.Inner.Tables.{words-kept, row-kept};
+ghost use Rattle.task.specs.Inner.Tables.{width, words-kept, row-kept};
 use crate::Head;
 use crate::Table;
+use crate::table_rows::row_at;
 
 // Whether every byte is 0 or 1. Linear.
 pub fn bits(bytes: &[u8]) -> bool
@@ -75,13 +76,13 @@ pub fn row_kept(table: Table, head: Head, i: usize, first: u16, second: u16, thi
 
 // Whether the first `count` rows of a table keep their rule. Linear.
 fn rows_kept(table: Table, head: Head, words: &[u16], count: usize) -> bool
-    requires { ⌜ 3 * count ≤ length (now words) ⌝ }
+    requires { ⌜ width table * count ≤ length (now words) ⌝ }
     ensures { λ r. ⌜ r ≡ every count (row-kept table head (now (words .entry))) ⌝ }
 {
     let mut i = 0;
     while i < count {
-        let at = 3 * i;
-        if !row_kept(table, head, i, words[at], words[at + 1], words[at + 2]) {
+        let row = row_at(table, words, i);
+        if !row_kept(table, head, i, row.first, row.second, row.third) {
             return false;
         }
         i += 1;

@@ -2,6 +2,7 @@
 ghost use mathlib.Core.Path.{_≡_};
 ghost use Rattle.task.specs.Table.{lent};
 ghost use Rattle.task.specs.Check.{long-enough};
+use crate::operator_rows::OPERATOR_WORDS;
 
 // Constant time: only the lengths are looked at.
 pub fn long_enough(
@@ -26,5 +27,5 @@ pub fn long_enough(
     if effects.len() < 3 * (head.effects as usize) {
         return false;
     }
-    3 * (head.operators as usize) <= operators.len()
+    OPERATOR_WORDS * (head.operators as usize) <= operators.len()
 }

@@ -3,7 +3,9 @@ pub mod check;
 pub mod clear;
 pub mod counts;
 pub mod lengths;
+pub mod operator_rows;
 pub mod rows;
+pub mod table_rows;
 
 // What stands before the tables: V variables, W twins ("twin" is the scope's word for an opposite variable), F formulas, E effects,
 // O operators, and the number of the goal's formula.
@@ -16,11 +18,18 @@ pub struct Head {
     pub goal: u16,
 }
 
-// The tables whose rows are three words.
+// The tables of rows.
 pub enum Table {
     Formulas,
     Effects,
     Operators,
+}
+
+// The words of a row, in their order.
+pub struct TableRow {
+    pub first: u16,
+    pub second: u16,
+    pub third: u16,
 }
 
 pub const MOST_VARIABLES: u16 = 512;

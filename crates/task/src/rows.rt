@@ -1,7 +1,7 @@
 // Rows of three words: the part of a table that a row is, and the rule that a row keeps.
 ghost use mathlib.Core.Path.{_≡_};
 ghost use mathlib.Core.Bool.{_&&_};
-ghost use Rattle.task.specs.Table.{row-part, formula-kind, effect-kind};
+ghost use Rattle.task.specs.Table.{operator, row-part, formula-kind, effect-kind};
 ghost use Rattle.task.specs.Check.{formula-words-kept, effect-words-kept, operator-kept};
 
 // Row `number` as that part of the caller's table, or the empty part where the table does not hold all of it. Every number is fine.
@@ -58,7 +58,7 @@ pub fn operator_kept(
     effect: u16,
     cost: u16,
 ) -> bool
-    ensures { λ r. ⌜ r ≡ operator-kept formulas effects (record { precondition = precondition; effect = effect; cost = cost }) ⌝ }
+    ensures { λ r. ⌜ r ≡ operator-kept formulas effects (operator precondition effect cost) ⌝ }
 {
     both(
         (precondition as usize) < formulas,

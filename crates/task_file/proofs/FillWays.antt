@@ -5,7 +5,7 @@ use mathlib.Core.List.{List}
 use lib.ListN.{take, drop}
 use Rattle.task.specs.declared.Head.{Head}
 use Rattle.task.specs.declared.Table.the-variants.{Formulas, Effects, Operators}
-use Rattle.task.specs.Table.{Row, Operator, Task}
+use Rattle.task.specs.Table.{Row, Operator, Task, operator-width}
 use Rattle.task.specs.Words.{words-of, operator-words}
 use Rattle.task_file.specs.declared.Place.{Place}
 use Rattle.task_file.specs.declared.Place.the-variants.{At, Nowhere}
@@ -45,7 +45,7 @@ module _ (h : Head) (file : List ℕ) (at : ℕ) (f e o : List ℕ) where
     module _ {e′ : List ℕ} {r2 : Place} {y : ℕ} (p2 : ReadPart (3 * h .effects) file (words-read Effects h (h .effects) (drop x file)) r2 e e′) (q2 : r2 ≡ At y) where
       pub rows-filled :
           {o′ : List ℕ} (r : Place)
-          → ReadPart (3 * h .operators) file (words-read Operators h (h .operators) (drop y file)) r o o′
+          → ReadPart (operator-width * h .operators) file (words-read Operators h (h .operators) (drop y file)) r o o′
           → RowsFilled h file at r f e o f′ e′ o′
       unfolding rows-behind next
       rows-filled (At z) p =

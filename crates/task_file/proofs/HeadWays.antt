@@ -9,6 +9,7 @@ use lib.Dec.{leb}
 use borrow.Author.Tests.{le-ltb, lt-ltb, le-leb}
 use Rattle.task.specs.declared.Head.{Head}
 use Rattle.task.specs.Check.{counts-kept, goal-kept}
+use Rattle.task.specs.Table.{operator-width}
 use Rattle.file_format.specs.Parse.{Parsed, parsed, unparsed, next, kept, field-read, fields-read, mapped-read}
 use Rattle.file_format.specs.Reading.{Lengths, room, head-read, head-kept}
 use Rattle.task_file.proofs.Places.{byte-ends, byte-here}
@@ -108,7 +109,7 @@ pub room-last :
     → h .twins ≤ l .twins
     → 3 * h .formulas ≤ l .formulas
     → 3 * h .effects ≤ l .effects
-    → leb (3 * h .operators) (l .operators) ≡ room l h
+    → leb (operator-width * h .operators) (l .operators) ≡ room l h
 unfolding room
 room-last l h v w f e =
     rw (

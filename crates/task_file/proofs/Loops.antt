@@ -4,14 +4,16 @@ use native.Mathlib.Numerals.{add-one}
 use native.Mathlib.Decide.{decLt}
 use native.Mathlib.Omega.{arith}
 use mathlib.Core.Path.{_≡_, refl, sym, ap, _∙_}
-use mathlib.Core.List.{List, [], _∷_, _++_, append-assoc, append-nil}
-use lib.ListN.{length, take, drop, set, length-set}
-use lib.Seq.{take-suc-set, drop-set-lt}
+use mathlib.Core.List.{List, [], _∷_, _++_, append-nil}
+use lib.ListN.{length, take, drop}
 use Rattle.task.specs.declared.Head.{Head}
 use Rattle.task.specs.declared.Table.{Table}
 use Rattle.task.specs.declared.Table.the-variants.{Formulas, Effects, Operators}
 use Rattle.task.specs.Words.{joined, row-words, operator-row-words, words-of, operator-words}
 use Rattle.task.proofs.Words.{joined-append}
+use Rattle.task.specs.declared.TableRow.{TableRow}
+use Rattle.task.specs.Inner.Tables.{width, row-stored}
+use Rattle.task.proofs.Stores.{row-there, length-row-stored, row-front, row-behind}
 use Rattle.file_format.specs.Parse.{Parsed, parsed, unparsed, next, table-read}
 use Rattle.file_format.specs.Reading.{formula-read, effect-read, operator-read}
 use Rattle.task_file.specs.Inner.Tables.{kept-words-read, words-read}
@@ -82,32 +84,6 @@ rows-none h bytes Formulas = refl
 rows-none h bytes Effects = refl
 rows-none h bytes Operators = refl
 
--- three words stored one after the other
-stored : List ℕ → (k f s t : ℕ) → List ℕ
-stored words k f s t = set (set (set words k f) (k + 1) s) (k + 2) t
-
-stored-front : (words : List ℕ) (k f s t : ℕ) → k + 2 < length words → take (k + 3) (stored words k f s t) ≡ take k words ++ (f ∷ s ∷ t ∷ [])
-unfolding stored
-stored-front words k f s t h =
-    let e3 : k + 3 ≡ suc (k + 2) = omega arith in
-    let e2 : k + 2 ≡ suc (k + 1) = omega arith in
-    let e1 : k + 1 ≡ suc k = omega arith in
-    let l2 : k + 2 < length (set (set words k f) (k + 1) s) = simp length-set h in
-    let l1 : k + 1 < length (set words k f) = simp length-set (omega arith) in
-    let l0 : k < length words = omega arith in
-    ap (λ (n : ℕ). take n (stored words k f s t)) e3
-    ∙ take-suc-set (set (set words k f) (k + 1) s) (k + 2) t l2
-    ∙ ap (λ (l : List ℕ). l ++ (t ∷ [])) (ap (λ (n : ℕ). take n (set (set words k f) (k + 1) s)) e2 ∙ take-suc-set (set words k f) (k + 1) s l1)
-    ∙ ap (λ (l : List ℕ). l ++ (s ∷ []) ++ (t ∷ [])) (ap (λ (n : ℕ). take n (set words k f)) e1 ∙ take-suc-set words k f l0)
-    ∙ simp append-assoc
-
-stored-behind : (words : List ℕ) (k f s t n : ℕ) → k + 2 < n → drop n (stored words k f s t) ≡ drop n words
-unfolding stored
-stored-behind words k f s t n h =
-    drop-set-lt n (set (set words k f) (k + 1) s) (k + 2) t h
-    ∙ drop-set-lt n (set words k f) (k + 1) s (omega arith)
-    ∙ drop-set-lt n words k f (omega arith)
-
 -- What a loop has done after i rows: their n i words stand in front, and all behind the n count words is as it was.
 pub record Done (n : ℕ → ℕ) (p : ℕ → Parsed (List ℕ)) (count : ℕ) (file before words : List ℕ) (i place : ℕ) : Type 0 where
   pub within : i ≤ count
@@ -158,9 +134,6 @@ module _ (n : ℕ → ℕ) (p : ℕ → Parsed (List ℕ)) (q : ℕ → List ℕ
       }
 
 -- the loop over the rows of a table
-abbrev pub three : ℕ → ℕ
-three i = 3 * i
-
 module _ (table : Table) (h : Head) (count : ℕ) (file : List ℕ) (at : ℕ) (before : List ℕ) where
   abbrev pub rows-p : ℕ → Parsed (List ℕ)
   rows-p i = words-read table h i (drop at file)
@@ -169,10 +142,15 @@ module _ (table : Table) (h : Head) (count : ℕ) (file : List ℕ) (at : ℕ) (
   rows-q i ws rest = kept-words-read table h i rest
 
   abbrev pub RowsDone : List ℕ → ℕ → ℕ → Type 0
-  RowsDone words i place = Done three rows-p count file before words i place
+  RowsDone words i place = Done (λ i. width table * i) rows-p count file before words i place
+
+  none-read : (t : Table) → words-read t h 0 (drop at file) ≡ parsed (take (width t * 0) before) (drop at file)
+  none-read Formulas = rows-none h (drop at file) Formulas
+  none-read Effects = rows-none h (drop at file) Effects
+  none-read Operators = rows-none h (drop at file) Operators
 
   pub rows-begin : RowsDone before 0 at
-  rows-begin = record { within = omega arith; size = refl; front = rows-none h (drop at file) table; behind = refl }
+  rows-begin = record { within = omega arith; size = refl; front = none-read table; behind = refl }
 
   pub rows-refused :
       (words : List ℕ) (i place : ℕ) {k : ℕ} {r : Place}
@@ -180,28 +158,27 @@ module _ (table : Table) (h : Head) (count : ℕ) (file : List ℕ) (at : ℕ) (
       → i < count
       → kept-words-read table h i (drop place file) ≡ unparsed k
       → r ≡ Nowhere k
-      → ReadPart (3 * count) file (words-read table h count (drop at file)) r before words
+      → ReadPart (width table * count) file (words-read table h count (drop at file)) r before words
   rows-refused words i place d l e f =
-      done-refused three rows-p rows-q (rows-step h (drop at file) table) count file before words i place d l e f words refl
+      done-refused (λ i. width table * i) rows-p rows-q (rows-step h (drop at file) table) count file before words i place d l e f words refl
 
   pub rows-end :
       (words : List ℕ) (i place : ℕ)
       → RowsDone words i place
       → count ≤ i
-      → ReadPart (3 * count) file (words-read table h count (drop at file)) (At place) before words
-  rows-end words i place d l = done-end three rows-p rows-q (rows-step h (drop at file) table) count file before words i place d l
+      → ReadPart (width table * count) file (words-read table h count (drop at file)) (At place) before words
+  rows-end words i place d l = done-end (λ i. width table * i) rows-p rows-q (rows-step h (drop at file) table) count file before words i place d l
 
   pub rows-more :
       (words : List ℕ) (i place : ℕ) {next-place f s t : ℕ}
-      → 3 * count ≤ length before
+      → width table * count ≤ length before
       → RowsDone words i place
       → i < count
       → kept-words-read table h i (drop place file) ≡ parsed (f ∷ s ∷ t ∷ []) (drop next-place file)
-      → RowsDone (set (set (set words (3 * i) f) (3 * i + 1) s) (3 * i + 2) t) (i + 1) next-place
-  unfolding stored
+      → RowsDone (row-stored table words i (record { first = f; second = s; third = t })) (i + 1) next-place
   rows-more words i place {next-place} {f} {s} {t} long d l e =
-      let e3 : 3 * (i + 1) ≡ 3 * i + 3 = omega arith in
-      done-more three rows-p rows-q (rows-step h (drop at file) table) count file before words (stored words (3 * i) f s t) i place d l e
-      (simp length-set)
-      (ap (λ (k : ℕ). take k (stored words (3 * i) f s t)) e3 ∙ stored-front words (3 * i) f s t (omega (arith, d .size)))
-      (stored-behind words (3 * i) f s t (3 * count) (omega arith))
+      let r : TableRow = record { first = f; second = s; third = t } in
+      done-more (λ i. width table * i) rows-p rows-q (rows-step h (drop at file) table) count file before words (row-stored table words i r) i place d l e
+      (length-row-stored table words i r)
+      (row-front table words i r (omega (arith, row-there table l long, d .size)))
+      (row-behind table words i r count l)

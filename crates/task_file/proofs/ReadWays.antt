@@ -9,7 +9,7 @@ use lib.ListN.{length, getD, take, drop, replicate, take-append-drop, drop-of-le
 use lib.Seq.{drop-cons, length-take-le}
 use borrow.Author.Tests.{leb-true}
 use Rattle.task.specs.declared.Head.{Head}
-use Rattle.task.specs.Table.{Task}
+use Rattle.task.specs.Table.{Task, operator-width}
 use Rattle.task.specs.Check.{counts-kept, goal-kept}
 use Rattle.task.specs.Words.{head-of, words-of, operator-words, padded}
 use Rattle.task.proofs.Bounded.{and-left, and-right}
@@ -85,7 +85,7 @@ module _ (l : Lengths) (file : List ℕ) where
                 record {
                   formulas-fit = leb-true (3 * h .formulas) (length f) (search (and-left, and-right));
                   effects-fit = leb-true (3 * h .effects) (length e) (search (and-left, and-right));
-                  operators-fit = leb-true (3 * h .operators) (length o) (search (and-left, and-right));
+                  operators-fit = leb-true (operator-width * h .operators) (length o) (search (and-left, and-right));
                 };
             few-twins = omega (arith, counts-tested h .0 c .twins);
             few-variables = counts-tested h .0 c .variables;
@@ -113,7 +113,7 @@ module _ (l : Lengths) (file : List ℕ) where
                 record {
                   formulas = take (3 * h .formulas) f′;
                   effects = take (3 * h .effects) e′;
-                  operators = take (3 * h .operators) o′;
+                  operators = take (operator-width * h .operators) o′;
                 };
           }
 
@@ -171,7 +171,7 @@ module _ (l : Lengths) (file : List ℕ) where
             twins = whole-part (h .twins) (t .originals) w′ w (ap (λ (y : AllTables). y .twins) x) (filled .twins-behind) (fit .twins-fit);
             formulas = whole-part (3 * h .formulas) (words-of (t .formulas)) f′ f (ap (λ (y : AllTables). y .rows .formulas) x) (filled .formulas-behind) (fit .rows-fit .formulas-fit);
             effects = whole-part (3 * h .effects) (words-of (t .effects)) e′ e (ap (λ (y : AllTables). y .rows .effects) x) (filled .effects-behind) (fit .rows-fit .effects-fit);
-            operators = whole-part (3 * h .operators) (operator-words (t .operators)) o′ o (ap (λ (y : AllTables). y .rows .operators) x) (filled .operators-behind) (fit .rows-fit .operators-fit);
+            operators = whole-part (operator-width * h .operators) (operator-words (t .operators)) o′ o (ap (λ (y : AllTables). y .rows .operators) x) (filled .operators-behind) (fit .rows-fit .operators-fit);
           }
           in
           record {

@@ -9,10 +9,11 @@ use borrow.Author.Tests.{eqb-true}
 use Rattle.task.specs.declared.Head.{Head}
 use Rattle.task.specs.declared.Table.{Table}
 use Rattle.task.specs.declared.Table.the-variants.{Formulas, Effects, Operators}
-use Rattle.task.specs.Table.{Row, Operator}
+use Rattle.task.specs.Table.{Row, Operator, operator}
 use Rattle.task.specs.Check.{formula-kept, effect-kept, operator-kept}
 use Rattle.task.specs.Inner.Tables.{words-kept}
 use Rattle.task.specs.Words.{row-words, operator-row-words}
+use Rattle.task.proofs.Words.{operator-by-words}
 use Rattle.file_format.specs.Parse.{Parsed, parsed, unparsed, next, kept, byte-read, field-read, fields-read, mapped-read}
 use Rattle.file_format.specs.Reading.{row-read, operator-fields-read, formula-read, effect-read, operator-read}
 use Rattle.task_file.specs.Inner.Tables.{map-clear, own-number, row-words-read, kept-words-read}
@@ -171,13 +172,11 @@ same-row rule f s t r e =
     let b : r .b ≡ t = cc in
     ap rule (λ j. record { kind = k j; a = a j; b = b j })
 
-same-operator : (rule : Operator → Bool) (f s t : ℕ) (o : Operator) → operator-row-words o ≡ f ∷ s ∷ t ∷ [] → rule o ≡ rule (record { precondition = f; effect = s; cost = t })
-unfolding operator-row-words
-same-operator rule f s t o e =
-    let p : o .precondition ≡ f = cc in
-    let a : o .effect ≡ s = cc in
-    let c : o .cost ≡ t = cc in
-    ap rule (λ j. record { precondition = p j; effect = a j; cost = c j })
+same-operator :
+    (rule : Operator → Bool) (f s t : ℕ) (o : Operator)
+    → operator-row-words o ≡ f ∷ s ∷ t ∷ []
+    → rule o ≡ rule (operator f s t)
+same-operator rule f s t o e = ap rule (operator-by-words o e)
 
 module _ (h : Head) (i : ℕ) (bytes : List ℕ) where
   pub kept-refused : (table : Table) {n : ℕ} → row-words-read table bytes ≡ unparsed n → kept-words-read table h i bytes ≡ unparsed n

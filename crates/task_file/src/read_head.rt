@@ -7,6 +7,7 @@ ghost use Rattle.task_file.specs.Outcome.{lengths};
 use crate::HeadAnswer;
 use crate::Row;
 use task::Head;
+use task::operator_rows::OPERATOR_WORDS;
 
 // A row's refusal, as that of the head. Constant time.
 fn refused(r: Row) -> HeadAnswer
@@ -90,7 +91,7 @@ fn room(
     if effects < 3 * (head.effects as usize) {
         return false;
     }
-    3 * (head.operators as usize) <= operators
+    OPERATOR_WORDS * (head.operators as usize) <= operators
 }
 
 // The head, if it keeps its rules and the lent tables have room. Constant time.

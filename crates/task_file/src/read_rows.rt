@@ -2,12 +2,15 @@
 ghost use mathlib.Core.Path.{_≡_};
 ghost use Prim.Native.Nat.{_*_, _≤_};
 ghost use lib.ListN.{length, drop};
+ghost use Rattle.task.specs.Inner.Tables.{width};
 ghost use Rattle.task_file.specs.Inner.Answers.{lost-row, ReadPart};
 ghost use Rattle.task_file.specs.Inner.Tables.{words-read};
 use crate::Place;
 use crate::Row;
 use task::Head;
 use task::Table;
+use task::TableRow;
+use task::table_rows::store_row;
 
 // A row's refusal, as that of its table. Constant time.
 fn refused(r: Row) -> Place
@@ -33,8 +36,8 @@ pub fn read_rows(
     at: usize,
     words: &mut [u16],
 ) -> Place
-    requires { ⌜ 3 * count ≤ length (now words) ⌝ }
-    ensures { λ r. ⌜ ReadPart (3 * count) (now (file .entry)) (words-read table head count (drop at (now (file .entry)))) r (now (words .entry)) (now (words .exit)) ⌝ }
+    requires { ⌜ width table * count ≤ length (now words) ⌝ }
+    ensures { λ r. ⌜ ReadPart (width table * count) (now (file .entry)) (words-read table head count (drop at (now (file .entry)))) r (now (words .entry)) (now (words .exit)) ⌝ }
 {
     let mut i = 0;
     let mut place = at;
@@ -49,9 +52,12 @@ pub fn read_rows(
         else {
             return refused(r);
         };
-        words[3 * i] = first;
-        words[3 * i + 1] = second;
-        words[3 * i + 2] = third;
+        let row = TableRow {
+            first,
+            second,
+            third,
+        };
+        store_row(table, words, i, row);
         place = next;
         i += 1;
     }

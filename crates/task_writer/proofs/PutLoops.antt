@@ -10,10 +10,11 @@ use Rattle.task.specs.declared.Table.{Table}
 use Rattle.task.specs.declared.Table.the-variants.{Formulas, Effects, Operators}
 use Rattle.task.specs.Bounded.{upto}
 use Rattle.task.specs.Table.{row-at, operator-at}
-use Rattle.task.specs.Words.{joined}
+use Rattle.task.specs.Words.{joined, operator-row-words}
 use Rattle.task.proofs.Words.{joined-append}
-use Rattle.file_format.specs.Bytes.{number, word-bytes, field-bytes, row-bytes, operator-bytes, operator-fields, packed, bytes-for}
-use Rattle.task_writer.specs.Inner.Putting.{Put, three-bytes, rows-bytes, StateIn, byte-number}
+use Rattle.task.specs.Inner.Tables.{words-at}
+use Rattle.file_format.specs.Bytes.{number, word-bytes, field-bytes, row-bytes, operator-bytes, packed, bytes-for}
+use Rattle.task_writer.specs.Inner.Putting.{Put, three-bytes, rows-bytes, StateIn, byte-number, bytes-of}
 use Rattle.task_writer.proofs.Puts.{put-none, put-then, put-same, field-length}
 
 -- what a loop has put after i rows
@@ -60,14 +61,13 @@ rows-none-put Operators words = refl
 pub rows-more-put :
     (table : Table) (words : List ℕ) (i : ℕ)
     → rows-bytes table words (suc i)
-    ≡ rows-bytes table words i ++ three-bytes table (getD words (3 * i) 0) (getD words (3 * i + 1) 0) (getD words (3 * i + 2) 0)
-unfolding row-at operator-at
+    ≡ rows-bytes table words i ++ bytes-of table (words-at table words i)
 rows-more-put Formulas words i = snoc-bytes row-bytes (row-at words) i
 rows-more-put Effects words i = snoc-bytes row-bytes (row-at words) i
 rows-more-put Operators words i = snoc-bytes operator-bytes (operator-at words) i
 
 pub three-bytes-length : (table : Table) (f s t : ℕ) → length (three-bytes table f s t) ≤ 7
-unfolding row-bytes operator-bytes operator-fields joined
+unfolding row-bytes operator-bytes operator-row-words joined
 three-bytes-length Formulas f s t =
     let x = length-append (field-bytes s) (field-bytes t ++ []) in
     let y = length-append (field-bytes t) [] in

@@ -7,9 +7,10 @@ use mathlib.Core.List.{List, [], _∷_, _++_}
 use lib.ListN.{length, set, length-append}
 use lib.Seq.{sets, length-sets, set-out}
 use Rattle.task.specs.declared.Head.{Head}
-use Rattle.task.specs.Words.{joined}
+use Rattle.task.specs.Words.{joined, operator-row-words}
 use Rattle.task.proofs.Words.{joined-append}
-use Rattle.file_format.specs.Bytes.{word-bytes, field-bytes, present, number, map-of, head-fields, head-bytes, row-bytes, operator-fields, operator-bytes}
+use Rattle.task.specs.Table.{operator}
+use Rattle.file_format.specs.Bytes.{word-bytes, field-bytes, present, number, map-of, head-fields, head-bytes, row-bytes, operator-bytes}
 use Rattle.task_writer.specs.Inner.Putting.{Put}
 
 sets-append : (l : List ℕ) (i : ℕ) (xs ys : List ℕ) → sets l i (xs ++ ys) ≡ sets (sets l i xs) (i + length xs) ys
@@ -100,8 +101,8 @@ pub operator-put :
     (p e c : ℕ) {m at r : ℕ} {o o1 : List ℕ}
     → Put (m ∷ joined field-bytes (p ∷ e ∷ c ∷ [])) at r o o1
     → m ≡ present p + 2 * present e + 4 * present c
-    → Put (operator-bytes (record { precondition = p; effect = e; cost = c })) at r o o1
-unfolding operator-bytes operator-fields map-of number
+    → Put (operator-bytes (operator p e c)) at r o o1
+unfolding operator-bytes operator-row-words map-of number
 operator-put p e c {m} put q =
     let s : m ≡ present p + 2 * (present e + 2 * (present c + 2 * 0)) = omega arith in
     put-same (ap {B = List ℕ} (λ (k : ℕ). k ∷ joined field-bytes (p ∷ e ∷ c ∷ [])) s) put

@@ -11,7 +11,7 @@ use lib.Dec.{leb, eqb}
 use borrow.Author.Tests.{leb-true, le-leb, eqb-true}
 use Rattle.task.specs.declared.Head.{Head}
 use Rattle.task.specs.Bounded.{upto}
-use Rattle.task.specs.Table.{Lent, Task, lent, row-at, operator-at, task-of}
+use Rattle.task.specs.Table.{Lent, Task, lent, row-at, operator-at, task-of, operator-width}
 use Rattle.task.specs.Check.{refusal}
 use Rattle.task.specs.Rules.{LongEnough, HasRoom}
 use Rattle.task.specs.Words.{padded, head-of, words-of, operator-words}
@@ -133,14 +133,14 @@ module _
         ∙ sym (rows-front (l .effects) (l .head .effects) (long .effects))
 
     pub operators-again :
-        take (3 * l .head .operators) (read-outcome lengths (take k (write-outcome l n .out)) .operators)
-        ≡ take (3 * l .head .operators) (l .operators)
+        take (operator-width * l .head .operators) (read-outcome lengths (take k (write-outcome l n .out)) .operators)
+        ≡ take (operator-width * l .head .operators) (l .operators)
     unfolding outcome-of task-of
     operators-again =
         let rows = upto (l .head .operators) (operator-at (l .operators)) in
-        ap (λ (o : ReadOutcome). take (3 * l .head .operators) (o .operators)) same-outcome
-        ∙ front (lengths .operators) (3 * l .head .operators) (operator-words rows)
-        (length-operator-words rows ∙ ap (λ (i : ℕ). 3 * i) (length-operators l))
+        ap (λ (o : ReadOutcome). take (operator-width * l .head .operators) (o .operators)) same-outcome
+        ∙ front (lengths .operators) (operator-width * l .head .operators) (operator-words rows)
+        (length-operator-words rows ∙ ap (λ (i : ℕ). operator-width * i) (length-operators l))
         ∙ sym (operators-front (l .operators) (l .head .operators) (long .operators))
 
 -- A file that was read, written again into n bytes.

@@ -20,9 +20,10 @@ use Rattle.task.specs.Words.{joined, head-of, padded}
 use Rattle.task.proofs.Bounded.{every-at}
 use Rattle.task.proofs.Held.{length-initial, length-originals, length-formulas, length-effects, length-operators}
 use Rattle.task.proofs.Passed.{passed, counts-tested, lengths-tested, initial-tested}
+use Rattle.task.specs.Inner.Tables.{words-at}
 use Rattle.task_writer.specs.declared.WriteAnswer.the-variants.{Written, NotWritten}
 use Rattle.file_format.specs.Bytes.{word-bytes, field-bytes, head-fields, head-bytes, packed, bytes-for, file-of}
-use Rattle.task_writer.specs.Inner.Putting.{Put, three-bytes, rows-bytes, WriteIn}
+use Rattle.task_writer.specs.Inner.Putting.{Put, bytes-of, rows-bytes, WriteIn}
 use Rattle.task_writer.specs.Writing.{wrote, file-outcome, write-outcome}
 use Rattle.file_format.proofs.Initial.{packed-length}
 use Rattle.task_file.proofs.ReadWays.{zeros-of, drop-zeros}
@@ -89,9 +90,9 @@ write-in l e =
 pub rows-size : (table : Table) (words : List ℕ) (n : ℕ) → length (rows-bytes table words n) ≤ 7 * n
 rows-size table words zero = rw (rows-none-put table words) (omega arith)
 rows-size table words (suc n) =
-    let b = three-bytes table (getD words (3 * n) 0) (getD words (3 * n + 1) 0) (getD words (3 * n + 2) 0) in
-    rw (rows-more-put table words n, length-append (rows-bytes table words n) b)
-    (omega (arith, rows-size table words n, three-bytes-length table (getD words (3 * n) 0) (getD words (3 * n + 1) 0) (getD words (3 * n + 2) 0)))
+    let r = words-at table words n in
+    rw (rows-more-put table words n, length-append (rows-bytes table words n) (bytes-of table r))
+    (omega (arith, rows-size table words n, three-bytes-length table (r .first) (r .second) (r .third)))
 
 pub words-size : (words : List ℕ) (n : ℕ) → n ≤ length words → length (words-bytes words n) ≤ 7 * n
 unfolding joined

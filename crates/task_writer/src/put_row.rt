@@ -4,9 +4,10 @@ ghost use mathlib.Core.List.{[], _∷_};
 ghost use Prim.Native.Nat.{_≤_};
 ghost use Rattle.task.specs.Words.{joined};
 ghost use Rattle.file_format.specs.Bytes.{field-bytes, head-bytes};
-ghost use Rattle.task_writer.specs.Inner.Putting.{Put, MapFits, three-bytes};
+ghost use Rattle.task_writer.specs.Inner.Putting.{Put, MapFits, three-bytes, bytes-of};
 use task::Head;
 use task::Table;
+use task::TableRow;
 
 // A map and the three fields by it. Constant time.
 fn put_mapped(out: &mut [u8], at: usize, map: u8, a: u16, b: u16, c: u16) -> usize
@@ -37,22 +38,15 @@ fn put_operator(out: &mut [u8], at: usize, precondition: u16, effect: u16, cost:
     put_mapped(out, at, map, precondition, effect, cost)
 }
 
-// A row by its three words. Constant time.
-pub fn put_row(
-    table: Table,
-    out: &mut [u8],
-    at: usize,
-    first: u16,
-    second: u16,
-    third: u16,
-) -> usize
-    requires { ⌜ (at ≤ 1400000) × (MapFits table first) ⌝ }
-    ensures { λ r. ⌜ Put (three-bytes table first second third) at r (now (out .entry)) (now (out .exit)) ⌝ }
+// A row by its words. Constant time.
+pub fn put_row(table: Table, out: &mut [u8], at: usize, row: TableRow) -> usize
+    requires { ⌜ (at ≤ 1400000) × (MapFits table (row .first)) ⌝ }
+    ensures { λ r. ⌜ Put (bytes-of table row) at r (now (out .entry)) (now (out .exit)) ⌝ }
 {
     match table {
-        Table::Formulas => put_kind(out, at, first, second, third),
-        Table::Effects => put_kind(out, at, first, second, third),
-        Table::Operators => put_operator(out, at, first, second, third),
+        Table::Formulas => put_kind(out, at, row.first, row.second, row.third),
+        Table::Effects => put_kind(out, at, row.first, row.second, row.third),
+        Table::Operators => put_operator(out, at, row.first, row.second, row.third),
     }
 }
 

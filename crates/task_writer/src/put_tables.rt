@@ -6,6 +6,7 @@ ghost use Rattle.task.specs.Words.{joined};
 ghost use Rattle.file_format.specs.Bytes.{word-bytes, packed};
 ghost use Rattle.task_writer.specs.Inner.Putting.{Put, RowsIn, StateIn, byte-number, rows-bytes};
 use task::Table;
+use task::table_rows::row_at;
 
 // The first `count` rows of a table. Linear.
 pub fn put_rows(table: Table, words: &[u16], count: usize, out: &mut [u8], at: usize) -> usize
@@ -15,8 +16,8 @@ pub fn put_rows(table: Table, words: &[u16], count: usize, out: &mut [u8], at: u
     let mut i = 0;
     let mut place = at;
     while i < count {
-        let k = 3 * i;
-        place = crate::put_row::put_row(table, out, place, words[k], words[k + 1], words[k + 2]);
+        let row = row_at(table, words, i);
+        place = crate::put_row::put_row(table, out, place, row);
         i += 1;
     }
     place

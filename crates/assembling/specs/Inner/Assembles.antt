@@ -5,7 +5,7 @@ use mathlib.Core.Bool.{true, false}
 use mathlib.Core.List.{List}
 use lib.ListN.{length, getD, replicate}
 use Rattle.task.specs.Bounded.{upto}
-use Rattle.task.specs.Table.{Row, row-at}
+use Rattle.task.specs.Table.{Row, row-at, Operator, operator-width, operator-at}
 use Rattle.task.specs.Words.{words-of, operator-words, padded}
 use Rattle.normal_form.specs.Operators.{Changes, Built}
 use Rattle.normal_form.specs.Assembly.{Assembled, assemble-operator, assemble, unassembled}
@@ -20,9 +20,9 @@ unfoldable pub changes-between : List ℕ → ℕ → ℕ → List Changes
 changes-between records k end = changes-from records k (end - k)
 
 -- an operator whose record is w: the row of its precondition, and where its changes end
-unfoldable pub built-of : List ℕ → Row → ℕ → ℕ → Built
-built-of records w k cost =
-    record { precondition = w .kind; changes = changes-between records k (w .a); cost = cost }
+unfoldable pub built-of : List ℕ → Row → ℕ → Operator → Built
+built-of records w k source =
+    record { precondition = w .kind; changes = changes-between records k (w .a); source = source }
 
 -- the changes of an operator begin where those of the one before it end
 unfoldable pub begins-at : List ℕ → ℕ → ℕ
@@ -31,7 +31,7 @@ begins-at records (suc o) = row-at records o .a
 
 -- operator o
 unfoldable pub built-in : List ℕ → List ℕ → ℕ → Built
-built-in operators records o = built-of records (row-at records o) (begins-at records o) (row-at operators o .b)
+built-in operators records o = built-of records (row-at records o) (begins-at records o) (operator-at operators o)
 
 -- the tables that assembling the first n operators gives, over so many source variables and these twins
 unfoldable pub assembled-in : ℕ → List ℕ → List ℕ → List ℕ → ℕ → Assembled
@@ -53,9 +53,10 @@ pub record WritesRecords (frame : Frame) (records places : List ℕ) (k end : �
   pub room : 6912 ≤ length records
   pub in-order : InOrder (frame .variables) records k end
 
-pub record WritesOperator (frame : Frame) (records places : List ℕ) (w : Row) (o k rows : ℕ) (out operators : List ℕ) : Type 0 where
+pub record WritesOperator (frame : Frame) (source records places : List ℕ) (w : Row) (o k rows : ℕ) (out written : List ℕ) : Type 0 where
   pub changes : WritesRecords frame records places k (w .a) (begun rows) out
-  pub space : 3 * o + 3 ≤ length operators
+  pub words : operator-width * o + operator-width ≤ length source
+  pub space : operator-width * o + operator-width ≤ length written
 
 -- The tables hold what is assembled, so many effect rows and so many operators, and 0 in all past it.
 pub record Holding (w : Assembled) (rows count : ℕ) (effects operators : List ℕ) : Type 0 where
@@ -79,7 +80,7 @@ pub record WroteOperator (b : Built) (n : ℕ) (twins : List ℕ) (room rows o :
       → ⊥
 
 pub record Assembles (frame : Frame) (operators records : List ℕ) (count : ℕ) (out written : List ℕ) : Type 0 where
-  pub words : 3 * count ≤ length operators
+  pub words : operator-width * count ≤ length operators
   pub limit : count ≤ 256
   pub room : 6912 ≤ length records
   pub in-order : (o : ℕ) → o < count → InOrder (frame .variables) records (begins-at records o) (row-at records o .a)
@@ -87,7 +88,7 @@ pub record Assembles (frame : Frame) (operators records : List ℕ) (count : ℕ
   pub one : 1 ≤ frame .room
   pub rows-limit : frame .room ≤ 4096
   pub space : 3 * frame .room ≤ length out
-  pub operator-space : 3 * count ≤ length written
+  pub operator-space : operator-width * count ≤ length written
   pub blank : out ≡ replicate (length out) 0
   pub blank-operators : written ≡ replicate (length written) 0
 

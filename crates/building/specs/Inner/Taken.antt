@@ -4,7 +4,7 @@ use mathlib.Core.Path.{_≡_}
 use mathlib.Core.Bool.{true, false}
 use mathlib.Core.List.{List}
 use lib.ListN.{length, getD}
-use Rattle.task.specs.Table.{row-at}
+use Rattle.task.specs.Table.{row-at, operator-width, operator-at}
 use Rattle.normal_form.specs.Builder.{St, Build, bind, start, plain}
 use Rattle.normal_form.specs.Operators.{Changes}
 use Rattle.formula_builder.specs.declared.Frame.{Frame}
@@ -69,7 +69,7 @@ pub record Stood (t : St) (frame : Frame) (formulas effects : List ℕ) (at : Si
 -- Of operator o, built where those before it are: the row of its precondition, and its changes.
 unfoldable pub precondition-here : Frame → List ℕ → List ℕ → List ℕ → ℕ → ℕ
 precondition-here frame formulas effects operators o =
-    image-at frame formulas plain (row-at operators o .kind) (operators-built frame formulas effects operators o start .st) .value
+    image-at frame formulas plain (operator-at operators o .precondition) (operators-built frame formulas effects operators o start .st) .value
 
 unfoldable pub changes-here : Frame → List ℕ → List ℕ → List ℕ → ℕ → List Changes
 changes-here frame formulas effects operators o =
@@ -113,11 +113,11 @@ pub record Taken (frame : Frame) (formulas effects operators : List ℕ) (s : St
 pub record Takes (frame : Frame) (formulas effects notes operators : List ℕ) (s : Store) (scratch records : List ℕ) (p : Progress) : Type 0 where
   pub taken : Taken frame formulas effects operators s scratch records p
   pub leaves : Leaves (p .full) frame formulas effects notes (size-at p) s
-  pub words : 3 * p .operators + 3 ≤ length operators
+  pub words : operator-width * p .operators + operator-width ≤ length operators
   pub limit : p .operators < 256
   pub room : 6912 ≤ length records
-  pub precondition : row-at operators (p .operators) .kind < frame .formulas
-  pub effect : row-at operators (p .operators) .a < frame .effects
+  pub precondition : operator-at operators (p .operators) .precondition < frame .formulas
+  pub effect : operator-at operators (p .operators) .effect < frame .effects
 
 -- It is taken, or there is no room: then the answer says so.
 pub record Took (frame : Frame) (formulas effects operators : List ℕ) (s : Store) (scratch records : List ℕ) (p r : Progress) : Type 0 where

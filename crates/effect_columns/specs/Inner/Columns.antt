@@ -3,7 +3,7 @@ use Prim.Native.Nat.{ℕ, _+_, _*_, _≤_, _<_}
 use mathlib.Core.Path.{_≡_}
 use mathlib.Core.List.{List}
 use lib.ListN.{length, getD}
-use Rattle.task.specs.Table.{row-at}
+use Rattle.task.specs.Table.{operator-width, operator-at}
 use Rattle.formula_builder.specs.declared.Frame.{Frame}
 use Rattle.formula_builder.specs.declared.Words.{Words}
 use Rattle.task.specs.Inner.Rows.{EffectsDown}
@@ -38,8 +38,8 @@ pub record FindsRoots (frame : Frame) (operators : List ℕ) (count : ℕ) (note
   pub limit : frame .effects ≤ 4096
   pub room : frame .effects ≤ length notes
   pub operators-limit : count ≤ 256
-  pub words : 3 * count ≤ length operators
-  pub effect : (k : ℕ) → k < count → row-at operators k .a < frame .effects
+  pub words : operator-width * count ≤ length operators
+  pub effect : (k : ℕ) → k < count → operator-at operators k .effect < frame .effects
 
 -- The rows keep the rules, too, and there is room for the sets.
 pub record FindsColumns (frame : Frame) (effects operators : List ℕ) (count : ℕ) (notes : List ℕ) : Type 0 where

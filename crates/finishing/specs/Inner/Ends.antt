@@ -4,7 +4,7 @@ use mathlib.Core.Path.{_≡_}
 use mathlib.Core.List.{List}
 use lib.ListN.{length, replicate}
 use Rattle.task.specs.declared.Head.{Head}
-use Rattle.task.specs.Table.{Lent}
+use Rattle.task.specs.Table.{Lent, operator-width}
 use Rattle.task.specs.Check.{refusal}
 use Rattle.normal_form.specs.Inner.Allowed.{Allows}
 use Rattle.formula_builder.specs.declared.Frame.{Frame}
@@ -33,7 +33,7 @@ pub record Lends (l : Lent) (rows twins effects : ℕ) (x : Tables) : Type 0 whe
   pub effects-space : 3 * effects ≤ length (x .effects)
   pub effects-limit : effects ≤ 4096
   pub one-effect : 1 ≤ effects
-  pub operators-space : 3 * l .head .operators ≤ length (x .operators)
+  pub operators-space : operator-width * l .head .operators ≤ length (x .operators)
   pub blank-initial : x .initial ≡ replicate (length (x .initial)) 0
   pub blank-formulas : x .formulas ≡ replicate (length (x .formulas)) 0
   pub blank-effects : x .effects ≡ replicate (length (x .effects)) 0

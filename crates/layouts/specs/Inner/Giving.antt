@@ -4,7 +4,7 @@ use mathlib.Core.Path.{_≡_}
 use mathlib.Core.Bool.{Bool, false}
 use mathlib.Core.List.{List, _∷_, _++_}
 use lib.ListN.{take}
-use Rattle.task.specs.Table.{Lent}
+use Rattle.task.specs.Table.{Lent, operator-width}
 use Rattle.task.specs.Rules.{LongEnough}
 use Rattle.task.specs.Words.{joined, padded}
 use Rattle.file_format.specs.Bytes.{word-bytes, head-fields}
@@ -21,7 +21,7 @@ flat-bytes l =
     ++ (joined word-bytes (take (l .head .twins) (l .twins))
     ++ (joined word-bytes (take (3 * l .head .formulas) (l .formulas))
     ++ (joined word-bytes (take (3 * l .head .effects) (l .effects))
-    ++ joined word-bytes (take (3 * l .head .operators) (l .operators))))))
+    ++ joined word-bytes (take (operator-width * l .head .operators) (l .operators))))))
 
 -- lent tables within the limits
 pub record LayIn (l : Lent) : Type 0 where

@@ -11,7 +11,7 @@ use Rattle.formula_builder.specs.declared.Size.{Size}
 use Rattle.formula_builder.specs.Inner.Held.{Store, held}
 use Rattle.images.specs.Inner.Images.{image-at}
 use Rattle.conditions.specs.Inner.Conditions.{effect-tree}
-use Rattle.task.specs.Table.{row-at}
+use Rattle.task.specs.Table.{operator-at}
 use Rattle.changes.specs.Inner.Stands.{StandsAt, Reaches}
 use Rattle.atom_sets.specs.Inner.Sets.{lacks, sets-end}
 use Rattle.records.specs.Inner.Recorded.{Recorded}
@@ -64,10 +64,11 @@ pub record OperatorWalked (frame : Frame) (formulas effects : List ℕ) (p e : �
   pub walked : Walked (operator-built frame formulas effects p e) frame formulas effects at before after scratch from records records' r
   pub precondition : r .full ≡ false → image-at frame formulas plain p (held at before) .value ≡ r .row
 
--- operator o: the first two words of its row are its precondition and its effect
+-- operator o
 unfoldable pub operator-here : Frame → List ℕ → List ℕ → List ℕ → ℕ → Build (List Changes)
 operator-here frame formulas effects operators o =
-    operator-built frame formulas effects (row-at operators o .kind) (row-at operators o .a)
+    let source = operator-at operators o in
+    operator-built frame formulas effects (source .precondition) (source .effect)
 
 -- the first n operators
 unfoldable pub operators-built : Frame → List ℕ → List ℕ → List ℕ → ℕ → Build (List (List Changes))

@@ -6,6 +6,10 @@ use lib.ListN.{length, getD, take}
 use lib.Seq.{sets}
 use Rattle.task.specs.declared.Head.{Head}
 use Rattle.task.specs.Bounded.{upto}
+use Rattle.task.specs.Table.{operator-width}
+use Rattle.task.specs.declared.Table.{Table}
+use Rattle.task.specs.declared.Table.the-variants.{Formulas, Effects, Operators}
+use Rattle.task.specs.Inner.Tables.{width, words-at}
 use Rattle.printing.specs.Lines.{line, numbered, initial-line}
 
 -- A text of at most `most` bytes was put at a place: byte by byte, nothing past the buffer's end; the next place counts on all the same.
@@ -18,9 +22,11 @@ pub record Put (before : List ℕ) (at : ℕ) (text : List ℕ) (most : ℕ) (af
 abbrev pub counts-of : Head → List ℕ
 counts-of h = h .variables ∷ h .twins ∷ h .formulas ∷ h .effects ∷ h .operators ∷ h .goal ∷ []
 
--- the three words of row i
-abbrev pub words-at : List ℕ → ℕ → List ℕ
-words-at words i = getD words (3 * i) 0 ∷ getD words (3 * i + 1) 0 ∷ getD words (3 * i + 2) 0 ∷ []
+-- the words of row i of a table
+abbrev pub listed : Table → List ℕ → ℕ → List ℕ
+listed table words i =
+    let r = words-at table words i in
+    r .first ∷ r .second ∷ r .third ∷ []
 
 -- the word of twin row k
 abbrev pub original-at : List ℕ → ℕ → List ℕ
@@ -36,8 +42,9 @@ front-text h initial twins =
 -- the lines f, e and o
 unfoldable pub tables-text : Head → (formulas effects operators : List ℕ) → List ℕ
 tables-text h formulas effects operators =
-    numbered 102 0 (upto (h .formulas) (words-at formulas))
-    ++ (numbered 101 0 (upto (h .effects) (words-at effects)) ++ numbered 111 0 (upto (h .operators) (words-at operators)))
+    numbered 102 0 (upto (h .formulas) (listed Formulas formulas))
+    ++ (numbered 101 0 (upto (h .effects) (listed Effects effects))
+    ++ numbered 111 0 (upto (h .operators) (listed Operators operators)))
 
 -- What the digits of the first `count` bytes ask at a place.
 pub record BitsReady (at count : ℕ) (initial : List ℕ) : Type 0 where
@@ -52,9 +59,9 @@ pub record TwinsReady (at first count : ℕ) (twins : List ℕ) : Type 0 where
   pub below : first + count ≤ 512
 
 -- What the lines of a table of rows ask.
-pub record RowsReady (at count : ℕ) (words : List ℕ) : Type 0 where
+pub record RowsReady (table : Table) (at count : ℕ) (words : List ℕ) : Type 0 where
   pub room : at + 26 * count ≤ 1000000
-  pub long : 3 * count ≤ length words
+  pub long : width table * count ≤ length words
   pub few : count ≤ 4096
 
 -- What lines t, i and w ask together.
@@ -73,4 +80,4 @@ pub record TablesReady (at : ℕ) (head : Head) (formulas effects operators : Li
   pub operator-count : head .operators ≤ 256
   pub formulas-long : 3 * head .formulas ≤ length formulas
   pub effects-long : 3 * head .effects ≤ length effects
-  pub operators-long : 3 * head .operators ≤ length operators
+  pub operators-long : operator-width * head .operators ≤ length operators

@@ -5,12 +5,11 @@ use mathlib.Core.Bool.{Bool, true, false, not, cond}
 use mathlib.Core.List.{List, [], _∷_, _++_}
 use lib.ListN.{length, getD}
 use lib.Dec.{ltb}
-use Rattle.task.specs.Table.{Operator}
 use Rattle.task.specs.Semantics.{Atom, sets, clears}
-use Rattle.task.specs.Words.{words-of, operator-words, padded}
+use Rattle.task.specs.Words.{words-of, padded}
+use Rattle.task.specs.Inner.Stored.{three}
 use Rattle.normal_form.specs.Operators.{Changes}
 use Rattle.normal_form.specs.Assembly.{Rule, rule, Written, write-rules}
-use Rattle.normal_form.specs.Inner.Stored.{three}
 use Rattle.rule_writer.specs.declared.Frame.{Frame}
 use Rattle.rule_writer.specs.declared.Chain.{Chain}
 use Rattle.rule_writer.specs.declared.Rule.{Rule as CodeRule}
@@ -95,16 +94,6 @@ pub record Writes (rs : List Rule) (room : ℕ) (at : Chain) (before after : Lis
       → r .full ≡ true
       → length (write-rules w rs .rows) ≤ room
       → ⊥
-
--- Row o is stored, and nothing else is: so behind o operators, and 0 past them, stands one more.
-pub record OneMore (o : ℕ) (row : Operator) (before after : List ℕ) : Type 0 where
-  pub same : length after ≡ length before
-  pub stored : after ≡ three before o (row .precondition) (row .effect) (row .cost)
-  pub words :
-      (operators : List Operator)
-      → length operators ≡ o
-      → before ≡ padded (length before) (operator-words operators)
-      → after ≡ padded (length before) (operator-words (operators ++ (row ∷ [])))
 
 -- The initial values of v source variables and of w twins have room, and each twin's original is a source variable of value 0 or 1.
 pub record InitialReady (source originals out : List ℕ) (v w : ℕ) : Type 0 where

@@ -3,7 +3,7 @@ use Prim.Native.Nat.{_+_, _*_, _≤_}
 use mathlib.Core.Path.{_≡_}
 use mathlib.Core.Bool.{false}
 use lib.ListN.{length}
-use Rattle.task.specs.Table.{Lent}
+use Rattle.task.specs.Table.{Lent, operator-width}
 use Rattle.task.specs.Check.{refusal}
 use Rattle.lent_tables.specs.declared.Passes.{Passes}
 use Rattle.lent_tables.specs.Inner.Fills.{Blanked, Holds}
@@ -20,7 +20,7 @@ pub record Passed (l : Lent) (x : Tables) : Type 0 where
 pub record Roomy (l : Lent) (x : Tables) : Type 0 where
   pub passed : Passed l x
   pub initial-room : l .head .variables ≤ length (x .initial)
-  pub operators-room : 3 * l .head .operators ≤ length (x .operators)
+  pub operators-room : operator-width * l .head .operators ≤ length (x .operators)
   pub effects-room : 3 ≤ length (x .effects)
 
 -- A try with less room than is lent: the tables hold the finished task, or nothing is known.

@@ -7,7 +7,7 @@ use lib.ListN.{length, getD}
 use lib.Dec.{ltb}
 use Rattle.task.specs.declared.Head.{Head}
 use Rattle.task.specs.Bounded.{upto}
-use Rattle.task.specs.Table.{Task, row-at, operator-at, task-of}
+use Rattle.task.specs.Table.{Task, row-at, operator-at, task-of, operator-width}
 use Rattle.task.specs.Rules.{no-operator, OperatorRule}
 use Rattle.task.specs.Semantics.{apply}
 use Rattle.task.specs.Run.{effect-of-operator, applicable, charge}
@@ -25,7 +25,7 @@ running h f e o =
 pub record TablesReady (h : Head) (f e o : List ℕ) : Type 0 where
   pub formulas-there : 3 * h .formulas ≤ length f
   pub effects-there : 3 * h .effects ≤ length e
-  pub operators-there : 3 * h .operators ≤ length o
+  pub operators-there : operator-width * h .operators ≤ length o
   pub formula : (i : ℕ) → i < h .formulas → FormulaKept (h .variables) i (row-at f i)
   pub effect : (i : ℕ) → i < h .effects → EffectKept (h .variables) (h .formulas) i (row-at e i)
   pub operator : (i : ℕ) → i < h .operators → OperatorRule (h .formulas) (h .effects) (operator-at o i)

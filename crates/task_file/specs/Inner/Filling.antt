@@ -5,7 +5,7 @@ use mathlib.Core.List.{List}
 use lib.ListN.{length, take, drop}
 use Rattle.task.specs.declared.Head.{Head}
 use Rattle.task.specs.declared.Table.the-variants.{Formulas, Effects, Operators}
-use Rattle.task.specs.Table.{Task}
+use Rattle.task.specs.Table.{Task, operator-width}
 use Rattle.task.specs.Words.{words-of, operator-words}
 use Rattle.task_file.specs.declared.Place.{Place}
 use Rattle.task_file.specs.declared.Place.the-variants.{At, Nowhere}
@@ -63,17 +63,17 @@ part-told file x (Nowhere n) = unparsed n
 pub record RowsRoom (h : Head) (formulas effects operators : List ℕ) : Type 0 where
   pub formulas-fit : 3 * h .formulas ≤ length formulas
   pub effects-fit : 3 * h .effects ≤ length effects
-  pub operators-fit : 3 * h .operators ≤ length operators
+  pub operators-fit : operator-width * h .operators ≤ length operators
 
 -- what filling the tables of rows leaves: words in front, and all behind them as it was. After a refusal the fronts are left open, since `read` then
 -- clears every table (`read-outcome`); what is behind them is as it was all the same.
 pub record RowsFilled (h : Head) (file : List ℕ) (at : ℕ) (r : Place) (f e o f′ e′ o′ : List ℕ) : Type 0 where
   pub told :
-      part-told file (record { formulas = take (3 * h .formulas) f′; effects = take (3 * h .effects) e′; operators = take (3 * h .operators) o′ }) r
+      part-told file (record { formulas = take (3 * h .formulas) f′; effects = take (3 * h .effects) e′; operators = take (operator-width * h .operators) o′ }) r
       ≡ rows-behind h (drop at file)
   pub formulas-behind : drop (3 * h .formulas) f′ ≡ drop (3 * h .formulas) f
   pub effects-behind : drop (3 * h .effects) e′ ≡ drop (3 * h .effects) e
-  pub operators-behind : drop (3 * h .operators) o′ ≡ drop (3 * h .operators) o
+  pub operators-behind : drop (operator-width * h .operators) o′ ≡ drop (operator-width * h .operators) o
 
 -- every lent table is long enough, and there are no more twins than variables, nor more variables than a task may have
 pub record AllRoom (h : Head) (initial twins formulas effects operators : List ℕ) : Type 0 where
@@ -94,7 +94,7 @@ pub record AllFilled (h : Head) (file : List ℕ) (at : ℕ) (r : Place) (i w f 
             record {
               formulas = take (3 * h .formulas) f′;
               effects = take (3 * h .effects) e′;
-              operators = take (3 * h .operators) o′;
+              operators = take (operator-width * h .operators) o′;
             };
       })
       r
@@ -103,4 +103,4 @@ pub record AllFilled (h : Head) (file : List ℕ) (at : ℕ) (r : Place) (i w f 
   pub twins-behind : drop (h .twins) w′ ≡ drop (h .twins) w
   pub formulas-behind : drop (3 * h .formulas) f′ ≡ drop (3 * h .formulas) f
   pub effects-behind : drop (3 * h .effects) e′ ≡ drop (3 * h .effects) e
-  pub operators-behind : drop (3 * h .operators) o′ ≡ drop (3 * h .operators) o
+  pub operators-behind : drop (operator-width * h .operators) o′ ≡ drop (operator-width * h .operators) o

@@ -7,10 +7,12 @@ use lib.Seq.{sets}
 use Rattle.task.specs.declared.Table.{Table}
 use Rattle.task.specs.declared.Table.the-variants.{Formulas, Effects, Operators}
 use Rattle.task.specs.Bounded.{upto}
-use Rattle.task.specs.Table.{row-at, operator-at, Lent}
+use Rattle.task.specs.Table.{row-at, operator-at, Lent, operator}
 use Rattle.task.specs.Words.{joined}
 use Rattle.file_format.specs.Bytes.{number, row-bytes, operator-bytes}
 use Rattle.task.specs.Rules.{LongEnough}
+use Rattle.task.specs.declared.TableRow.{TableRow}
+use Rattle.task.specs.Inner.Tables.{width, words-at}
 
 -- bytes stored one after the other from `at` on, and the place behind them
 pub record Put (bytes : List ℕ) (at r : ℕ) (out out′ : List ℕ) : Type 0 where
@@ -27,7 +29,10 @@ MapFits Operators kind = Unit {0}
 abbrev pub three-bytes : Table → (first second third : ℕ) → List ℕ
 three-bytes Formulas kind a b = row-bytes (record { kind = kind; a = a; b = b })
 three-bytes Effects kind a b = row-bytes (record { kind = kind; a = a; b = b })
-three-bytes Operators p e c = operator-bytes (record { precondition = p; effect = e; cost = c })
+three-bytes Operators p e c = operator-bytes (operator p e c)
+
+abbrev pub bytes-of : Table → TableRow → List ℕ
+bytes-of table r = three-bytes table (r .first) (r .second) (r .third)
 
 -- the bytes of the first n rows of a table
 abbrev pub rows-bytes : Table → List ℕ → ℕ → List ℕ
@@ -37,9 +42,9 @@ rows-bytes Operators words n = joined operator-bytes (upto n (operator-at words)
 
 -- a table whose rows can be put at a place
 pub record RowsIn (table : Table) (words : List ℕ) (count at : ℕ) : Type 0 where
-  pub fit : 3 * count ≤ length words
+  pub fit : width table * count ≤ length words
   pub room : at + 7 * count ≤ 1000000
-  pub maps : (i : ℕ) → i < count → MapFits table (getD words (3 * i) 0)
+  pub maps : (i : ℕ) → i < count → MapFits table (words-at table words i .first)
 
 -- a state whose first variables are bits
 pub record StateIn (state : List ℕ) (count : ℕ) : Type 0 where
@@ -59,5 +64,5 @@ pub record WriteIn (l : Lent) : Type 0 where
   pub effects : l .head .effects ≤ 4096
   pub operators : l .head .operators ≤ 256
   pub state : StateIn (l .initial) (l .head .variables)
-  pub formula-maps : (i : ℕ) → i < l .head .formulas → MapFits Formulas (getD (l .formulas) (3 * i) 0)
-  pub effect-maps : (i : ℕ) → i < l .head .effects → MapFits Effects (getD (l .effects) (3 * i) 0)
+  pub formula-maps : (i : ℕ) → i < l .head .formulas → MapFits Formulas (row-at (l .formulas) i .kind)
+  pub effect-maps : (i : ℕ) → i < l .head .effects → MapFits Effects (row-at (l .effects) i .kind)

@@ -1,14 +1,11 @@
--- `assemble_operator` meets its contract: operator o, its record being w and its changes recorded from k on, behind so many effect rows. Assumes
+-- `assemble_operator` meets its contract: operator o of the source, its record being w and its changes recorded from k on, behind so many effect rows. Assumes
 -- nothing.
 use borrow.Author.Needs.{needs}
 use Rattle.assembling.proofs.operator.assemble_operator.Statement.{statement}
 use Rattle.assembling.proofs.operator.assemble_operator.Tie as tie
-use Rattle.assembling.proofs.operator.assemble_operator.Reads as reads
-use Rattle.assembling.proofs.operator.assemble_operator.Lts as lts
-use Rattle.assembling.proofs.operator.write_records.Reads as write-records-reads
-use Rattle.rule_writer.proofs.write_operator.Reads as write-operator-reads
 use Rattle.formula_builder.specs.Inner.Held.{row-of}
 use Rattle.assembling.proofs.Operators.{operator-written}
+use Rattle.task.specs.Table.{operator-at}
 
 cast-write-records : tie.Need-cast-write-records
 cast-write-records c = search needs
@@ -16,8 +13,8 @@ cast-write-records c = search needs
 write-records-requires : tie.Need-write-records-requires
 write-records-requires c κs = search needs
 
-write-operator-requires : tie.Need-write-operator-requires
-write-operator-requires c κs = search needs
+store-with-parts-requires : tie.Need-store-with-parts-requires
+store-with-parts-requires c κs = search needs
 
 same-length : tie.Need-same-length
 same-length c = search needs
@@ -27,10 +24,12 @@ same-length-2 c = search needs
 
 returns : tie.Need-returns
 returns c =
-    let s = c .before .before .before .before .before .before .before .before .before .before .before .before .before in (
-      c .before .before .before .before .before .before .write-records .ensures .0,
+    let start = c .before .before .before .before .before .before .before .before .before .before .before .before .before .before in
+    let a = start .args in
+    let rules = c .before .before .before .before .before .before .write-records .ensures in (
+      rules .0,
       λ twins p.
-          operator-written (s .args .frame .variables) twins (s .args .records .now) (row-of (s .args .w)) (s .args .k) (c .before .before .before .before .before .before .write-records .ensures .1 twins p) (c .before .before .write-operator .ensures),
+          operator-written (a .frame .variables) twins (a .records .now) (row-of (a .w)) (a .k) (operator-at (a .source .now) (a .o)) (rules .1 twins p) (start .pre .space) (c .before .before .store-with-parts .ensures),
     )
 
 pub assemble-operator-spec : {M : Type 1} → statement M
@@ -39,7 +38,7 @@ assemble-operator-spec =
     (tie.spec
     cast-write-records
     write-records-requires
-    write-operator-requires
+    store-with-parts-requires
     same-length
     same-length-2
     returns)

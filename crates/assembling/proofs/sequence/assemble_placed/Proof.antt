@@ -2,10 +2,6 @@
 -- twins being known; stops at the first operator whose rules have no room. Assumes nothing.
 use Rattle.assembling.proofs.sequence.assemble_placed.Statement.{statement}
 use Rattle.assembling.proofs.sequence.assemble_placed.Tie as tie
-use Rattle.assembling.proofs.sequence.assemble_placed.Reads as reads
-use Rattle.assembling.proofs.sequence.assemble_placed.Lts as lts
-use Rattle.assembling.proofs.operator.assemble_operator.Reads as assemble-operator-reads
-use Rattle.formula_builder.proofs.read_row.Reads as read-row-reads
 use Prim.Native.Nat.{_+_, _-_, _≤_}
 use mathlib.Core.Path.{_≡_, refl, _∙_}
 use native.Mathlib.Omega.{arith}
@@ -35,46 +31,49 @@ loop-holds c =
 read-row-requires : tie.Need-read-row-requires Inv-loop μ-loop
 read-row-requires c κs = omega (arith, c .loop-test .taken, c .before .before .before .before .before .before .before .pre .0 .limit, c .before .before .before .before .before .before .before .pre .0 .room)
 
-read-row-requires-2 : tie.Need-read-row-requires-2 Inv-loop μ-loop
-read-row-requires-2 c κs = omega (arith, c .before .loop-test .taken, c .before .before .before .before .before .before .before .before .pre .0 .words)
-
 assemble-operator-requires : tie.Need-assemble-operator-requires Inv-loop μ-loop
 assemble-operator-requires c κs =
-    let s = c .before .before .before .before .before .before .before .before .before .before .before in
-    let inv = c .before .before .before .before .before .loop .inv in
-    asks-operator (c .before .before .before .read-row .result) (s .pre .0) (s .pre .1) (c .before .before .before .before .loop-test .taken) (c .before .before .before .read-row .ensures) (inv .3) (inv .5) (inv .1) (inv .2)
+    let s = c .before .before .before .before .before .before .before .before .before .before in
+    let inv = c .before .before .before .before .loop .inv in
+    asks-operator (c .before .before .read-row .result) (s .pre .0) (s .pre .1) (c .before .before .before .loop-test .taken) (c .before .before .read-row .ensures) (inv .3) (inv .5) (inv .1) (inv .2)
 
 same-length : tie.Need-same-length Inv-loop μ-loop
-same-length c = c .before .before .before .before .before .assemble-operator .kept .1 .1 .1 .1 .1 .1 .1 .1 .0 ∙ c .before .before .before .before .before .before .before .before .before .before .before .loop .inv .1
+same-length c = c .before .before .before .before .before .assemble-operator .kept .1 .1 .1 .1 .1 .1 .1 .1 .0 ∙ c .before .before .before .before .before .before .before .before .before .before .loop .inv .1
 
 same-length-2 : tie.Need-same-length-2 Inv-loop μ-loop
-same-length-2 c = c .before .before .before .before .before .assemble-operator .kept .1 .1 .1 .1 .1 .1 .1 .1 .1 .0 ∙ c .before .before .before .before .before .before .before .before .before .before .before .loop .inv .2
+same-length-2 c = c .before .before .before .before .before .assemble-operator .kept .1 .1 .1 .1 .1 .1 .1 .1 .1 .0 ∙ c .before .before .before .before .before .before .before .before .before .before .loop .inv .2
 
 returns : tie.Need-returns Inv-loop μ-loop
 returns c =
-    let s = c .before .before .before .before .before .before .before .before .before .before .before .before .before .before .before .before .before in
+    let s = c .before .before .before .before .before .before .before .before .before .before .before .before .before .before .before .before in
+    let at = c .before .before .before .before .before .before .before .before .before .before .loop in
+    let w = c .before .before .before .before .before .before .before .before .read-row in
+    let done = c .before .before .before .before .before .assemble-operator in
     λ twins p.
-    assembling-stop (s .args .frame .variables) twins (s .args .operators .now) (s .args .records .now) (c .before .before .before .before .before .before .before .before .before .before .before .loop .o) (c .before .before .before .before .before .before .before .before .before .read-row .result) (c .before .before .before .before .before .before .before .before .read-row2 .result) (c .before .before .before .before .before .before .before .before .before .read-row .ensures) (c .before .before .before .before .before .before .before .before .read-row2 .ensures) (c .before .before .before .before .before .before .before .before .before .before .before .loop .inv .3) (c .before .before .before .before .before .before .before .before .before .before .before .loop .inv .4 twins p) (c .before .before .before .before .before .assemble-operator .ensures .1 twins p) (s .args .count) (c .before .before .before .before .before .before .before .before .before .before .loop-test .taken) (c .if1 .taken)
+    assembling-stop (s .args .frame .variables) twins (s .args .operators .now) (s .args .records .now) (at .o) (w .result) (w .ensures) (at .inv .3) (at .inv .4 twins p) (done .ensures .1 twins p) (s .args .count) (c .before .before .before .before .before .before .before .before .before .loop-test .taken) (c .if1 .taken)
 
 cast-k : tie.Need-cast-k Inv-loop μ-loop
 cast-k c = omega arith
 
 add-o : tie.Need-add-o Inv-loop μ-loop
-add-o c = omega (arith, c .before .before .before .before .before .before .before .before .before .before .before .loop-test .taken, c .before .before .before .before .before .before .before .before .before .before .before .before .before .before .before .before .before .before .pre .0 .limit)
+add-o c = omega (arith, c .before .before .before .before .before .before .before .before .before .before .loop-test .taken, c .before .before .before .before .before .before .before .before .before .before .before .before .before .before .before .before .before .pre .0 .limit)
 
 loop-less : tie.Need-loop-less Inv-loop μ-loop
-loop-less c = omega (arith, c .before .before .before .before .before .before .before .before .before .before .before .loop-test .taken)
+loop-less c = omega (arith, c .before .before .before .before .before .before .before .before .before .before .loop-test .taken)
 
 loop-again : tie.Need-loop-again Inv-loop μ-loop
 loop-again c =
-    let s = c .before .before .before .before .before .before .before .before .before .before .before .before .before .before .before .before .before .before in (
-      omega (arith, c .before .before .before .before .before .before .before .before .before .before .before .loop-test .taken),
-      c .before .before .before .before .before .before .assemble-operator .kept .1 .1 .1 .1 .1 .1 .1 .1 .0 ∙ c .before .before .before .before .before .before .before .before .before .before .before .before .loop .inv .1,
-      c .before .before .before .before .before .before .assemble-operator .kept .1 .1 .1 .1 .1 .1 .1 .1 .1 .0 ∙ c .before .before .before .before .before .before .before .before .before .before .before .before .loop .inv .2,
-      begins-next (s .args .records .now) (c .before .before .before .before .before .before .before .before .before .before .before .before .loop .o) (c .before .before .before .before .before .before .before .before .before .before .read-row .ensures),
+    let s = c .before .before .before .before .before .before .before .before .before .before .before .before .before .before .before .before .before in
+    let at = c .before .before .before .before .before .before .before .before .before .before .before .loop in
+    let w = c .before .before .before .before .before .before .before .before .before .read-row in
+    let done = c .before .before .before .before .before .before .assemble-operator in (
+      omega (arith, c .before .before .before .before .before .before .before .before .before .before .loop-test .taken),
+      done .kept .1 .1 .1 .1 .1 .1 .1 .1 .0 ∙ at .inv .1,
+      done .kept .1 .1 .1 .1 .1 .1 .1 .1 .1 .0 ∙ at .inv .2,
+      begins-next (s .args .records .now) (at .o) (w .ensures),
       λ twins p.
-          assembling-more (s .args .frame .variables) twins (s .args .operators .now) (s .args .records .now) (c .before .before .before .before .before .before .before .before .before .before .before .before .loop .o) (c .before .before .before .before .before .before .before .before .before .before .read-row .result) (c .before .before .before .before .before .before .before .before .before .read-row2 .result) (c .before .before .before .before .before .before .before .before .before .before .read-row .ensures) (c .before .before .before .before .before .before .before .before .before .read-row2 .ensures) (c .before .before .before .before .before .before .before .before .before .before .before .before .loop .inv .3) (c .before .before .before .before .before .before .before .before .before .before .before .before .loop .inv .4 twins p) (c .before .before .before .before .before .before .assemble-operator .ensures .1 twins p) (c .before .if1 .left),
-      c .before .before .before .before .before .before .assemble-operator .ensures .0 .within,
+          assembling-more (s .args .frame .variables) twins (s .args .operators .now) (s .args .records .now) (at .o) (w .result) (w .ensures) (at .inv .3) (at .inv .4 twins p) (done .ensures .1 twins p) (c .before .if1 .left),
+      done .ensures .0 .within,
     )
 
 same-length-3 : tie.Need-same-length-3 Inv-loop μ-loop
@@ -86,8 +85,9 @@ same-length-4 c = c .before .loop .inv .2
 returns-2 : tie.Need-returns-2 Inv-loop μ-loop
 returns-2 c =
     let s = c .before .before .before .before .before .before .before in
+    let at = c .before .loop in
     λ twins p.
-    assembling-done (s .args .frame .variables) twins (s .args .operators .now) (s .args .records .now) (c .before .loop .o) (s .args .count) (omega (arith, c .before .loop .inv .0, c .loop-test .left)) (c .before .loop .inv .4 twins p) (c .before .loop .inv .5)
+    assembling-done (s .args .frame .variables) twins (s .args .operators .now) (s .args .records .now) (at .o) (s .args .count) (omega (arith, at .inv .0, c .loop-test .left)) (at .inv .4 twins p) (at .inv .5)
 
 pub assemble-placed-spec : {M : Type 1} → statement M
 assemble-placed-spec =
@@ -97,7 +97,6 @@ assemble-placed-spec =
     μ-loop
     loop-holds
     read-row-requires
-    read-row-requires-2
     assemble-operator-requires
     same-length
     same-length-2

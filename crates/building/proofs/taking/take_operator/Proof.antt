@@ -3,12 +3,6 @@
 use borrow.Author.Needs.{needs}
 use Rattle.building.proofs.taking.take_operator.Statement.{statement}
 use Rattle.building.proofs.taking.take_operator.Tie as tie
-use Rattle.building.proofs.taking.take_operator.Reads as reads
-use Rattle.building.proofs.taking.take_operator.Lts as lts
-use Rattle.building.proofs.taking.no_room.Reads as no-room-reads
-use Rattle.formula_builder.proofs.read_row.Reads as read-row-reads
-use Rattle.operators.proofs.build_operator.Reads as build-operator-reads
-use Rattle.rule_writer.proofs.store.Reads as store-reads
 use mathlib.Core.Path.{refl, _∙_}
 use native.Mathlib.Omega.{arith}
 use Rattle.building.proofs.Begun.{leaves-stopped, took-full, asks-operator, opens, took-over, took-many, took}
@@ -21,10 +15,18 @@ no-room-requires : tie.Need-no-room-requires
 no-room-requires c κs = search needs
 
 returns : tie.Need-returns
-returns c = (took-full (c .before .before .before .before .before .before .before .before .before .before .before .args .frame) (c .before .before .before .before .before .before .before .before .before .before .before .args .formulas .now) (c .before .before .before .before .before .before .before .before .before .before .before .args .effects .now) (c .before .before .before .before .before .before .before .before .before .before .before .args .operators .now) (c .before .before .before .before .before .before .before .before .before .before .before .pre) (c .before .if1 .taken) (c .no-room .ensures), leaves-stopped (c .no-room .ensures))
+returns c =
+    let start = c .before .before .before .before .before .before .before .before .before .before .before in
+    let a = start .args in (
+      took-full (a .frame) (a .formulas .now) (a .effects .now) (a .operators .now) (start .pre) (c .before .if1 .taken) (c .no-room .ensures),
+      leaves-stopped (c .no-room .ensures),
+    )
 
-read-row-requires : tie.Need-read-row-requires
-read-row-requires c κs = search needs
+precondition-of-requires : tie.Need-precondition-of-requires
+precondition-of-requires c κs = search needs
+
+effect-of-requires : tie.Need-effect-of-requires
+effect-of-requires c κs = search needs
 
 cast-build-operator : tie.Need-cast-build-operator
 cast-build-operator c = search needs
@@ -33,7 +35,12 @@ cast-build-operator-2 : tie.Need-cast-build-operator-2
 cast-build-operator-2 c = search needs
 
 build-operator-requires : tie.Need-build-operator-requires
-build-operator-requires c κs = (asks-operator (c .before .before .before .before .before .before .before .before .before .before .before .before .before .before .before .before .before .before .args .frame) (c .before .before .before .before .before .before .before .before .before .before .before .before .before .before .before .before .before .before .args .formulas .now) (c .before .before .before .before .before .before .before .before .before .before .before .before .before .before .before .before .before .before .args .effects .now) (c .before .before .before .before .before .before .before .before .before .before .before .before .before .before .before .before .before .before .args .operators .now) (c .before .before .before .before .before .before .before .before .before .before .before .before .before .before .before .before .before .before .pre) (c .before .before .before .before .before .before .before .before .if1 .left) (c .before .before .before .before .before .before .before .read-row .result) (c .before .before .before .before .before .before .before .read-row .ensures), opens (c .before .before .before .before .before .before .before .before .before .before .before .before .before .before .before .before .before .before .args .frame) (c .before .before .before .before .before .before .before .before .before .before .before .before .before .before .before .before .before .before .args .formulas .now) (c .before .before .before .before .before .before .before .before .before .before .before .before .before .before .before .before .before .before .args .effects .now) (c .before .before .before .before .before .before .before .before .before .before .before .before .before .before .before .before .before .before .args .operators .now) (c .before .before .before .before .before .before .before .before .before .before .before .before .before .before .before .before .before .before .pre) (c .before .before .before .before .before .before .before .before .if1 .left) (c .before .before .before .before .before .before .before .read-row .result) (c .before .before .before .before .before .before .before .read-row .ensures))
+build-operator-requires c κs =
+    let start = c .before .before .before .before .before .before .before .before .before .before .before .before .before .before .before .before .before in
+    let a = start .args in (
+      asks-operator (a .frame) (a .formulas .now) (a .effects .now) (a .operators .now) (start .pre) (c .before .before .before .before .before .before .before .if1 .left) (c .before .before .before .before .before .before .precondition-of .ensures) (c .before .before .before .before .before .effect-of .ensures),
+      opens (a .frame) (a .formulas .now) (a .effects .now) (a .operators .now) (start .pre) (c .before .before .before .before .before .before .before .if1 .left) (c .before .before .before .before .before .before .precondition-of .ensures) (c .before .before .before .before .before .effect-of .ensures),
+    )
 
 no-room-requires-2 : tie.Need-no-room-requires-2
 no-room-requires-2 c κs = search needs
@@ -54,7 +61,13 @@ same-length-5 : tie.Need-same-length-5
 same-length-5 c = c .before .before .before .before .before .before .before .before .before .before .before .before .build-operator .kept .1 .1 .1 .1 .1 .1 .1 .1 .1 .1 .1 .0
 
 returns-2 : tie.Need-returns-2
-returns-2 c = (took-over (c .before .before .before .before .before .before .before .before .before .before .before .before .before .before .before .before .before .before .before .before .before .before .before .before .before .before .before .before .before .before .before .args .frame) (c .before .before .before .before .before .before .before .before .before .before .before .before .before .before .before .before .before .before .before .before .before .before .before .before .before .before .before .before .before .before .before .args .formulas .now) (c .before .before .before .before .before .before .before .before .before .before .before .before .before .before .before .before .before .before .before .before .before .before .before .before .before .before .before .before .before .before .before .args .effects .now) (c .before .before .before .before .before .before .before .before .before .before .before .before .before .before .before .before .before .before .before .before .before .before .before .before .before .before .before .before .before .before .before .args .operators .now) (c .before .before .before .before .before .before .before .before .before .before .before .before .before .before .before .before .before .before .before .before .before .before .before .before .before .before .before .before .before .before .before .pre) (c .before .before .before .before .before .before .before .before .before .before .before .before .before .before .before .before .before .before .before .before .before .if1 .left) (c .before .before .before .before .before .before .before .before .before .before .before .before .before .before .before .before .before .before .before .before .read-row .result) (c .before .before .before .before .before .before .before .before .before .before .before .before .before .before .before .before .before .before .before .before .read-row .ensures) (c .before .before .before .before .before .before .before .before .before .before .before .before .build-operator .result) (c .before .before .before .before .before .before .before .before .before .before .before .before .build-operator .ensures .0) (c .before .if2 .taken) (c .no-room2 .ensures), leaves-stopped (c .no-room2 .ensures))
+returns-2 c =
+    let start = c .before .before .before .before .before .before .before .before .before .before .before .before .before .before .before .before .before .before .before .before .before .before .before .before .before .before .before .before .before .before in
+    let a = start .args in
+    let built = c .before .before .before .before .before .before .before .before .before .before .before .before .build-operator in (
+      took-over (a .frame) (a .formulas .now) (a .effects .now) (a .operators .now) (start .pre) (c .before .before .before .before .before .before .before .before .before .before .before .before .before .before .before .before .before .before .before .before .if1 .left) (c .before .before .before .before .before .before .before .before .before .before .before .before .before .before .before .before .before .before .before .precondition-of .ensures) (c .before .before .before .before .before .before .before .before .before .before .before .before .before .before .before .before .before .before .effect-of .ensures) (built .result) (built .ensures .0) (c .before .if2 .taken) (c .no-room2 .ensures),
+      leaves-stopped (c .no-room2 .ensures),
+    )
 
 no-room-requires-3 : tie.Need-no-room-requires-3
 no-room-requires-3 c κs = search needs
@@ -75,13 +88,19 @@ same-length-10 : tie.Need-same-length-10
 same-length-10 c = c .before .before .before .before .before .before .before .before .before .before .before .before .before .before .build-operator .kept .1 .1 .1 .1 .1 .1 .1 .1 .1 .1 .1 .0
 
 returns-3 : tie.Need-returns-3
-returns-3 c = (took-many (c .before .before .before .before .before .before .before .before .before .before .before .before .before .before .before .before .before .before .before .before .before .before .before .before .before .before .before .before .before .before .before .before .before .args .frame) (c .before .before .before .before .before .before .before .before .before .before .before .before .before .before .before .before .before .before .before .before .before .before .before .before .before .before .before .before .before .before .before .before .before .args .formulas .now) (c .before .before .before .before .before .before .before .before .before .before .before .before .before .before .before .before .before .before .before .before .before .before .before .before .before .before .before .before .before .before .before .before .before .args .effects .now) (c .before .before .before .before .before .before .before .before .before .before .before .before .before .before .before .before .before .before .before .before .before .before .before .before .before .before .before .before .before .before .before .before .before .args .operators .now) (c .before .before .before .before .before .before .before .before .before .before .before .before .before .before .before .before .before .before .before .before .before .before .before .before .before .before .before .before .before .before .before .before .before .pre) (c .before .before .before .before .before .before .before .before .before .before .before .before .before .before .before .before .before .before .before .before .before .before .before .if1 .left) (c .before .before .before .before .before .before .before .before .before .before .before .before .before .before .before .before .before .before .before .before .before .before .read-row .result) (c .before .before .before .before .before .before .before .before .before .before .before .before .before .before .before .before .before .before .before .before .before .before .read-row .ensures) (c .before .before .before .before .before .before .before .before .before .before .before .before .before .before .build-operator .result) (c .before .before .before .before .before .before .before .before .before .before .before .before .before .before .build-operator .ensures .0) (c .before .before .before .if2 .left) (c .before .if3 .taken) (c .no-room3 .ensures), leaves-stopped (c .no-room3 .ensures))
+returns-3 c =
+    let start = c .before .before .before .before .before .before .before .before .before .before .before .before .before .before .before .before .before .before .before .before .before .before .before .before .before .before .before .before .before .before .before .before in
+    let a = start .args in
+    let built = c .before .before .before .before .before .before .before .before .before .before .before .before .before .before .build-operator in (
+      took-many (a .frame) (a .formulas .now) (a .effects .now) (a .operators .now) (start .pre) (c .before .before .before .before .before .before .before .before .before .before .before .before .before .before .before .before .before .before .before .before .before .before .if1 .left) (c .before .before .before .before .before .before .before .before .before .before .before .before .before .before .before .before .before .before .before .before .before .precondition-of .ensures) (c .before .before .before .before .before .before .before .before .before .before .before .before .before .before .before .before .before .before .before .before .effect-of .ensures) (built .result) (built .ensures .0) (c .before .before .before .if2 .left) (c .before .if3 .taken) (c .no-room3 .ensures),
+      leaves-stopped (c .no-room3 .ensures),
+    )
 
 cast-store : tie.Need-cast-store
 cast-store c = search needs
 
 store-requires : tie.Need-store-requires
-store-requires c κs = omega (arith, c .before .before .before .before .before .before .before .before .before .before .before .before .before .before .before .before .before .before .before .before .before .before .before .before .before .before .before .before .before .before .before .before .before .before .pre .limit, c .before .before .before .before .before .before .before .before .before .before .before .before .before .before .before .before .before .before .before .before .before .before .before .before .before .before .before .before .before .before .before .before .before .before .pre .room, c .before .before .before .before .before .before .before .before .before .before .before .before .before .before .before .build-operator .kept .1 .1 .1 .1 .1 .1 .1 .1 .1 .1 .1 .0)
+store-requires c κs = omega (arith, c .before .before .before .before .before .before .before .before .before .before .before .before .before .before .before .before .before .before .before .before .before .before .before .before .before .before .before .before .before .before .before .before .before .pre .limit, c .before .before .before .before .before .before .before .before .before .before .before .before .before .before .before .before .before .before .before .before .before .before .before .before .before .before .before .before .before .before .before .before .before .pre .room, c .before .before .before .before .before .before .before .before .before .before .before .before .before .before .before .build-operator .kept .1 .1 .1 .1 .1 .1 .1 .1 .1 .1 .1 .0)
 
 same-length-11 : tie.Need-same-length-11
 same-length-11 c = c .before .before .before .before .before .before .before .before .before .before .before .before .before .before .before .before .before .before .build-operator .kept .1 .1 .0
@@ -99,7 +118,13 @@ same-length-15 : tie.Need-same-length-15
 same-length-15 c = c .before .before .store .kept .0 ∙ c .before .before .before .before .before .before .before .before .before .before .before .before .before .before .before .before .before .before .build-operator .kept .1 .1 .1 .1 .1 .1 .1 .1 .1 .1 .1 .0
 
 returns-4 : tie.Need-returns-4
-returns-4 c = (took (c .before .before .before .before .before .before .before .before .before .before .before .before .before .before .before .before .before .before .before .before .before .before .before .before .before .before .before .before .before .before .before .before .before .before .before .before .before .args .frame) (c .before .before .before .before .before .before .before .before .before .before .before .before .before .before .before .before .before .before .before .before .before .before .before .before .before .before .before .before .before .before .before .before .before .before .before .before .before .args .formulas .now) (c .before .before .before .before .before .before .before .before .before .before .before .before .before .before .before .before .before .before .before .before .before .before .before .before .before .before .before .before .before .before .before .before .before .before .before .before .before .args .effects .now) (c .before .before .before .before .before .before .before .before .before .before .before .before .before .before .before .before .before .before .before .before .before .before .before .before .before .before .before .before .before .before .before .before .before .before .before .before .before .args .operators .now) (c .before .before .before .before .before .before .before .before .before .before .before .before .before .before .before .before .before .before .before .before .before .before .before .before .before .before .before .before .before .before .before .before .before .before .before .before .before .pre) (c .before .before .before .before .before .before .before .before .before .before .before .before .before .before .before .before .before .before .before .before .before .before .before .before .before .before .before .if1 .left) (c .before .before .before .before .before .before .before .before .before .before .before .before .before .before .before .before .before .before .before .before .before .before .before .before .before .before .read-row .result) (c .before .before .before .before .before .before .before .before .before .before .before .before .before .before .before .before .before .before .before .before .before .before .before .before .before .before .read-row .ensures) (c .before .before .before .before .before .before .before .before .before .before .before .before .before .before .before .before .before .before .build-operator .result) (c .before .before .before .before .before .before .before .before .before .before .before .before .before .before .before .before .before .before .build-operator .ensures .0) (c .before .before .before .before .before .before .before .if2 .left) (c .before .before .before .before .before .if3 .left) (c .before .before .before .before .before .before .before .before .before .before .before .before .before .before .before .before .before .before .build-operator .kept .1 .1 .1 .1 .1 .1 .1 .1 .1 .0) (c .before .before .before .before .before .before .before .before .before .before .before .before .before .before .before .before .before .before .build-operator .kept .1 .1 .1 .1 .1 .1 .1 .1 .1 .1 .1 .0) (c .before .before .store .ensures) refl, leaves-same (c .before .before .before .before .before .before .before .before .before .before .before .before .before .before .before .before .before .before .build-operator .ensures .1 .noted (c .before .before .before .before .before .before .before .if2 .left)))
+returns-4 c =
+    let start = c .before .before .before .before .before .before .before .before .before .before .before .before .before .before .before .before .before .before .before .before .before .before .before .before .before .before .before .before .before .before .before .before .before .before .before .before in
+    let a = start .args in
+    let built = c .before .before .before .before .before .before .before .before .before .before .before .before .before .before .before .before .before .before .build-operator in (
+      took (a .frame) (a .formulas .now) (a .effects .now) (a .operators .now) (start .pre) (c .before .before .before .before .before .before .before .before .before .before .before .before .before .before .before .before .before .before .before .before .before .before .before .before .before .before .if1 .left) (c .before .before .before .before .before .before .before .before .before .before .before .before .before .before .before .before .before .before .before .before .before .before .before .before .before .precondition-of .ensures) (c .before .before .before .before .before .before .before .before .before .before .before .before .before .before .before .before .before .before .before .before .before .before .before .before .effect-of .ensures) (built .result) (built .ensures .0) (c .before .before .before .before .before .before .before .if2 .left) (c .before .before .before .before .before .if3 .left) (built .kept .1 .1 .1 .1 .1 .1 .1 .1 .1 .0) (built .kept .1 .1 .1 .1 .1 .1 .1 .1 .1 .1 .1 .0) (c .before .before .store .ensures) refl,
+      leaves-same (built .ensures .1 .noted (c .before .before .before .before .before .before .before .if2 .left)),
+    )
 
 pub take-operator-spec : {M : Type 1} → statement M
 take-operator-spec =
@@ -108,7 +133,8 @@ take-operator-spec =
     add-next
     no-room-requires
     returns
-    read-row-requires
+    precondition-of-requires
+    effect-of-requires
     cast-build-operator
     cast-build-operator-2
     build-operator-requires

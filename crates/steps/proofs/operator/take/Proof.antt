@@ -1,22 +1,20 @@
 -- `take` gives what `took` gives, each way out by a law of Taking. Assumes nothing.
+use native.Mathlib.Omega.{arith}
+use mathlib.Core.Path.{refl}
+use Rattle.steps.proofs.Taking.{valuable, asked-below, stays, there, conditions-ready, carried-out}
+use Rattle.steps.proofs.Scratching.{scratch-stopped, scratch-done}
 use borrow.Author.Needs.{needs}
 use Rattle.steps.proofs.operator.take.Statement.{statement}
 use Rattle.steps.proofs.operator.take.Tie as tie
-use Prim.Native.Nat.{_+_, _*_}
-use native.Mathlib.Omega.{arith}
-use mathlib.Core.Path.{refl}
-use Rattle.task.specs.Table.{operator-at}
-use Rattle.steps.proofs.Taking.{valuable, asked-below, stays, there, conditions-ready, carried-out}
-use Rattle.steps.proofs.Scratching.{scratch-stopped, scratch-done}
 
 cast-count : tie.Need-cast-count
 cast-count c = search needs
 
-precondition-of-requires : tie.Need-precondition-of-requires
-precondition-of-requires c κs = search needs
+asked-requires : tie.Need-asked-requires
+asked-requires c κs = search needs
 
 holds-requires : tie.Need-holds-requires
-holds-requires c κs = valuable (c .before .before .before .before .before .before .before .before .before .pre) (asked-below (c .before .before .before .before .before .before .before .before .before .pre) (c .before .before .before .before .before .before .before .before .before .args .number) (c .before .before .precondition-of .ensures))
+holds-requires c κs = let start = c .before .before .before .before .before .before .before .before .before in valuable (start .pre) (asked-below (start .pre) (start .args .number) (c .before .before .asked .ensures))
 
 stop-of-requires : tie.Need-stop-of-requires
 stop-of-requires c κs = search needs
@@ -28,41 +26,37 @@ same-length-2 : tie.Need-same-length-2
 same-length-2 c = search needs
 
 returns : tie.Need-returns
-returns c = (stays (c .before .before .before .before .before .before .before .before .before .before .before .before .before .before .before .pre) (c .before .before .before .before .before .before .before .before .before .before .before .before .before .before .before .args .number) (c .before .before .before .before .before .before .before .before .precondition-of .ensures) (c .before .before .before .before .before .holds .ensures .0) (c .before .stop-of .ensures) (c .if1 .taken), scratch-stopped (c .before .before .before .before .before .before .before .before .before .before .before .before .before .before .before .args .number) (c .before .before .before .before .before .before .before .before .precondition-of .ensures) (c .before .before .before .before .before .holds .ensures .1) (c .if1 .taken))
+returns c =
+    let start = c .before .before .before .before .before .before .before .before .before .before .before .before .before .before .before in
+    let n = start .args .number in
+    let p = c .before .before .before .before .before .before .before .before .asked .ensures in
+    let held = c .before .before .before .before .before .holds .ensures in (
+      stays (start .pre) n p (held .0) (c .before .stop-of .ensures) (c .if1 .taken),
+      scratch-stopped n p (held .1) (c .if1 .taken),
+    )
 
-mul-row : tie.Need-mul-row
-mul-row c = search needs
-
-add-effect : tie.Need-add-effect
-add-effect c = search needs
-
-mul-effect : tie.Need-mul-effect
-mul-effect c = search needs
-
-shared-slice-read-effect : tie.Need-shared-slice-read-effect
-shared-slice-read-effect c = omega (arith, there (c .before .before .before .before .before .before .before .before .before .before .before .before .before .before .before .before .pre) (c .before .before .before .before .before .before .before .before .before .before .before .before .before .before .before .before .args .number) (c .before .before .before .before .before .before .before .before .before .precondition-of .ensures) (c .before .before .before .before .before .before .holds .ensures .0) (c .before .before .stop-of .ensures) (c .before .if1 .left), (c .before .before .before .before .before .before .before .before .before .before .before .before .before .before .before .before .pre .tables .operators-there))
+effect-of-requires : tie.Need-effect-of-requires
+effect-of-requires c κs = let n = c .before .before .before .before .before .before .before .before .before .before .before .before .before .before .before .args .number in omega (arith, there (c .before .before .before .before .before .before .before .before .before .before .before .before .before .before .before .pre) n (c .before .before .before .before .before .before .before .before .asked .ensures) (c .before .before .before .before .before .holds .ensures .0) (c .before .stop-of .ensures) (c .if1 .left), c .before .before .before .before .before .before .before .before .before .before .before .before .before .before .before .pre .tables .operators-there)
 
 cast-effect : tie.Need-cast-effect
-cast-effect c = omega (arith, (c .shared-slice-known4 .given) (3 * (c .before .before .before .before .before .before .before .before .before .before .before .before .before .before .before .before .args .number) + 1))
+cast-effect c = search needs
 
 add-carry-out : tie.Need-add-carry-out
-add-carry-out c = omega (arith, asked-below (c .before .before .before .before .before .before .before .before .before .before .before .before .before .before .before .before .pre) (c .before .before .before .before .before .before .before .before .before .before .before .before .before .before .before .before .args .number) (c .before .before .before .before .before .before .before .before .before .precondition-of .ensures))
+add-carry-out c = let start = c .before .before .before .before .before .before .before .before .before .before .before .before .before .before .before .before in omega (arith, asked-below (start .pre) (start .args .number) (c .before .before .before .before .before .before .before .before .before .asked .ensures))
 
 carry-out-requires : tie.Need-carry-out-requires
-unfolding operator-at
-carry-out-requires c κs = conditions-ready (c .before .before .before .before .before .before .before .before .before .before .before .before .before .before .before .before .before .before .pre) (c .before .before .before .before .before .before .before .before .before .before .before .before .before .before .before .before .before .before .args .number) (c .before .before .before .before .before .before .before .before .before .before .before .precondition-of .ensures) (c .before .before .before .before .before .before .before .before .holds .ensures .0) (c .before .before .before .before .stop-of .ensures) (c .before .before .before .if1 .left) (c .before .before .before .before .before .before .before .before .holds .last .1 .1 .1 .0) (c .before .before .before .before .before .before .before .before .holds .kept .1 .1 .1 .0) (c .before .before .before .before .before .before .before .before .holds .ensures .1 .known)
+carry-out-requires c κs =
+    let start = c .before .before .before .before .before .before .before .before .before .before .before .before .before .before .before .before .before .before in
+    let held = c .before .before .before .before .before .before .before .before .holds in
+    rw (c .before .before .effect-of .ensures)
+    (conditions-ready (start .pre) (start .args .number) (c .before .before .before .before .before .before .before .before .before .before .before .asked .ensures) (held .ensures .0) (c .before .before .before .before .stop-of .ensures) (c .before .before .before .if1 .left) (held .last .1 .1 .1 .0) (held .kept .1 .1 .1 .0)
+    (held .ensures .1 .known))
 
-add-t20 : tie.Need-add-t20
-add-t20 c = omega (arith, c .before .before .before .before .before .before .before .before .before .before .before .before .before .before .before .before .before .before .before .before .before .before .before .good)
+cost-of-requires : tie.Need-cost-of-requires
+cost-of-requires c κs = let n = c .before .before .before .before .before .before .before .before .before .before .before .before .before .before .before .before .before .before .before .before .before .before .before .args .number in omega (arith, there (c .before .before .before .before .before .before .before .before .before .before .before .before .before .before .before .before .before .before .before .before .before .before .before .pre) n (c .before .before .before .before .before .before .before .before .before .before .before .before .before .before .before .before .asked .ensures) (c .before .before .before .before .before .before .before .before .before .before .before .before .before .holds .ensures .0) (c .before .before .before .before .before .before .before .before .before .stop-of .ensures) (c .before .before .before .before .before .before .before .before .if1 .left), c .before .before .before .before .before .before .before .before .before .before .before .before .before .before .before .before .before .before .before .before .before .before .before .pre .tables .operators-there)
 
-mul-t19 : tie.Need-mul-t19
-mul-t19 c = omega (arith, c .before .before .before .before .before .before .before .before .before .before .before .before .before .before .before .before .before .before .before .before .before .before .before .good)
-
-shared-slice-read-t22 : tie.Need-shared-slice-read-t22
-shared-slice-read-t22 c = omega (arith, there (c .before .before .before .before .before .before .before .before .before .before .before .before .before .before .before .before .before .before .before .before .before .before .before .before .pre) (c .before .before .before .before .before .before .before .before .before .before .before .before .before .before .before .before .before .before .before .before .before .before .before .before .args .number) (c .before .before .before .before .before .before .before .before .before .before .before .before .before .before .before .before .before .precondition-of .ensures) (c .before .before .before .before .before .before .before .before .before .before .before .before .before .before .holds .ensures .0) (c .before .before .before .before .before .before .before .before .before .before .stop-of .ensures) (c .before .before .before .before .before .before .before .before .before .if1 .left), (c .before .before .before .before .before .before .before .before .before .before .before .before .before .before .before .before .before .before .before .before .before .before .before .before .pre .tables .operators-there))
-
-cast-t29 : tie.Need-cast-t29
-cast-t29 c = omega (arith, (c .shared-slice-known5 .given) (3 * (c .before .before .before .before .before .before .before .before .before .before .before .before .before .before .before .before .before .before .before .before .before .before .before .before .args .number) + 2))
+cast-t25 : tie.Need-cast-t25
+cast-t25 c = search needs
 
 same-length-3 : tie.Need-same-length-3
 same-length-3 c = search needs
@@ -71,31 +65,36 @@ same-length-4 : tie.Need-same-length-4
 same-length-4 c = search needs
 
 returns-2 : tie.Need-returns-2
-unfolding operator-at
-returns-2 c = (carried-out (c .before .before .before .before .before .before .before .before .before .before .before .before .before .before .before .before .before .before .before .before .before .before .before .before .pre) (c .before .before .before .before .before .before .before .before .before .before .before .before .before .before .before .before .before .before .before .before .before .before .before .before .args .number) (c .before .before .before .before .before .before .before .before .before .before .before .before .before .before .before .before .before .precondition-of .ensures) (c .before .before .before .before .before .before .before .before .before .before .before .before .before .before .holds .ensures .0) (c .before .before .before .before .before .before .before .before .before .before .stop-of .ensures) (c .before .before .before .before .before .before .before .before .before .if1 .left) (c .before .before .before .before .before .before .before .before .before .before .before .before .before .before .holds .last .1 .1 .1 .0) (c .before .before .before .before .before .before .before .before .before .before .before .before .before .before .holds .kept .1 .1 .1 .0) (c .before .before .before .before .before .before .before .before .before .before .before .before .before .before .holds .ensures .1 .known) (c .before .before .before .before .before .carry-out .last .1 .1 .1 .1 .1 .1 .0) (c .before .before .before .before .before .carry-out .last .1 .1 .1 .1 .1 .0) (c .before .before .before .before .before .carry-out .ensures) (omega (arith, (c .shared-slice-known5 .given) (3 * (c .before .before .before .before .before .before .before .before .before .before .before .before .before .before .before .before .before .before .before .before .before .before .before .before .args .number) + 2))), scratch-done (c .before .before .before .before .before .before .before .before .before .before .before .before .before .before .before .before .before .before .before .before .before .before .before .before .args .number) (c .before .before .before .before .before .before .before .before .before .before .before .before .before .before .before .before .before .precondition-of .ensures) (c .before .before .before .before .before .before .before .before .before .before .before .before .before .before .holds .ensures .1) refl (omega (arith, asked-below (c .before .before .before .before .before .before .before .before .before .before .before .before .before .before .before .before .before .before .before .before .before .before .before .before .pre) (c .before .before .before .before .before .before .before .before .before .before .before .before .before .before .before .before .before .before .before .before .before .before .before .before .args .number) (c .before .before .before .before .before .before .before .before .before .before .before .before .before .before .before .before .before .precondition-of .ensures))) (c .before .before .before .before .before .before .before .before .before .before .before .before .before .before .holds .kept .1 .1 .1 .0) (c .before .before .before .before .before .carry-out .ensures .deciding))
+returns-2 c =
+    let start = c .before .before .before .before .before .before .before .before .before .before .before .before .before .before .before .before .before .before .before .before .before .before .before .before in
+    let n = start .args .number in
+    let p = c .before .before .before .before .before .before .before .before .before .before .before .before .before .before .before .before .before .asked .ensures in
+    let held = c .before .before .before .before .before .before .before .before .before .before .before .before .before .before .holds in
+    let same = held .kept .1 .1 .1 .0 in
+    let carried = rw (c .before .before .before .before .before .before .before .before .effect-of .ensures) at (c .before .before .before .before .before .carry-out .ensures) in (
+      rw (c .cost-of .ensures)
+          (carried-out (start .pre) n p (held .ensures .0) (c .before .before .before .before .before .before .before .before .before .before .stop-of .ensures) (c .before .before .before .before .before .before .before .before .before .if1 .left) (held .last .1 .1 .1 .0) same (held .ensures .1 .known) _ _ carried
+          (omega (arith, c .cost-of .ensures))),
+      scratch-done n p (held .ensures .1) refl (omega (arith, asked-below (start .pre) n p)) same (carried .deciding),
+    )
 
 pub take-spec : {M : Type 1} → statement M
 take-spec =
     tie.close
     (tie.spec
     cast-count
-    precondition-of-requires
+    asked-requires
     holds-requires
     stop-of-requires
     same-length
     same-length-2
     returns
-    mul-row
-    add-effect
-    mul-effect
-    shared-slice-read-effect
+    effect-of-requires
     cast-effect
     add-carry-out
     carry-out-requires
-    add-t20
-    mul-t19
-    shared-slice-read-t22
-    cast-t29
+    cost-of-requires
+    cast-t25
     same-length-3
     same-length-4
     returns-2)

@@ -1,17 +1,13 @@
 -- `put_rows` meets its contract: the first `count` rows of a table. Assumes nothing.
-use mathlib.Core.Path.{_≡_, refl, sym, ap, _∙_}
+use Prim.Native.Nat.{_-_}
 use native.Mathlib.Omega.{arith}
-use borrow.Author.Needs.{needs}
-use Prim.Native.Nat.{_+_, _-_, _*_, _/_}
-use lib.ListN.{length, getD, take}
-use Rattle.task_writer.specs.Inner.Putting.{Put, rows-bytes, three-bytes, byte-number}
+use Rattle.task.specs.Inner.Tables.{words-at}
+use Rattle.task.proofs.Stores.{row-there}
+use Rattle.task_writer.specs.Inner.Putting.{rows-bytes}
 use Rattle.task_writer.proofs.Puts.{put-size}
 use Rattle.task_writer.proofs.PutLoops.{PutDone, put-begin, put-more, put-end, rows-none-put, rows-more-put, three-bytes-length}
 use Rattle.task_writer.proofs.put_tables.put_rows.Statement.{statement}
 use Rattle.task_writer.proofs.put_tables.put_rows.Tie as tie
-use Rattle.task_writer.proofs.put_tables.put_rows.Reads as reads
-use Rattle.task_writer.proofs.put_tables.put_rows.Lts as lts
-use Rattle.task_writer.proofs.put_row.put_row.Reads as put-row-reads
 
 abbrev Inv-loop : tie.InvT-loop
 Inv-loop table words count out₀ at i₀ place₀ out i place = PutDone (rows-bytes table words) count at out₀ out i place
@@ -19,69 +15,43 @@ Inv-loop table words count out₀ at i₀ place₀ out i place = PutDone (rows-b
 abbrev μ-loop : tie.MeasureT-loop
 μ-loop table words count out₀ at i₀ place₀ out i place = count - i
 
--- src/put_tables.rt:17:5
 loop-holds : tie.Need-loop-holds Inv-loop μ-loop
-loop-holds c = let a = c .before .before .args in put-begin (rows-bytes (a .table) (a .words .now)) (a .count) (a .at) (a .out .now) (rows-none-put (a .table) (a .words .now))
+loop-holds c =
+    let a = c .before .before .args in
+    put-begin (rows-bytes (a .table) (a .words .now)) (a .count) (a .at) (a .out .now) (rows-none-put (a .table) (a .words .now))
 
--- src/put_tables.rt:18:17
-mul-k : tie.Need-mul-k Inv-loop μ-loop
-mul-k c = omega (arith, c .before .before .before .before .pre .fit, c .before .before .before .before .pre .room, c .before .before .before .before .good, c .before .loop .inv .within, c .before .loop .inv .small, c .loop-test .taken)
+row-at-requires : tie.Need-row-at-requires Inv-loop μ-loop
+row-at-requires c κs = row-there (c .before .before .before .before .args .table) (c .loop-test .taken) (c .before .before .before .before .pre .fit)
 
--- src/put_tables.rt:19:60
-mul-put-row : tie.Need-mul-put-row Inv-loop μ-loop
-mul-put-row c = omega (arith, c .before .before .before .before .before .pre .fit, c .before .before .before .before .before .pre .room, c .before .before .before .before .before .good, c .before .before .loop .inv .within, c .before .before .loop .inv .small, c .before .loop-test .taken)
-
--- src/put_tables.rt:19:60
-shared-slice-read-put-row : tie.Need-shared-slice-read-put-row Inv-loop μ-loop
-shared-slice-read-put-row c = omega (arith, c .before .before .before .before .before .before .pre .fit, c .before .before .before .before .before .before .pre .room, c .before .before .before .before .before .before .good, c .before .before .before .loop .inv .within, c .before .before .before .loop .inv .small, c .before .before .loop-test .taken)
-
--- src/put_tables.rt:19:76
-add-put-row : tie.Need-add-put-row Inv-loop μ-loop
-add-put-row c = omega (arith, c .before .before .before .before .before .before .pre .fit, c .before .before .before .before .before .before .pre .room, c .before .before .before .before .before .before .good, c .before .before .before .loop .inv .within, c .before .before .before .loop .inv .small, c .before .before .loop-test .taken)
-
--- src/put_tables.rt:19:70
-mul-put-row-2 : tie.Need-mul-put-row-2 Inv-loop μ-loop
-mul-put-row-2 c = omega (arith, c .before .before .before .before .before .before .pre .fit, c .before .before .before .before .before .before .pre .room, c .before .before .before .before .before .before .good, c .before .before .before .loop .inv .within, c .before .before .before .loop .inv .small, c .before .before .loop-test .taken)
-
--- src/put_tables.rt:19:70
-shared-slice-read-put-row-2 : tie.Need-shared-slice-read-put-row-2 Inv-loop μ-loop
-shared-slice-read-put-row-2 c = omega (arith, c .before .before .before .before .before .before .before .pre .fit, c .before .before .before .before .before .before .before .pre .room, c .before .before .before .before .before .before .before .good, c .before .before .before .before .loop .inv .within, c .before .before .before .before .loop .inv .small, c .before .before .before .loop-test .taken)
-
--- src/put_tables.rt:19:90
-add-put-row-2 : tie.Need-add-put-row-2 Inv-loop μ-loop
-add-put-row-2 c = omega (arith, c .before .before .before .before .before .before .before .pre .fit, c .before .before .before .before .before .before .before .pre .room, c .before .before .before .before .before .before .before .good, c .before .before .before .before .loop .inv .within, c .before .before .before .before .loop .inv .small, c .before .before .before .loop-test .taken)
-
--- src/put_tables.rt:19:84
-mul-put-row-3 : tie.Need-mul-put-row-3 Inv-loop μ-loop
-mul-put-row-3 c = omega (arith, c .before .before .before .before .before .before .before .pre .fit, c .before .before .before .before .before .before .before .pre .room, c .before .before .before .before .before .before .before .good, c .before .before .before .before .loop .inv .within, c .before .before .before .before .loop .inv .small, c .before .before .before .loop-test .taken)
-
--- src/put_tables.rt:19:84
-shared-slice-read-put-row-3 : tie.Need-shared-slice-read-put-row-3 Inv-loop μ-loop
-shared-slice-read-put-row-3 c = omega (arith, c .before .before .before .before .before .before .before .before .pre .fit, c .before .before .before .before .before .before .before .before .pre .room, c .before .before .before .before .before .before .before .before .good, c .before .before .before .before .before .loop .inv .within, c .before .before .before .before .before .loop .inv .small, c .before .before .before .before .loop-test .taken)
-
--- src/put_tables.rt:19:9
 put-row-requires : tie.Need-put-row-requires Inv-loop μ-loop
-put-row-requires c κs = (omega (arith, c .before .before .before .before .before .before .before .before .pre .room, c .before .before .before .before .before .loop .inv .within, c .before .before .before .before .before .loop .inv .small, c .before .before .before .before .loop-test .taken), c .before .before .before .before .before .before .before .before .pre .maps (c .before .before .before .before .before .loop .i) (c .before .before .before .before .loop-test .taken))
+put-row-requires c κs =
+    let start = c .before .before .before .before .before .before in
+    let at = c .before .before .before .loop in
+    rw (c .before .row-at .ensures)
+    (omega (arith, start .pre .room, at .inv .within, at .inv .small, c .before .before .loop-test .taken), start .pre .maps (at .i) (c .before .before .loop-test .taken))
 
--- src/put_tables.rt:20:9
 add-i : tie.Need-add-i Inv-loop μ-loop
-add-i c = omega (arith, c .before .before .before .before .before .before .before .before .before .before .before .pre .fit, c .before .before .before .before .before .before .before .before .before .before .before .pre .room, c .before .before .before .before .before .before .before .before .before .before .before .good, c .before .before .before .before .before .before .before .before .loop .inv .within, c .before .before .before .before .before .before .before .before .loop .inv .small, c .before .before .before .before .before .before .before .loop-test .taken)
+add-i c = let start = c .before .before .before .before .before .before .before .before .before in omega (arith, start .pre .room, c .before .before .before .before .before .before .loop .inv .within, c .before .before .before .before .before .loop-test .taken)
 
--- src/put_tables.rt:17:5
 loop-less : tie.Need-loop-less Inv-loop μ-loop
-loop-less c = omega (arith, c .before .before .before .before .before .before .before .loop-test .taken)
+loop-less c = omega (arith, c .before .before .before .before .before .loop-test .taken)
 
--- src/put_tables.rt:17:5
 loop-again : tie.Need-loop-again Inv-loop μ-loop
-loop-again c = let a = c .before .before .before .before .before .before .before .before .before .before .before .args in put-more (rows-bytes (a .table) (a .words .now)) (a .count) (a .at) (a .out .now) (c .before .before .before .before .before .before .before .before .loop .out) (c .before .before .before .before .before .before .before .before .loop .i) (c .before .before .before .before .before .before .before .before .loop .place) (c .before .before .before .before .before .before .before .before .loop .inv) (c .before .before .before .before .before .before .before .loop-test .taken) (c .before .before .put-row .ensures) (three-bytes-length (a .table) (getD (a .words .now) (3 * c .before .before .before .before .before .before .before .before .loop .i) 0) (getD (a .words .now) (3 * c .before .before .before .before .before .before .before .before .loop .i + 1) 0) (getD (a .words .now) (3 * c .before .before .before .before .before .before .before .before .loop .i + 2) 0)) (rows-more-put (a .table) (a .words .now) (c .before .before .before .before .before .before .before .before .loop .i))
+loop-again c =
+    let a = c .before .before .before .before .before .before .before .before .before .args in
+    let at = c .before .before .before .before .before .before .loop in
+    let r = words-at (a .table) (a .words .now) (at .i) in
+    put-more (rows-bytes (a .table) (a .words .now)) (a .count) (a .at) (a .out .now) (at .out) (at .i) (at .place) (at .inv) (c .before .before .before .before .before .loop-test .taken)
+    (rw (c .before .before .before .before .row-at .ensures) at (c .before .before .put-row .ensures)) (three-bytes-length (a .table) (r .first) (r .second) (r .third)) (rows-more-put (a .table) (a .words .now) (at .i))
 
--- src/put_tables.rt:11:1
 same-length : tie.Need-same-length Inv-loop μ-loop
 same-length c = put-size (c .before .loop .inv .done)
 
--- src/put_tables.rt:11:1
 returns : tie.Need-returns Inv-loop μ-loop
-returns c = let a = c .before .before .before .before .args in put-end (rows-bytes (a .table) (a .words .now)) (a .count) (a .at) (a .out .now) (c .before .loop .out) (c .before .loop .i) (c .before .loop .place) (c .before .loop .inv) (c .loop-test .left)
+returns c =
+    let a = c .before .before .before .before .args in
+    let at = c .before .loop in
+    put-end (rows-bytes (a .table) (a .words .now)) (a .count) (a .at) (a .out .now) (at .out) (at .i) (at .place) (at .inv) (c .loop-test .left)
 
 pub put-rows-spec : {M : Type 1} → statement M
 put-rows-spec =
@@ -90,15 +60,7 @@ put-rows-spec =
     Inv-loop
     μ-loop
     loop-holds
-    mul-k
-    mul-put-row
-    shared-slice-read-put-row
-    add-put-row
-    mul-put-row-2
-    shared-slice-read-put-row-2
-    add-put-row-2
-    mul-put-row-3
-    shared-slice-read-put-row-3
+    row-at-requires
     put-row-requires
     add-i
     loop-less
