@@ -1,1 +1,12 @@
+pub mod Blank
+pub mod Copied
+pub mod Recalled
+pub mod Source
+pub mod Linked
+pub mod Filled
+pub mod Owned
+pub mod Lesser
+pub mod AsLong
+pub mod Refusing
 pub mod Ways
+pub mod Tried
