@@ -8,8 +8,8 @@ pub use last::finish;
 pub use last::no_room;
 pub use whole::build;
 
-// The source's counts, and how much there is room for: of variables, formulas and effects, rows and twins in the frame; the numbers of operators
-// and of the goal; the effect rows that there is room for.
+// The source's counts and how much there is room for: in the frame its variables, formulas and effects, and room for rows and twins; then its
+// operators, the number of its goal, and room for effect rows.
 pub struct Counts {
     pub frame: Frame,
     pub operators: usize,

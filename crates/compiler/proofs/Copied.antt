@@ -10,7 +10,7 @@ use Rattle.task.specs.Table.{Row, row-at}
 use Rattle.task.specs.Words.{words-of, padded}
 use Rattle.normal_form.proofs.Padded.{padded-rows}
 use Rattle.formula_builder.proofs.Stored.{upto-same}
-use Rattle.compiler.proofs.Blank.{zeros}
+use Rattle.compiler.proofs.Cleared.{zeros}
 
 module _ (built table : List ℕ) (n : ℕ) (there : 3 * n ≤ length built) (space : 3 * n ≤ length table) (blank : table ≡ replicate (length table) 0) where
   abbrev copied : List ℕ

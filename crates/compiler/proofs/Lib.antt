@@ -1,4 +1,3 @@
-pub mod Blank
 pub mod Copied
 pub mod Recalled
 pub mod Source
@@ -6,7 +5,7 @@ pub mod Linked
 pub mod Filled
 pub mod Owned
 pub mod Lesser
-pub mod AsLong
+pub mod Cleared
 pub mod Refusing
 pub mod Ways
 pub mod Tried

@@ -1,15 +1,14 @@
 -- The tables of each frame are long enough. Assumes nothing.
-use Prim.Native.Nat.{ℕ, _+_, _*_, _/_, _≤_, _<_}
+use Prim.Native.Nat.{ℕ, _+_, _*_, _/_, _≤_}
 use native.Mathlib.Omega.{arith}
-use native.Mathlib.Decide.{decLt}
 use native.Mathlib.Nat.{mul-le-mul}
 use lib.ListN.{replicate}
 use Rattle.formula_builder.specs.declared.Frame.{Frame}
 use Rattle.atom_sets.specs.Inner.Sets.{sets-end, set-words}
 use Rattle.compile_parts.specs.Inner.Builds.{Builds}
 use Rattle.compiler.specs.Tables.{Tables}
-use Rattle.compiler.specs.Inner.Fills.{Counted, counts, lent-of, Begins, BeginsMedium, BeginsSmall}
-use Rattle.compiler.proofs.Source.{few-variables, few-effects}
+use Rattle.compiler.specs.Inner.Fills.{Counted, counts, lent-of, Begins, BeginsSmall}
+use Rattle.compiler.proofs.Source.{few-effects}
 use Rattle.compiler.proofs.Filled.{build-asks}
 
 -- so much room the sets take, with the words before them and the path
@@ -24,32 +23,12 @@ sets-room frame s e h g =
     omega (arith, x, g)
 
 module _ {g : Counted} {x : Tables} where
-  -- the largest table of rows does for every task
-  rows-room : Begins g x → 9 * g .frame .rows + g .frame .variables ≤ 37376
-  rows-room b = omega (arith, b .rows-limit, b .variables-limit)
-
   pub owns-large :
       Begins g x
       → Builds (counts g) (g .formulas) (g .effects) (g .operators) (x .twins) (x .scratch) (replicate 610304 0) (replicate 37376 0) (replicate 6912 0)
   owns-large b =
       let room = sets-room (g .frame) 64 4096 (omega (arith, b .variables-limit)) (few-effects (lent-of g) (b .passes)) in
-      build-asks b 610304 37376 (omega (arith, room)) (rows-room b)
-
-  pub owns-medium :
-      BeginsMedium g x
-      → Builds (counts g) (g .formulas) (g .effects) (g .operators) (x .twins) (x .scratch) (replicate 163840 0) (replicate 37376 0) (replicate 6912 0)
-  owns-medium m = build-asks b 163840 37376 (go (decLt 96 (g .frame .variables))) (rows-room b)
-    where
-      b : Begins g x
-      b = m .roomy .begins
-
-      go : Dec (96 < g .frame .variables) → sets-end (g .frame) + g .frame .effects ≤ 163840
-      go (yes h) =
-          let room = sets-room (g .frame) 64 1024 (omega (arith, b .variables-limit)) (m .few h) in
-          omega (arith, room)
-      go (no h) =
-          let room = sets-room (g .frame) 12 4096 (omega (arith, h)) (few-effects (lent-of g) (b .passes)) in
-          omega (arith, room)
+      build-asks b 610304 37376 (omega (arith, room)) (omega (arith, b .rows-limit, b .variables-limit))
 
   pub owns-small :
       BeginsSmall g x

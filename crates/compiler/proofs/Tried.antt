@@ -1,14 +1,14 @@
 -- The small try first: what it asks with fewer rows, and what follows. Assumes nothing.
 use native.Mathlib.Omega.{arith}
-use mathlib.Core.Path.{_≡_, refl, sym, _∙_}
-use mathlib.Core.Bool.{Bool, true, false, true≢false}
+use mathlib.Core.Path.{_≡_, sym, _∙_}
+use mathlib.Core.Bool.{true, false, true≢false}
 use mathlib.Core.List.{List}
 use Prim.Native.Nat.{ℕ, _≤_}
 use Rattle.compile_parts.specs.declared.Counts.{Counts}
 use Rattle.compile_parts.specs.declared.Filled.{Filled}
 use Rattle.compiler.specs.Tables.{Tables}
-use Rattle.compiler.specs.Inner.Sizes.{with-rows, Fewer, Medium}
-use Rattle.compiler.specs.Inner.Fills.{Counted, counted, lent-of, Begins, Roomy, BeginsMedium, BeginsSmall, Holds, Fills, Tries}
+use Rattle.compiler.specs.Inner.Sizes.{with-rows, Fewer}
+use Rattle.compiler.specs.Inner.Fills.{counted, lent-of, Begins, Roomy, BeginsSmall, Holds, Fills, Tries}
 
 module _ {c r : Counts} {i f e o : List ℕ} {x : Tables} (k : Fewer c r) where
   small-by : (rows : ℕ) → rows ≤ 512 → rows ≤ c .frame .rows → Begins (counted c i f e o) x → BeginsSmall (counted (with-rows c rows) i f e o) x
@@ -47,9 +47,6 @@ module _ {c r : Counts} {i f e o : List ℕ} {x : Tables} (k : Fewer c r) where
     module _ (q : z .full ≡ true) (b : Roomy (counted c i f e o) x) where
       pub large-asks : Roomy (counted c i f e o) y
       large-asks = rw (t .over q) b
-
-      pub medium-asks : {m : Bool} → Medium c m → m ≡ true → BeginsMedium (counted c i f e o) y
-      medium-asks m p = record { roomy = large-asks; few = m .few p }
 
       pub filled-again : {w : Tables} {n : Filled} → Fills (counted c i f e o) y w n → Fills (counted c i f e o) x w n
       filled-again k = rw (t .over q) at k

@@ -23,7 +23,7 @@ use Rattle.compiler.specs.Tables.{Tables, tables, room-of}
 use Rattle.compiler.specs.Inner.Sizes.{Least, MostTwins, counts-by, CountsOf}
 use Rattle.compiler.specs.Inner.Numbers.{Passed}
 use Rattle.compiler.specs.Inner.Fills.{Blanked, counted, lent-of, Roomy, head-after, Holds, Fills}
-use Rattle.compiler.proofs.AsLong.{same-room}
+use Rattle.compiler.proofs.Cleared.{same-room}
 
 -- a source, without its twins
 abbrev without : Lent → Lent

@@ -3,6 +3,7 @@ mod call;
 mod clear;
 mod frames;
 mod heads;
+mod layout;
 mod numbers;
 mod sizes;
 

@@ -1,29 +1,19 @@
 // How much the lent tables allow, and how large a frame is tried. Constant cost, all of them.
 use crate::Lengths;
+use crate::layout::MOST_EFFECT_ROWS;
+use crate::layout::MOST_ROWS;
+use crate::layout::MOST_VARIABLES;
+use crate::layout::SMALL_EFFECTS;
+use crate::layout::SMALL_FORMULAS;
+use crate::layout::SMALL_OPERATORS;
+use crate::layout::SMALL_ROWS;
+use crate::layout::SMALL_VARIABLES;
 use compile_parts::Counts;
 use formula_builder::Frame;
 use task::Head;
 ghost use mathlib.Core.Path.{_≡_};
 ghost use Prim.Native.Nat.{_≤_};
-ghost use Rattle.compiler.specs.Inner.Sizes.{Least, MostTwins, CountsOf, Fewer, Small, Medium};
-
-// The limits of the finished task.
-const MOST_VARIABLES: usize = 512;
-
-const MOST_ROWS: usize = 4096;
-
-const MOST_EFFECT_ROWS: usize = 4096;
-
-// What the small frame is made for, `frames` says how.
-const SMALL_ROWS: usize = 512;
-
-const SMALL_FORMULAS: usize = 512;
-
-const SMALL_EFFECTS: usize = 512;
-
-const SMALL_VARIABLES: usize = 128;
-
-const SMALL_OPERATORS: usize = 64;
+ghost use Rattle.compiler.specs.Inner.Sizes.{Least, MostTwins, CountsOf, Fewer, Small};
 
 // The lesser of two.
 fn least(a: usize, b: usize) -> usize
@@ -102,19 +92,4 @@ pub fn is_small(counts: Counts) -> bool
         return false;
     }
     counts.operators <= SMALL_OPERATORS
-}
-
-// Whether the medium frame does: with few variables sets and columns are narrow, for few effects there are few. It would have room for at most 96
-// variables whatever the effects, but then for too few columns: nets of 4,096 effects took 40 times as long.
-pub fn is_medium(counts: Counts) -> bool
-    ensures { λ r. ⌜ Medium counts r ⌝ }
-{
-    let frame = counts.frame;
-    if frame.variables <= 32 {
-        return true;
-    }
-    if frame.variables <= 96 {
-        return frame.effects <= 2048;
-    }
-    frame.effects <= 1024
 }

@@ -1,5 +1,5 @@
 -- Filling the lent tables: what it asks, and what it leaves.
-use Prim.Native.Nat.{ℕ, _+_, _*_, _≤_, _<_}
+use Prim.Native.Nat.{ℕ, _+_, _*_, _≤_}
 use mathlib.Core.Path.{_≡_}
 use mathlib.Core.Bool.{true, false}
 use mathlib.Core.List.{List, []}
@@ -85,11 +85,6 @@ pub record Begins (g : Counted) (x : Tables) : Type 0 where
 pub record Roomy (g : Counted) (x : Tables) : Type 0 where
   pub begins : Begins g x
   pub allows : Allows (g .frame .variables) (room-of x) (g .frame .rows) (g .frame .twins) (g .room)
-
--- There are few variables, or few effects.
-pub record BeginsMedium (g : Counted) (x : Tables) : Type 0 where
-  pub roomy : Roomy g x
-  pub few : 96 < g .frame .variables → g .frame .effects ≤ 1024
 
 -- Few rows are asked for.
 pub record BeginsSmall (g : Counted) (x : Tables) : Type 0 where

@@ -1,5 +1,5 @@
 -- How much of the lent tables is used, and how large a frame is tried.
-use Prim.Native.Nat.{ℕ, _+_, _/_, _≤_, _<_}
+use Prim.Native.Nat.{ℕ, _+_, _/_, _≤_}
 use mathlib.Core.Path.{_≡_}
 use mathlib.Core.Bool.{Bool, true}
 use Rattle.task.specs.declared.Head.{Head}
@@ -76,7 +76,3 @@ pub record Fewer (c r : Counts) : Type 0 where
 pub record Small (c : Counts) (r : Bool) : Type 0 where
   pub few-effects : r ≡ true → c .frame .effects ≤ 512
   pub few-variables : r ≡ true → c .frame .variables ≤ 128
-
--- a source for which the medium frame does: the same of it
-pub record Medium (c : Counts) (r : Bool) : Type 0 where
-  pub few : r ≡ true → 96 < c .frame .variables → c .frame .effects ≤ 1024

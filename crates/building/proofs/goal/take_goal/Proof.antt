@@ -25,9 +25,11 @@ same-length-3 c = search needs
 
 returns-2 : tie.Need-returns-2
 returns-2 c =
+    let at-image-from = c .before .before .before .before .before .before in
+    let at-if1 = at-image-from .before .before .before .before in
     record {
-      done = λ _. c .before .before .before .before .before .before .image-from .ensures .images;
-      over = λ q. absurd (true≢false (sym q ∙ c .before .before .before .before .before .before .before .before .before .before .if1 .left));
+      done = λ _. at-image-from .image-from .ensures .images;
+      over = λ q. absurd (true≢false (sym q ∙ at-if1 .if1 .left));
     }
 
 pub take-goal-spec : {M : Type 1} → statement M

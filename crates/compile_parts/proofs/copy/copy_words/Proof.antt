@@ -35,13 +35,18 @@ loop-less : tie.Need-loop-less Inv-loop μ-loop
 loop-less c = omega arith
 
 loop-again : tie.Need-loop-again Inv-loop μ-loop
-loop-again c = copied-more (c .before .before .before .args .source .now) (c .before .before .before .args .out .now) (c .before .before .before .args .n) (c .before .before .before .pre .0) (c .before .before .before .pre .1) (c .before .before .loop .out) (c .before .before .loop .i) (c .before .before .loop .inv) (c .before .loop-test .taken)
+loop-again c =
+    let at-args = c .before .before .before in
+    copied-more (at-args .args .source .now) (at-args .args .out .now) (at-args .args .n) (at-args .pre .0) (at-args .pre .1) (c .before .before .loop .out)
+    (c .before .before .loop .i) (c .before .before .loop .inv) (c .before .loop-test .taken)
 
 same-length : tie.Need-same-length Inv-loop μ-loop
 same-length c = c .before .loop .inv .same
 
 returns : tie.Need-returns Inv-loop μ-loop
-returns c = copied-all (c .before .before .args .source .now) (c .before .before .args .out .now) (c .before .before .args .n) (c .before .before .pre .0) (c .before .before .pre .1) (c .before .loop .out) (c .before .loop .i) (c .before .loop .inv) (c .loop-test .left)
+returns c =
+    copied-all (c .before .before .args .source .now) (c .before .before .args .out .now) (c .before .before .args .n) (c .before .before .pre .0)
+    (c .before .before .pre .1) (c .before .loop .out) (c .before .loop .i) (c .before .loop .inv) (c .loop-test .left)
 
 pub copy-words-spec : {M : Type 1} → statement M
 copy-words-spec =

@@ -20,7 +20,9 @@ returns c = nothing-built (c .before .if1 .taken) (c .no-room .ensures)
 
 assemble-operators-requires : tie.Need-assemble-operators-requires
 assemble-operators-requires c κs =
-    let stands = c .before .before .before .before .before .before .before .before .before .before .before .before .before .pre .stands (c .before .before .before .if1 .left) in
+    let at-if1 = c .before .before .before in
+    let at-pre = at-if1 .before .before .before .before .before .before .before .before .before .before in
+    let stands = at-pre .pre .stands (at-if1 .if1 .left) in
     (stands .assembles, stands .twinned)
 
 no-room-requires-2 : tie.Need-no-room-requires-2
@@ -36,24 +38,44 @@ returns-2 : tie.Need-returns-2
 returns-2 c = rules-over (c .before .before .before .before .before .before .assemble-operators .ensures) (c .before .if2 .taken) (c .no-room2 .ensures)
 
 write-initial-requires : tie.Need-write-initial-requires
-write-initial-requires c κs = c .before .before .before .before .before .before .before .before .before .before .before .before .before .before .before .before .before .before .before .before .pre .stands (c .before .before .before .before .before .before .before .before .before .before .if1 .left) .initial-ready
+write-initial-requires c κs =
+    let at-if1 = c .before .before .before .before .before .before .before .before .before .before in
+    let at-pre = at-if1 .before .before .before .before .before .before .before .before .before .before in
+    at-pre .pre .stands (at-if1 .if1 .left) .initial-ready
 
 mul-copy-words : tie.Need-mul-copy-words
-mul-copy-words c = omega (arith, c .before .before .before .before .before .before .before .before .before .before .before .before .before .before .before .before .before .before .before .before .before .before .before .before .before .pre .stands (c .before .before .before .before .before .before .before .before .before .before .before .before .before .before .before .if1 .left) .limit)
+mul-copy-words c =
+    let at-if1 = c .before .before .before .before .before .before .before .before .before .before .before .before .before .before .before in
+    let at-pre = at-if1 .before .before .before .before .before .before .before .before .before .before in
+    omega (arith, at-pre .pre .stands (at-if1 .if1 .left) .limit)
 
 copy-words-requires : tie.Need-copy-words-requires
 copy-words-requires c κs =
-    let stands = c .before .before .before .before .before .before .before .before .before .before .before .before .before .before .before .before .before .before .before .before .before .before .before .before .before .pre .stands (c .before .before .before .before .before .before .before .before .before .before .before .before .before .before .before .if1 .left) in
+    let at-if1 = c .before .before .before .before .before .before .before .before .before .before .before .before .before .before .before in
+    let at-pre = at-if1 .before .before .before .before .before .before .before .before .before .before in
+    let stands = at-pre .pre .stands (at-if1 .if1 .left) in
     (stands .there, stands .space)
 
 cast-t26 : tie.Need-cast-t26
-cast-t26 c = omega (arith, c .before .before .before .before .before .before .before .before .before .before .before .before .before .before .before .before .before .before .before .before .before .before .before .before .before .before .before .before .before .pre .stands (c .before .before .before .before .before .before .before .before .before .before .before .before .before .before .before .before .before .before .before .if1 .left) .limit)
+cast-t26 c =
+    let at-if1 = c .before .before .before .before .before .before .before .before .before .before .before .before .before .before .before .before .before .before .before in
+    let at-pre = at-if1 .before .before .before .before .before .before .before .before .before .before in
+    omega (arith, at-pre .pre .stands (at-if1 .if1 .left) .limit)
 
 cast-t27 : tie.Need-cast-t27
-cast-t27 c = omega (arith, c .before .before .before .before .before .before .before .before .before .before .before .before .before .before .before .before .before .before .before .before .before .before .before .before .before .before .before .before .before .before .pre .stands (c .before .before .before .before .before .before .before .before .before .before .before .before .before .before .before .before .before .before .before .before .if1 .left) .assembles .variables)
+cast-t27 c =
+    let at-if1 = c .before .before .before .before .before .before .before .before .before .before .before .before .before .before .before .before .before .before .before .before in
+    let at-pre = at-if1 .before .before .before .before .before .before .before .before .before .before in
+    omega (arith, at-pre .pre .stands (at-if1 .if1 .left) .assembles .variables)
 
 cast-t28 : tie.Need-cast-t28
-cast-t28 c = omega (arith, c .before .before .before .before .before .before .before .before .before .before .before .before .before .before .before .before .before .assemble-operators .ensures .within (c .before .before .before .before .before .before .before .before .before .before .before .before .if2 .left), c .before .before .before .before .before .before .before .before .before .before .before .before .before .before .before .before .before .before .before .before .before .before .before .before .before .before .before .before .before .before .before .pre .stands (c .before .before .before .before .before .before .before .before .before .before .before .before .before .before .before .before .before .before .before .before .before .if1 .left) .assembles .rows-limit)
+cast-t28 c =
+    let at-if2 = c .before .before .before .before .before .before .before .before .before .before .before .before in
+    let at-assemble-operators = at-if2 .before .before .before .before .before in
+    let at-if1 = at-assemble-operators .before .before .before .before in
+    let at-pre = at-if1 .before .before .before .before .before .before .before .before .before .before in
+    omega
+    (arith, at-assemble-operators .assemble-operators .ensures .within (at-if2 .if2 .left), at-pre .pre .stands (at-if1 .if1 .left) .assembles .rows-limit)
 
 same-length-3 : tie.Need-same-length-3
 same-length-3 c = search needs
@@ -69,15 +91,20 @@ same-length-6 c = search needs
 
 returns-3 : tie.Need-returns-3
 returns-3 c =
-    let rules = c .before .before .before .before .before .before .before .before .before .before .before .before .before .before .before .before .before .assemble-operators .ensures in
+    let at-copy-words = c .before .before .before .before .before in
+    let at-write-initial = at-copy-words .before .before .before .before .before in
+    let at-if2 = at-write-initial .before .before in
+    let at-assemble-operators = at-if2 .before .before .before .before .before in
+    let at-if1 = at-assemble-operators .before .before .before .before in
+    let rules = at-assemble-operators .assemble-operators .ensures in
     all-written
     refl
     (record {
-      whole = c .before .before .before .before .before .before .before .before .before .before .before .before .before .before .before .before .before .before .before .before .before .if1 .left;
-      holding = rules .done (c .before .before .before .before .before .before .before .before .before .before .before .before .if2 .left);
-      within = rules .within (c .before .before .before .before .before .before .before .before .before .before .before .before .if2 .left);
-      values = c .before .before .before .before .before .before .before .before .before .before .write-initial .ensures;
-      table = c .before .before .before .before .before .copy-words .ensures;
+      whole = at-if1 .if1 .left;
+      holding = rules .done (at-if2 .if2 .left);
+      within = rules .within (at-if2 .if2 .left);
+      values = at-write-initial .write-initial .ensures;
+      table = at-copy-words .copy-words .ensures;
       answer = refl;
     })
 

@@ -19,7 +19,9 @@ slice-aggregate-build-3 : tie.Need-slice-aggregate-build-3
 slice-aggregate-build-3 c = search needs
 
 build-requires : tie.Need-build-requires
-build-requires c κs = owns-large (c .before .before .before .before .before .before .before .before .before .before .before .before .before .before .before .pre .begins)
+build-requires c κs =
+    let at-pre = c .before .before .before .before .before .before .before .before .before .before .before .before .before .before .before in
+    owns-large (at-pre .pre .begins)
 
 slice-aggregate-finish : tie.Need-slice-aggregate-finish
 slice-aggregate-finish c = search needs
@@ -29,14 +31,18 @@ slice-aggregate-finish-2 c = search needs
 
 finish-requires : tie.Need-finish-requires
 finish-requires c κs =
-    let whole = c .before .before .before .before .before .before .before .before .before .before .before .before .before .before .build in
-    finish-asks (c .before .before .before .before .before .before .before .before .before .before .before .before .before .before .before .before .before .before .before .before .before .before .before .before .before .before .before .before .before .before .pre .begins) (whole .ensures) (whole .kept .1 .1 .1 .1 .1 .1 .1 .1 .0)
+    let at-build = c .before .before .before .before .before .before .before .before .before .before .before .before .before .before in
+    let at-pre = at-build .before .before .before .before .before .before .before .before .before .before .before .before .before .before .before .before in
+    let whole = at-build .build in
+    finish-asks (at-pre .pre .begins) (whole .ensures) (whole .kept .1 .1 .1 .1 .1 .1 .1 .1 .0)
 
 same-length : tie.Need-same-length
 same-length c = c .before .before .before .before .before .before .before .before .finish .kept .1 .1 .1 .1 .1 .1 .1 .0
 
 same-length-2 : tie.Need-same-length-2
-same-length-2 c = c .before .before .before .before .before .before .before .before .before .before .before .before .before .before .before .before .before .before .before .before .before .before .before .build .kept .1 .1 .1 .1 .0
+same-length-2 c =
+    let at-build = c .before .before .before .before .before .before .before .before .before .before .before .before .before .before .before .before .before .before .before .before .before .before .before in
+    at-build .build .kept .1 .1 .1 .1 .0
 
 same-length-3 : tie.Need-same-length-3
 same-length-3 c = c .before .before .before .before .before .before .before .before .finish .kept .1 .1 .1 .1 .1 .1 .1 .1 .0
@@ -48,13 +54,19 @@ same-length-5 : tie.Need-same-length-5
 same-length-5 c = c .before .before .before .before .before .before .before .before .finish .kept .1 .1 .1 .1 .1 .1 .1 .1 .1 .1 .0
 
 same-length-6 : tie.Need-same-length-6
-same-length-6 c = c .before .before .before .before .before .before .before .before .before .before .before .before .before .before .before .before .before .before .before .before .before .before .before .build .kept .1 .1 .1 .1 .1 .0
+same-length-6 c =
+    let at-build = c .before .before .before .before .before .before .before .before .before .before .before .before .before .before .before .before .before .before .before .before .before .before .before in
+    at-build .build .kept .1 .1 .1 .1 .1 .0
 
 returns : tie.Need-returns
 returns c =
-    let whole = c .before .before .before .before .before .before .before .before .before .before .before .before .before .before .before .before .before .before .before .before .before .before .before .build in
-    let last = c .before .before .before .before .before .before .before .before .finish in
-    fills (c .before .before .before .before .before .before .before .before .before .before .before .before .before .before .before .before .before .before .before .before .before .before .before .before .before .before .before .before .before .before .before .before .before .before .before .before .before .before .before .pre) (whole .ensures) (last .ensures) (whole .kept .1 .1 .1 .1 .0) (last .kept .1 .1 .1 .1 .1 .1 .1 .1 .1 .0) (last .kept .1 .1 .1 .1 .1 .1 .1 .1 .1 .1 .0)
+    let at-finish = c .before .before .before .before .before .before .before .before in
+    let at-build = at-finish .before .before .before .before .before .before .before .before .before .before .before .before .before .before .before in
+    let at-pre = at-build .before .before .before .before .before .before .before .before .before .before .before .before .before .before .before .before in
+    let whole = at-build .build in
+    let last = at-finish .finish in
+    fills (at-pre .pre) (whole .ensures) (last .ensures) (whole .kept .1 .1 .1 .1 .0) (last .kept .1 .1 .1 .1 .1 .1 .1 .1 .1 .0)
+    (last .kept .1 .1 .1 .1 .1 .1 .1 .1 .1 .1 .0)
 
 pub fill-large-spec : {M : Type 1} → statement M
 fill-large-spec =

@@ -15,7 +15,7 @@ use mathlib.Core.Bool.{true≢false}
 use Rattle.compile_parts.specs.declared.Filled.{Filled}
 use Rattle.compiler.proofs.Filled.{finish-asks, filled}
 use Rattle.compiler.proofs.Owned.{owns-small}
-use Rattle.compiler.proofs.AsLong.{as-long, cleared-again}
+use Rattle.compiler.proofs.Cleared.{as-long, cleared-again}
 
 is-small-requires : tie.Need-is-small-requires
 is-small-requires c κs = search needs
@@ -37,8 +37,12 @@ slice-aggregate-build-3 c = search needs
 
 build-requires : tie.Need-build-requires
 build-requires c κs =
-    let small = c .before .before .before .before .before .before .is-small .ensures in
-    owns-small (c .before .before .before .before .before .before .before .before .before .before .before .before .before .before .before .before .before .pre) (small .few-effects (not-false (c .before .before .before .before .before .before .is-small .result) (c .before .before .before .before .before .if1 .left))) (small .few-variables (not-false (c .before .before .before .before .before .before .is-small .result) (c .before .before .before .before .before .if1 .left)))
+    let at-if1 = c .before .before .before .before .before in
+    let at-is-small = at-if1 .before in
+    let at-pre = at-is-small .before .before .before .before .before .before .before .before .before .before .before in
+    let small = at-is-small .is-small .ensures in
+    owns-small (at-pre .pre) (small .few-effects (not-false (at-is-small .is-small .result) (at-if1 .if1 .left)))
+    (small .few-variables (not-false (at-is-small .is-small .result) (at-if1 .if1 .left)))
 
 slice-aggregate-finish : tie.Need-slice-aggregate-finish
 slice-aggregate-finish c = search needs
@@ -48,8 +52,10 @@ slice-aggregate-finish-2 c = search needs
 
 finish-requires : tie.Need-finish-requires
 finish-requires c κs =
-    let whole = c .before .before .before .before .before .before .before .before .before .before .before .before .before .before .build in
-    finish-asks (c .before .before .before .before .before .before .before .before .before .before .before .before .before .before .before .before .before .before .before .before .before .before .before .before .before .before .before .before .before .before .before .before .pre .begins) (whole .ensures) (whole .kept .1 .1 .1 .1 .1 .1 .1 .1 .0)
+    let at-build = c .before .before .before .before .before .before .before .before .before .before .before .before .before .before in
+    let at-pre = at-build .before .before .before .before .before .before .before .before .before .before .before .before .before .before .before .before .before .before in
+    let whole = at-build .build in
+    finish-asks (at-pre .pre .begins) (whole .ensures) (whole .kept .1 .1 .1 .1 .1 .1 .1 .1 .0)
 
 clear-all-requires : tie.Need-clear-all-requires
 clear-all-requires c κs = search needs
@@ -58,38 +64,63 @@ no-room-requires-2 : tie.Need-no-room-requires-2
 no-room-requires-2 c κs = search needs
 
 same-length : tie.Need-same-length
-same-length c = c .before .before .before .before .before .before .before .before .before .before .before .before .before .clear-all .kept .0 ∙ c .before .before .before .before .before .before .before .before .before .before .before .before .before .before .before .before .before .before .before .before .before .before .before .before .before .before .before .before .before .finish .kept .1 .1 .1 .1 .1 .1 .1 .0
+same-length c =
+    let at-clear-all = c .before .before .before .before .before .before .before .before .before .before .before .before .before in
+    let at-finish = at-clear-all .before .before .before .before .before .before .before .before .before .before .before .before .before .before .before .before in
+    at-clear-all .clear-all .kept .0 ∙ at-finish .finish .kept .1 .1 .1 .1 .1 .1 .1 .0
 
 same-length-2 : tie.Need-same-length-2
-same-length-2 c = c .before .before .before .before .before .before .before .before .before .before .before .before .before .clear-all .kept .1 .0 ∙ c .before .before .before .before .before .before .before .before .before .before .before .before .before .before .before .before .before .before .before .before .before .before .before .before .before .before .before .before .before .before .before .before .before .before .before .before .before .before .before .before .before .before .before .before .build .kept .1 .1 .1 .1 .0
+same-length-2 c =
+    let at-clear-all = c .before .before .before .before .before .before .before .before .before .before .before .before .before in
+    let at-build = at-clear-all .before .before .before .before .before .before .before .before .before .before .before .before .before .before .before .before .before .before .before .before .before .before .before .before .before .before .before .before .before .before .before in
+    at-clear-all .clear-all .kept .1 .0 ∙ at-build .build .kept .1 .1 .1 .1 .0
 
 same-length-3 : tie.Need-same-length-3
-same-length-3 c = c .before .before .before .before .before .before .before .before .before .before .before .before .before .clear-all .kept .1 .1 .0 ∙ c .before .before .before .before .before .before .before .before .before .before .before .before .before .before .before .before .before .before .before .before .before .before .before .before .before .before .before .before .before .finish .kept .1 .1 .1 .1 .1 .1 .1 .1 .0
+same-length-3 c =
+    let at-clear-all = c .before .before .before .before .before .before .before .before .before .before .before .before .before in
+    let at-finish = at-clear-all .before .before .before .before .before .before .before .before .before .before .before .before .before .before .before .before in
+    at-clear-all .clear-all .kept .1 .1 .0 ∙ at-finish .finish .kept .1 .1 .1 .1 .1 .1 .1 .1 .0
 
 same-length-4 : tie.Need-same-length-4
-same-length-4 c = c .before .before .before .before .before .before .before .before .before .before .before .before .before .clear-all .kept .1 .1 .1 .0 ∙ c .before .before .before .before .before .before .before .before .before .before .before .before .before .before .before .before .before .before .before .before .before .before .before .before .before .before .before .before .before .finish .kept .1 .1 .1 .1 .1 .1 .1 .1 .1 .0
+same-length-4 c =
+    let at-clear-all = c .before .before .before .before .before .before .before .before .before .before .before .before .before in
+    let at-finish = at-clear-all .before .before .before .before .before .before .before .before .before .before .before .before .before .before .before .before in
+    at-clear-all .clear-all .kept .1 .1 .1 .0 ∙ at-finish .finish .kept .1 .1 .1 .1 .1 .1 .1 .1 .1 .0
 
 same-length-5 : tie.Need-same-length-5
-same-length-5 c = c .before .before .before .before .before .before .before .before .before .before .before .before .before .clear-all .kept .1 .1 .1 .1 .0 ∙ c .before .before .before .before .before .before .before .before .before .before .before .before .before .before .before .before .before .before .before .before .before .before .before .before .before .before .before .before .before .finish .kept .1 .1 .1 .1 .1 .1 .1 .1 .1 .1 .0
+same-length-5 c =
+    let at-clear-all = c .before .before .before .before .before .before .before .before .before .before .before .before .before in
+    let at-finish = at-clear-all .before .before .before .before .before .before .before .before .before .before .before .before .before .before .before .before in
+    at-clear-all .clear-all .kept .1 .1 .1 .1 .0 ∙ at-finish .finish .kept .1 .1 .1 .1 .1 .1 .1 .1 .1 .1 .0
 
 same-length-6 : tie.Need-same-length-6
-same-length-6 c = c .before .before .before .before .before .before .before .before .before .before .before .before .before .clear-all .kept .1 .1 .1 .1 .1 .0 ∙ c .before .before .before .before .before .before .before .before .before .before .before .before .before .before .before .before .before .before .before .before .before .before .before .before .before .before .before .before .before .before .before .before .before .before .before .before .before .before .before .before .before .before .before .before .build .kept .1 .1 .1 .1 .1 .0
+same-length-6 c =
+    let at-clear-all = c .before .before .before .before .before .before .before .before .before .before .before .before .before in
+    let at-build = at-clear-all .before .before .before .before .before .before .before .before .before .before .before .before .before .before .before .before .before .before .before .before .before .before .before .before .before .before .before .before .before .before .before in
+    at-clear-all .clear-all .kept .1 .1 .1 .1 .1 .0 ∙ at-build .build .kept .1 .1 .1 .1 .1 .0
 
 returns-2 : tie.Need-returns-2
 returns-2 c =
-    let whole = c .before .before .before .before .before .before .before .before .before .before .before .before .before .before .before .before .before .before .before .before .before .before .before .before .before .before .before .before .before .before .before .before .before .before .before .before .before .before .before .before .before .before .before .before .build in
-    let last = c .before .before .before .before .before .before .before .before .before .before .before .before .before .before .before .before .before .before .before .before .before .before .before .before .before .before .before .before .before .finish in
-    let long = as-long (last .kept .1 .1 .1 .1 .1 .1 .1 .0) (whole .kept .1 .1 .1 .1 .0) (last .kept .1 .1 .1 .1 .1 .1 .1 .1 .0) (last .kept .1 .1 .1 .1 .1 .1 .1 .1 .1 .0) (last .kept .1 .1 .1 .1 .1 .1 .1 .1 .1 .1 .0) (whole .kept .1 .1 .1 .1 .1 .0) in
+    let at-clear-all = c .before .before .before .before .before .before .before .before .before .before .before .before .before in
+    let at-finish = at-clear-all .before .before .before .before .before .before .before .before .before .before .before .before .before .before .before .before in
+    let at-build = at-finish .before .before .before .before .before .before .before .before .before .before .before .before .before .before .before in
+    let at-pre = at-build .before .before .before .before .before .before .before .before .before .before .before .before .before .before .before .before .before .before in
+    let whole = at-build .build in
+    let last = at-finish .finish in
+    let long = as-long (last .kept .1 .1 .1 .1 .1 .1 .1 .0) (whole .kept .1 .1 .1 .1 .0) (last .kept .1 .1 .1 .1 .1 .1 .1 .1 .0)
+    (last .kept .1 .1 .1 .1 .1 .1 .1 .1 .1 .0) (last .kept .1 .1 .1 .1 .1 .1 .1 .1 .1 .1 .0) (whole .kept .1 .1 .1 .1 .1 .0) in
     record {
       done = λ q. absurd (true≢false (sym (ap (λ (r : Filled). r .full) (c .no-room2 .ensures)) ∙ q));
-      over = λ _. cleared-again (c .before .before .before .before .before .before .before .before .before .before .before .before .before .before .before .before .before .before .before .before .before .before .before .before .before .before .before .before .before .before .before .before .before .before .before .before .before .before .before .before .before .before .before .before .before .before .before .before .before .before .before .before .before .before .before .before .before .before .before .before .before .before .pre .begins .blank) long (c .before .before .before .before .before .before .before .before .before .before .before .before .before .clear-all .ensures);
+      over = λ _. cleared-again (at-pre .pre .begins .blank) long (at-clear-all .clear-all .ensures);
     }
 
 same-length-7 : tie.Need-same-length-7
 same-length-7 c = c .before .before .before .before .before .before .before .before .before .finish .kept .1 .1 .1 .1 .1 .1 .1 .0
 
 same-length-8 : tie.Need-same-length-8
-same-length-8 c = c .before .before .before .before .before .before .before .before .before .before .before .before .before .before .before .before .before .before .before .before .before .before .before .before .build .kept .1 .1 .1 .1 .0
+same-length-8 c =
+    let at-build = c .before .before .before .before .before .before .before .before .before .before .before .before .before .before .before .before .before .before .before .before .before .before .before .before in
+    at-build .build .kept .1 .1 .1 .1 .0
 
 same-length-9 : tie.Need-same-length-9
 same-length-9 c = c .before .before .before .before .before .before .before .before .before .finish .kept .1 .1 .1 .1 .1 .1 .1 .1 .0
@@ -101,14 +132,20 @@ same-length-11 : tie.Need-same-length-11
 same-length-11 c = c .before .before .before .before .before .before .before .before .before .finish .kept .1 .1 .1 .1 .1 .1 .1 .1 .1 .1 .0
 
 same-length-12 : tie.Need-same-length-12
-same-length-12 c = c .before .before .before .before .before .before .before .before .before .before .before .before .before .before .before .before .before .before .before .before .before .before .before .before .build .kept .1 .1 .1 .1 .1 .0
+same-length-12 c =
+    let at-build = c .before .before .before .before .before .before .before .before .before .before .before .before .before .before .before .before .before .before .before .before .before .before .before .before in
+    at-build .build .kept .1 .1 .1 .1 .1 .0
 
 returns-3 : tie.Need-returns-3
 returns-3 c =
-    let whole = c .before .before .before .before .before .before .before .before .before .before .before .before .before .before .before .before .before .before .before .before .before .before .before .before .build in
-    let last = c .before .before .before .before .before .before .before .before .before .finish in
+    let at-finish = c .before .before .before .before .before .before .before .before .before in
+    let at-build = at-finish .before .before .before .before .before .before .before .before .before .before .before .before .before .before .before in
+    let at-pre = at-build .before .before .before .before .before .before .before .before .before .before .before .before .before .before .before .before .before .before in
+    let whole = at-build .build in
+    let last = at-finish .finish in
     record {
-      done = filled (c .before .before .before .before .before .before .before .before .before .before .before .before .before .before .before .before .before .before .before .before .before .before .before .before .before .before .before .before .before .before .before .before .before .before .before .before .before .before .before .before .before .before .pre .begins) (whole .ensures) (last .ensures) (whole .kept .1 .1 .1 .1 .0) (last .kept .1 .1 .1 .1 .1 .1 .1 .1 .1 .0) (last .kept .1 .1 .1 .1 .1 .1 .1 .1 .1 .1 .0);
+      done = filled (at-pre .pre .begins) (whole .ensures) (last .ensures) (whole .kept .1 .1 .1 .1 .0) (last .kept .1 .1 .1 .1 .1 .1 .1 .1 .1 .0)
+          (last .kept .1 .1 .1 .1 .1 .1 .1 .1 .1 .1 .0);
       over = λ q. absurd (true≢false (sym q ∙ c .if2 .left));
     }
 

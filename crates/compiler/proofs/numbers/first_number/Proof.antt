@@ -43,20 +43,29 @@ add-if3 c = search needs
 
 returns-3 : tie.Need-returns-3
 returns-3 c =
-    let a = c .before .before .before .before .before .before .before .before .before .before .before .before .before .args in
+    let at-if2 = c .before .before .before .before in
+    let at-if1 = at-if2 .before .before in
+    let at-check = at-if1 .before in
+    let at-args = at-check .before .before .before .before .before .before in
+    let a = at-args .args in
     let l = lent (a .head) (a .initial .now) (a .twins .now) (a .formulas .now) (a .effects .now) (a .operators .now) in
-    let passes = sym (c .before .before .before .before .before .before .before .check .ensures) ∙ c .before .before .before .before .before .before .if1 .left in
-    short-scratch l (room-by (a .lengths)) passes (c .before .before .before .before .if2 .left) (c .if3 .taken)
+    let passes = sym (at-check .check .ensures) ∙ at-if1 .if1 .left in
+    short-scratch l (room-by (a .lengths)) passes (at-if2 .if2 .left) (c .if3 .taken)
 
 cast-if4 : tie.Need-cast-if4
 cast-if4 c = search needs
 
 returns-4 : tie.Need-returns-4
 returns-4 c =
-    let a = c .before .before .before .before .before .before .before .before .before .before .before .before .before .before .before .before .args in
+    let at-if3 = c .before .before .before in
+    let at-if2 = at-if3 .before .before .before .before in
+    let at-if1 = at-if2 .before .before in
+    let at-check = at-if1 .before in
+    let at-args = at-check .before .before .before .before .before .before in
+    let a = at-args .args in
     let l = lent (a .head) (a .initial .now) (a .twins .now) (a .formulas .now) (a .effects .now) (a .operators .now) in
-    let passes = sym (c .before .before .before .before .before .before .before .before .before .before .check .ensures) ∙ c .before .before .before .before .before .before .before .before .before .if1 .left in
-    short-initial l (room-by (a .lengths)) passes (c .before .before .before .before .before .before .before .if2 .left) (c .before .before .before .if3 .left) (c .if4 .taken)
+    let passes = sym (at-check .check .ensures) ∙ at-if1 .if1 .left in
+    short-initial l (room-by (a .lengths)) passes (at-if2 .if2 .left) (at-if3 .if3 .left) (c .if4 .taken)
 
 cast-if5 : tie.Need-cast-if5
 cast-if5 c = search needs
@@ -66,24 +75,40 @@ mul-if5 c = search needs
 
 returns-5 : tie.Need-returns-5
 returns-5 c =
-    let a = c .before .before .before .before .before .before .before .before .before .before .before .before .before .before .before .before .before .before .before .args in
+    let at-if3 = c .before .before .before .before .before .before in
+    let at-if2 = at-if3 .before .before .before .before in
+    let at-if1 = at-if2 .before .before in
+    let at-check = at-if1 .before in
+    let at-args = at-check .before .before .before .before .before .before in
+    let a = at-args .args in
     let l = lent (a .head) (a .initial .now) (a .twins .now) (a .formulas .now) (a .effects .now) (a .operators .now) in
-    let passes = sym (c .before .before .before .before .before .before .before .before .before .before .before .before .before .check .ensures) ∙ c .before .before .before .before .before .before .before .before .before .before .before .before .if1 .left in
-    short-operators l (room-by (a .lengths)) passes (c .before .before .before .before .before .before .before .before .before .before .if2 .left) (c .before .before .before .before .before .before .if3 .left) (c .if5 .taken)
+    let passes = sym (at-check .check .ensures) ∙ at-if1 .if1 .left in
+    short-operators l (room-by (a .lengths)) passes (at-if2 .if2 .left) (at-if3 .if3 .left) (c .if5 .taken)
 
 returns-6 : tie.Need-returns-6
 returns-6 c =
-    let a = c .before .before .before .before .before .before .before .before .before .before .before .before .before .before .before .before .before .before .before .before .before .args in
+    let at-if3 = c .before .before .before .before .before .before .before .before in
+    let at-if2 = at-if3 .before .before .before .before in
+    let at-if1 = at-if2 .before .before in
+    let at-check = at-if1 .before in
+    let at-args = at-check .before .before .before .before .before .before in
+    let a = at-args .args in
     let l = lent (a .head) (a .initial .now) (a .twins .now) (a .formulas .now) (a .effects .now) (a .operators .now) in
-    let passes = sym (c .before .before .before .before .before .before .before .before .before .before .before .before .before .before .before .check .ensures) ∙ c .before .before .before .before .before .before .before .before .before .before .before .before .before .before .if1 .left in
-    short-effects l (room-by (a .lengths)) passes (c .before .before .before .before .before .before .before .before .before .before .before .before .if2 .left) (c .before .before .before .before .before .before .before .before .if3 .left) (c .if6 .taken)
+    let passes = sym (at-check .check .ensures) ∙ at-if1 .if1 .left in
+    short-effects l (room-by (a .lengths)) passes (at-if2 .if2 .left) (at-if3 .if3 .left) (c .if6 .taken)
 
 returns-7 : tie.Need-returns-7
 returns-7 c =
-    let a = c .before .before .before .before .before .before .before .before .before .before .before .before .before .before .before .before .before .before .before .before .before .args in
+    let at-if4 = c .before .before .before .before .before in
+    let at-if3 = at-if4 .before .before .before in
+    let at-if2 = at-if3 .before .before .before .before in
+    let at-if1 = at-if2 .before .before in
+    let at-check = at-if1 .before in
+    let at-args = at-check .before .before .before .before .before .before in
+    let a = at-args .args in
     let l = lent (a .head) (a .initial .now) (a .twins .now) (a .formulas .now) (a .effects .now) (a .operators .now) in
-    let passes = sym (c .before .before .before .before .before .before .before .before .before .before .before .before .before .before .before .check .ensures) ∙ c .before .before .before .before .before .before .before .before .before .before .before .before .before .before .if1 .left in
-    no-number l (room-by (a .lengths)) passes (c .before .before .before .before .before .before .before .before .before .before .before .before .if2 .left) (c .before .before .before .before .before .before .before .before .if3 .left) (c .before .before .before .before .before .if4 .left) (c .before .before .if5 .left) (c .if6 .left)
+    let passes = sym (at-check .check .ensures) ∙ at-if1 .if1 .left in
+    no-number l (room-by (a .lengths)) passes (at-if2 .if2 .left) (at-if3 .if3 .left) (at-if4 .if4 .left) (c .before .before .if5 .left) (c .if6 .left)
 
 pub first-number-spec : {M : Type 1} → statement M
 first-number-spec =
