@@ -12,7 +12,7 @@ use Rattle.task.specs.Words.{words-of, operator-words, head-of, padded}
 use Rattle.task.proofs.Bounded.{length-upto}
 use Rattle.task.proofs.Held.{length-formulas, length-operators, initial-held}
 use Rattle.task.proofs.Trees.{rules-formulas, rules-effects}
-use Rattle.normal_form.specs.Builder.{St, start}
+use Rattle.normal_form.specs.Builder.{St}
 use Rattle.normal_form.specs.Finished.{built, assembled, twin-values, finished}
 use Rattle.normal_form.specs.Compiled.{Fits}
 use Rattle.normal_form.specs.Inner.Allowed.{Allows}
@@ -25,7 +25,7 @@ use Rattle.normal_form.proofs.ShapeFinished.{finished-operators}
 use Rattle.formula_builder.specs.declared.Step.{Step}
 use Rattle.formula_builder.specs.Inner.Held.{Store, held, size-of, Ready, Within}
 use Rattle.atom_sets.specs.Inner.Sets.{sets-end}
-use Rattle.building.specs.Inner.Taken.{Blank, whole-built, Whole, FromStart}
+use Rattle.building.specs.Inner.Taken.{Blank, Whole, FromStart}
 use Rattle.assembling.specs.Inner.Assembles.{Holding}
 use Rattle.compile_parts.specs.declared.Filled.{Filled}
 use Rattle.compile_parts.specs.Inner.Builds.{Builds}
@@ -287,7 +287,7 @@ module _ {g : Counted} {x : Tables} (b : Begins g x) where
           → Holds (lent-of g) x (tables (y .values) (mid .originals) (y .table) (y .effects) (y .operators) memo2) z
       filled i e o q = it-holds (k .done q .whole) (k .done q) i e o
 
-      pub misfits : Allows (g .frame .variables) (room-of x) (g .frame .rows) (g .frame .twins) (g .room) → z .full ≡ true → Fits (finished (task-of (lent-of g))) (room-of x) → ⊥
+      misfits : Allows (g .frame .variables) (room-of x) (g .frame .rows) (g .frame .twins) (g .room) → z .full ≡ true → Fits (finished (task-of (lent-of g))) (room-of x) → ⊥
       misfits a q fit = go (r .full) refl
         where
           few : length (assembled (task-of (lent-of g)) .effects) ≤ g .room

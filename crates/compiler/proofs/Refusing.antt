@@ -14,7 +14,7 @@ use Rattle.normal_form.proofs.Compiled.{by-tables, by-twins, by-scratch, by-roo
 use Rattle.normal_form.proofs.ShapeAssembled.{assemble-effects}
 use Rattle.normal_form.proofs.ShapeFinished.{finished-operators}
 use Rattle.normal_form.proofs.ShapePassed.{finished-variables}
-use Rattle.compiler.specs.Inner.Numbers.{Passed, Numbered}
+use Rattle.compiler.specs.Inner.Numbers.{Numbered}
 use Rattle.compiler.proofs.Source.{its-variables}
 
 module _ (l : Lent) (room : Room) where

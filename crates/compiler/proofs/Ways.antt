@@ -1,18 +1,17 @@
 -- From the numbers to filling, and the ways out of compiling. Assumes nothing.
 use Prim.Native.Nat.{ℕ, _+_, _/_, _≤_}
 use native.Mathlib.Omega.{arith}
-use mathlib.Core.Path.{_≡_, refl, sym, ap, _∙_}
+use mathlib.Core.Path.{_≡_, sym, ap, _∙_}
 use mathlib.Core.Bool.{true, false}
 use mathlib.Core.List.{List, []}
 use lib.ListN.{length, take, replicate}
 use Rattle.task.specs.declared.Head.{Head}
 use Rattle.task.specs.Table.{Lent, lent, task-of}
 use Rattle.task.specs.Check.{refusal}
-use Rattle.task.specs.Rules.{Checked}
 use Rattle.task.specs.Words.{head-of}
 use Rattle.task.proofs.Kept.{kept-rules, rules-kept}
 use Rattle.normal_form.specs.Finished.{finished}
-use Rattle.normal_form.specs.Compiled.{Room, Fits, nothing-given, task-given, compiling, not-compiled, compiled-head}
+use Rattle.normal_form.specs.Compiled.{nothing-given, task-given, compiling, not-compiled, compiled-head}
 use Rattle.normal_form.proofs.Compiled.{by-room, succeeds}
 use Rattle.compile_parts.specs.declared.Counts.{Counts}
 use Rattle.compile_parts.specs.declared.Filled.{Filled}
@@ -22,7 +21,7 @@ use Rattle.compiler.specs.Left.{compile-left}
 use Rattle.compiler.specs.Tables.{Tables, tables, room-of}
 use Rattle.compiler.specs.Inner.Sizes.{Least, MostTwins, counts-by, CountsOf}
 use Rattle.compiler.specs.Inner.Numbers.{Passed}
-use Rattle.compiler.specs.Inner.Fills.{Blanked, counted, lent-of, Roomy, head-after, Holds, Fills}
+use Rattle.compiler.specs.Inner.Fills.{Blanked, counted, Roomy, head-after, Holds, Fills}
 use Rattle.compiler.proofs.Cleared.{same-room}
 
 -- a source, without its twins

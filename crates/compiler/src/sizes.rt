@@ -11,7 +11,6 @@ use crate::layout::SMALL_VARIABLES;
 use compile_parts::Counts;
 use formula_builder::Frame;
 use task::Head;
-ghost use mathlib.Core.Path.{_≡_};
 ghost use Prim.Native.Nat.{_≤_};
 ghost use Rattle.compiler.specs.Inner.Sizes.{Least, MostTwins, CountsOf, Fewer, Small};
 
