@@ -3,7 +3,7 @@ use Prim.Native.Nat.{ℕ, _+_, _≤_, _<_}
 use native.Mathlib.Omega.{arith}
 use native.Mathlib.Numerals.{add-one}
 use mathlib.Core.Path.{_≡_, refl, sym, ap, _∙_}
-use mathlib.Core.Bool.{true, false, true≢false}
+use mathlib.Core.Bool.{Bool, true, false, true≢false}
 use mathlib.Core.List.{List, []}
 use lib.ListN.{length}
 use Rattle.task.specs.Table.{operator-at}
@@ -14,7 +14,7 @@ use Rattle.formula_builder.specs.declared.Step.{Step}
 use Rattle.formula_builder.specs.Inner.Index.{FirstTwo}
 use Rattle.formula_builder.specs.Inner.Held.{Store, store, held, twin-word, TwinsNamed, Within}
 use Rattle.formula_builder.proofs.Steps.{within-before}
-use Rattle.images.specs.Inner.Images.{image-at, memo-place, Images, Asks}
+use Rattle.images.specs.Inner.Images.{image-at, memo-place, Images}
 use Rattle.images.proofs.Memos.{steady-image-at}
 use Rattle.changes.specs.Inner.Stands.{Leaves}
 use Rattle.conditions.proofs.Memos.{effect-memo-blank}
@@ -24,7 +24,7 @@ use Rattle.operators.specs.declared.Tally.{Tally}
 use Rattle.operators.specs.Inner.Operator.{operator-built, operators-built, operator-here, BuildsOperator, OperatorWalked}
 use Rattle.operators.proofs.InOrder.{more-grows}
 use Rattle.building.specs.declared.Progress.{Progress}
-use Rattle.building.specs.Inner.Taken.{size-at, stopped, Fresh, Started, Begun, Blank, Stood, precondition-here, changes-here, many, Taken, Takes, Took, whole-built, FromStart}
+use Rattle.building.specs.Inner.Taken.{size-at, stopped, Fresh, Started, Begun, Blank, Stood, precondition-here, changes-here, many, AllKept, Taken, Takes, Took, TakesGoal, TookGoal, whole-built, FromStart}
 use Rattle.building.proofs.Kept.{many-more, none-kept, one-kept}
 
 abbrev pub begun : Progress
@@ -265,7 +265,18 @@ module _ (frame : Frame) (formulas effects operators : List ℕ) where
 
   -- The goal, behind all operators.
   module _ {s : Store} {scratch records : List ℕ} {p : Progress} (count goal : ℕ) (all : p .operators ≡ count) (t : Taken frame formulas effects operators s scratch records p) where
-    pub operators-full :
+    before : p .full ≡ false → operators-built frame formulas effects operators count start .st ≡ held (size-at p) s
+    before q = ap (λ (n : ℕ). operators-built frame formulas effects operators n start .st) (sym all) ∙ t .done q .state
+
+    pub goal-asks : goal < frame .formulas → TakesGoal frame formulas goal s scratch p
+    goal-asks h =
+        record {
+          asks = λ q.
+              let k = t .done q .stands in
+              record { source = k .source; ready = k .ready; memo = k .memo; formula = h };
+        }
+
+    operators-full :
         p .full ≡ true
         → Within frame (whole-built frame formulas effects operators count goal start .st)
         → many frame formulas effects operators count ≤ 2048
@@ -277,23 +288,17 @@ module _ (frame : Frame) (formulas effects operators : List ℕ) where
         (within-before (steady-image-at frame formulas plain goal .grow (operators-built frame formulas effects operators count start .st)) w))
         (rw all few)
 
-    module _ (q : p .full ≡ false) where
-      before : operators-built frame formulas effects operators count start .st ≡ held (size-at p) s
-      before = ap (λ (n : ℕ). operators-built frame formulas effects operators n start .st) (sym all) ∙ t .done q .state
+    all-kept : p .full ≡ false → AllKept frame formulas effects operators records count (many frame formulas effects operators count)
+    all-kept q = rw (t .kept q .count, all) at (t .kept q)
 
-      pub goal-asks : goal < frame .formulas → Asks frame formulas (size-at p) s scratch goal
-      goal-asks h =
-          let k = t .done q .stands in
-          record { source = k .source; ready = k .ready; memo = k .memo; formula = h }
-
-      pub goal-built :
-          {after : Store} {s2 : List ℕ} {z : Step}
+    module _ {after : Store} {s2 : List ℕ} {z : Step} (long : length s2 ≡ length scratch) where
+      goal-built :
+          p .full ≡ false
           → Images (image-at frame formulas plain goal) frame formulas (size-at p) s after scratch s2 z
-          → length s2 ≡ length scratch
-          → FromStart (whole-built frame formulas effects operators count goal) frame formulas effects after s2 z
+          → FromStart frame formulas effects operators count goal after s2 records z
       unfolding whole-built bind
-      goal-built y long =
-          let same = ap (image-at frame formulas plain goal) before in
+      goal-built q y =
+          let same = ap (image-at frame formulas plain goal) (before q) in
           record {
             done = λ g.
                 let d = y .builds .done g in
@@ -306,6 +311,18 @@ module _ (frame : Frame) (formulas effects operators : List ℕ) where
                             stands-next (t .done q .stands)
                             (makes-image (steady-image-at frame formulas plain goal) (t .done q .stands .effect-memo) y .reaches) g long;
                       };
+                  kept = all-kept q;
                 };
-            over = λ g w. y .builds .over g (rw (ap (λ (x : Got ℕ). x .st) same) at w);
+            over = λ g w _. y .builds .over g (rw (ap (λ (x : Got ℕ). x .st) same) at w);
           }
+
+      pub goal-taken : TookGoal frame formulas goal s after scratch s2 p z → FromStart frame formulas effects operators count goal after s2 records z
+      goal-taken y = go (p .full) refl
+        where
+          go : (b : Bool) → p .full ≡ b → FromStart frame formulas effects operators count goal after s2 records z
+          go false q = goal-built q (y .done q)
+          go true q =
+              record {
+                done = λ g. absurd (true≢false (sym (ap (λ (x : Step). x .full) (y .over q)) ∙ g));
+                over = λ _. operators-full q;
+              }

@@ -1,6 +1,8 @@
-// Building the formulas of a compiled task, in parts: begin, then one operator after another. The goal, built last, is an image.
+// Building the formulas of a compiled task, in parts: begin, then one operator after another, then the goal.
+mod goal;
 mod taking;
 
+pub use goal::take_goal;
 pub use taking::begin;
 pub use taking::take_operator;
 

@@ -1,1 +1,11 @@
+pub mod Copied
+pub mod Recalled
+pub mod Source
+pub mod Linked
+pub mod Filled
+pub mod Owned
+pub mod Lesser
+pub mod Cleared
+pub mod Refusing
 pub mod Ways
+pub mod Tried

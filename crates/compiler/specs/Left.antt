@@ -2,7 +2,7 @@
 use Rattle.normal_form.specs.Compiled.{Answer, compiled-head, not-compiled, CompileOutcome}
 use Rattle.compiler.specs.declared.CompileAnswer.{CompileAnswer}
 use Rattle.compiler.specs.declared.CompileAnswer.the-variants.{Compiled, Refused}
-pub use Rattle.lent_tables.specs.Tables.{Tables, tables, room-of}
+pub use Rattle.compiler.specs.Tables.{Tables, tables, room-of}
 
 abbrev pub answer-of : CompileAnswer → Answer
 answer-of (Compiled h) = compiled-head h

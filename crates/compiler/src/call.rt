@@ -1,9 +1,14 @@
 // The compiling call.
 use crate::CompileAnswer;
-use crate::checked::compile_checked;
-use lent_tables::clear_all;
+use crate::Lengths;
+use crate::clear::clear_all;
+use crate::frames::fill;
+use crate::heads::compiled_head;
+use crate::numbers::NO_ROOM;
+use crate::numbers::first_number;
+use crate::sizes::counts_of;
 use task::Head;
-use task::check::check;
+use task::clear::clear_words;
 ghost use mathlib.Core.Path.{_≡_};
 ghost use Rattle.task.specs.Table.{lent};
 ghost use Rattle.normal_form.specs.Compiled.{compiling};
@@ -30,20 +35,21 @@ pub fn compile(
     ensures { λ r. ⌜ compile-left r (tables (now (values .exit)) (now (originals .exit)) (now (table .exit)) (now (out .exit)) (now (written .exit)) (now (scratch .exit))) ≡ compiling (lent head (now (initial .entry)) (now (twins .entry)) (now (formulas .entry)) (now (effects .entry)) (now (operators .entry))) (room-of (tables (now (values .entry)) (now (originals .entry)) (now (table .entry)) (now (out .entry)) (now (written .entry)) (now (scratch .entry)))) ⌝ }
 {
     clear_all(values, originals, table, out, written, scratch);
-    let n = check(head, initial, twins, formulas, effects, operators);
+    let lengths = Lengths {
+        values: values.len(),
+        originals: originals.len(),
+        table: table.len(),
+        out: out.len(),
+        written: written.len(),
+        scratch: scratch.len(),
+    };
+    let n = first_number(head, initial, twins, formulas, effects, operators, lengths);
     if n != 0 {
         return CompileAnswer::Refused(n);
     }
-    if head.twins != 0 {
-        return CompileAnswer::Refused(13);
-    }
-    if scratch.len() < 2 * (head.formulas as usize) + 2 * (head.effects as usize) {
-        return CompileAnswer::Refused(14);
-    }
-    compile_checked(
-        head,
+    let p = fill(
+        counts_of(head, lengths),
         initial,
-        twins,
         formulas,
         effects,
         operators,
@@ -53,5 +59,11 @@ pub fn compile(
         out,
         written,
         scratch,
-    )
+    );
+    if p.full {
+        clear_all(values, originals, table, out, written, scratch);
+        return CompileAnswer::Refused(NO_ROOM);
+    }
+    clear_words(scratch);
+    CompileAnswer::Compiled(compiled_head(head, p))
 }

@@ -1,6 +1,11 @@
-// Compiling a task to positive normal form: the call, refusals and all, over the parts that fill lent tables.
+// Compiling a task to positive normal form: the call, with all its refusals, over tables that the caller lends and tables of its own frame.
 mod call;
-mod checked;
+mod clear;
+mod frames;
+mod heads;
+mod layout;
+mod numbers;
+mod sizes;
 
 pub use call::compile;
 use task::Head;
@@ -9,4 +14,14 @@ use task::Head;
 pub enum CompileAnswer {
     Compiled(Head),
     Refused(u16),
+}
+
+// How many bytes or words of each of the six lent tables there are.
+struct Lengths {
+    values: usize,
+    originals: usize,
+    table: usize,
+    out: usize,
+    written: usize,
+    scratch: usize,
 }

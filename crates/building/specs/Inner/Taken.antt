@@ -11,7 +11,7 @@ use Rattle.formula_builder.specs.declared.Frame.{Frame}
 use Rattle.formula_builder.specs.declared.Size.{Size}
 use Rattle.formula_builder.specs.declared.Step.{Step}
 use Rattle.formula_builder.specs.Inner.Held.{Store, store, held, size-of, RowsReady, TwinsNamed, Within}
-use Rattle.images.specs.Inner.Images.{image-at, Source}
+use Rattle.images.specs.Inner.Images.{image-at, Source, Asks, Images}
 use Rattle.conditions.specs.Inner.Conditions.{EffectSource}
 use Rattle.changes.specs.Inner.Stands.{Stands, Leaves}
 use Rattle.records.specs.Inner.Recorded.{acting, changes-from}
@@ -130,11 +130,26 @@ unfoldable pub whole-built : Frame → List ℕ → List ℕ → List ℕ → �
 whole-built frame formulas effects operators count goal =
     bind (operators-built frame formulas effects operators count) (λ _. image-at frame formulas plain goal)
 
--- All of it stands, the goal being the last row that was built or found; or there is no room for it.
-pub record Whole (m : Build ℕ) (frame : Frame) (formulas effects : List ℕ) (s : Store) (scratch : List ℕ) (r : Step) : Type 0 where
-  pub value : m start .value ≡ r .row
-  pub stood : Stood (m start .st) frame formulas effects (size-of r) s scratch
+-- Unless there is no room, the goal's image may be built.
+pub record TakesGoal (frame : Frame) (formulas : List ℕ) (goal : ℕ) (s : Store) (scratch : List ℕ) (p : Progress) : Type 0 where
+  pub asks : p .full ≡ false → Asks frame formulas (size-at p) s scratch goal
 
-pub record FromStart (m : Build ℕ) (frame : Frame) (formulas effects : List ℕ) (s : Store) (scratch : List ℕ) (r : Step) : Type 0 where
-  pub done : r .full ≡ false → Whole m frame formulas effects s scratch r
-  pub over : r .full ≡ true → Within frame (m start .st) → ⊥
+-- It is built, as `Images` says; without room nothing is, and the answer says so.
+pub record TookGoal (frame : Frame) (formulas : List ℕ) (goal : ℕ) (before after : Store) (scratch scratch' : List ℕ) (p : Progress) (r : Step) : Type 0 where
+  pub done : p .full ≡ false → Images (image-at frame formulas plain goal) frame formulas (size-at p) before after scratch scratch' r
+  pub over : p .full ≡ true → r ≡ record { rows = 0; twins = 0; row = 0; full = true }
+
+-- All of it stands, the goal being the last row that was built or found, and each operator is recorded.
+pub record Whole (frame : Frame) (formulas effects operators : List ℕ) (count goal : ℕ) (s : Store) (scratch records : List ℕ) (r : Step) : Type 0 where
+  pub value : whole-built frame formulas effects operators count goal start .value ≡ r .row
+  pub stood : Stood (whole-built frame formulas effects operators count goal start .st) frame formulas effects (size-of r) s scratch
+  pub kept : AllKept frame formulas effects operators records count (many frame formulas effects operators count)
+
+-- It does, or there is no room for it.
+pub record FromStart (frame : Frame) (formulas effects operators : List ℕ) (count goal : ℕ) (s : Store) (scratch records : List ℕ) (r : Step) : Type 0 where
+  pub done : r .full ≡ false → Whole frame formulas effects operators count goal s scratch records r
+  pub over :
+      r .full ≡ true
+      → Within frame (whole-built frame formulas effects operators count goal start .st)
+      → many frame formulas effects operators count ≤ 2048
+      → ⊥

@@ -1,133 +1,221 @@
--- `compile` meets its contract: the tables' own number, 13 for twins, 14 for short scratch, 15 for no room; or the compiled task, in values,
--- originals, table (formulas), out (effects) and written (operators). Assumes nothing.
+-- `compile` meets its contract: a number, with all tables 0, or the compiled task. Assumes nothing.
 use borrow.Author.Needs.{needs}
 use Rattle.compiler.proofs.call.compile.Statement.{statement}
 use Rattle.compiler.proofs.call.compile.Tie as tie
 use Rattle.compiler.proofs.call.compile.Reads as reads
 use Rattle.compiler.proofs.call.compile.Lts as lts
-use Rattle.compiler.proofs.checked.compile_checked.Reads as compile-checked-reads
-use Rattle.lent_tables.proofs.clear_all.Reads as clear-all-reads
-use Rattle.task.proofs.check.check.Reads as check-reads
-use mathlib.Core.Path.{sym, ap, _∙_}
+use Rattle.compiler.proofs.clear.clear_all.Reads as clear-all-reads
+use Rattle.compiler.proofs.numbers.first_number.Reads as first-number-reads
+use Rattle.compiler.proofs.sizes.counts_of.Reads as counts-of-reads
+use Rattle.compiler.proofs.frames.fill.Reads as fill-reads
+use Rattle.compiler.proofs.heads.compiled_head.Reads as compiled-head-reads
+use Rattle.task.proofs.clear.clear_words.Reads as clear-words-reads
+use Prim.Native.Nat.{ℕ}
+use mathlib.Core.Path.{ap, _∙_}
+use lib.ListN.{replicate}
 use Rattle.task.specs.Table.{lent}
 use Rattle.normal_form.specs.Compiled.{compiling}
-use Rattle.lent_tables.proofs.AsLong.{blanked-self, same-room}
-use Rattle.compiler.proofs.Ways.{refuses-tables, refuses-twins, refuses-scratch}
+use Rattle.compiler.proofs.Source.{few-variables}
+use Rattle.compiler.proofs.Cleared.{as-long, blanked-as, blanked-self, same-room}
+use Rattle.compiler.proofs.Ways.{refuses-first, roomy, filled-over, variables-fit, filled-done}
 
 clear-all-requires : tie.Need-clear-all-requires
 clear-all-requires c κs = search needs
 
-check-requires : tie.Need-check-requires
-check-requires c κs = search needs
+first-number-requires : tie.Need-first-number-requires
+first-number-requires c κs = search needs
 
 same-length : tie.Need-same-length
-same-length c = c .before .before .before .before .before .before .before .before .before .before .before .before .before .before .clear-all .kept .0
+same-length c =
+    let at-clear-all = c .before .before .before .before .before .before .before .before .before .before .before .before .before .before in
+    at-clear-all .clear-all .kept .0
 
 same-length-2 : tie.Need-same-length-2
-same-length-2 c = c .before .before .before .before .before .before .before .before .before .before .before .before .before .before .clear-all .kept .1 .0
+same-length-2 c =
+    let at-clear-all = c .before .before .before .before .before .before .before .before .before .before .before .before .before .before in
+    at-clear-all .clear-all .kept .1 .0
 
 same-length-3 : tie.Need-same-length-3
-same-length-3 c = c .before .before .before .before .before .before .before .before .before .before .before .before .before .before .clear-all .kept .1 .1 .0
+same-length-3 c =
+    let at-clear-all = c .before .before .before .before .before .before .before .before .before .before .before .before .before .before in
+    at-clear-all .clear-all .kept .1 .1 .0
 
 same-length-4 : tie.Need-same-length-4
-same-length-4 c = c .before .before .before .before .before .before .before .before .before .before .before .before .before .before .clear-all .kept .1 .1 .1 .0
+same-length-4 c =
+    let at-clear-all = c .before .before .before .before .before .before .before .before .before .before .before .before .before .before in
+    at-clear-all .clear-all .kept .1 .1 .1 .0
 
 same-length-5 : tie.Need-same-length-5
-same-length-5 c = c .before .before .before .before .before .before .before .before .before .before .before .before .before .before .clear-all .kept .1 .1 .1 .1 .0
+same-length-5 c =
+    let at-clear-all = c .before .before .before .before .before .before .before .before .before .before .before .before .before .before in
+    at-clear-all .clear-all .kept .1 .1 .1 .1 .0
 
 same-length-6 : tie.Need-same-length-6
-same-length-6 c = c .before .before .before .before .before .before .before .before .before .before .before .before .before .before .clear-all .kept .1 .1 .1 .1 .1 .0
+same-length-6 c =
+    let at-clear-all = c .before .before .before .before .before .before .before .before .before .before .before .before .before .before in
+    at-clear-all .clear-all .kept .1 .1 .1 .1 .1 .0
 
 returns : tie.Need-returns
-returns c = let s = c .before .before .before .before .before .before .before .before .before .before .before .before .before .before .before .before .before .before .before .before .before .before .before .before .before .before .before .before .before .before .before .before in refuses-tables (lent (s .args .head) (s .args .initial .now) (s .args .twins .now) (s .args .formulas .now) (s .args .effects .now) (s .args .operators .now)) (c .before .check .result) (c .before .check .ensures) (c .if1 .taken) (c .before .before .before .before .before .before .before .before .before .before .before .before .before .before .clear-all .ensures)
+returns c =
+    let at-clear-all = c .before .before .before .before .before .before .before .before .before .before .before .before .before .before in
+    let at-args = at-clear-all .before .before .before .before .before .before .before .before .before .before .before .before .before .before .before .before .before .before in
+    let a = at-args .args in
+    let l = lent (a .head) (a .initial .now) (a .twins .now) (a .formulas .now) (a .effects .now) (a .operators .now) in
+    refuses-first l (c .before .first-number .result) (c .before .first-number .ensures .refuses (c .if1 .taken)) (at-clear-all .clear-all .ensures)
+
+counts-of-requires : tie.Need-counts-of-requires
+counts-of-requires c κs =
+    let at-args = c .before .before .before .before .before .before .before .before .before .before .before .before .before .before .before .before .before .before .before .before .before .before .before .before .before .before .before .before .before .before .before .before in
+    let a = at-args .args in
+    let l = lent (a .head) (a .initial .now) (a .twins .now) (a .formulas .now) (a .effects .now) (a .operators .now) in
+    let passed = c .before .first-number .ensures .passed (c .if1 .left) in
+    (few-variables l (passed .passes), passed .initial)
+
+fill-requires : tie.Need-fill-requires
+fill-requires c κs =
+    let at-counts-of = c .before .before .before .before .before .before in
+    let at-if1 = at-counts-of .before in
+    let at-first-number = at-if1 .before in
+    let at-clear-all = at-first-number .before .before .before .before .before .before .before .before .before .before .before .before .before in
+    let passed = at-first-number .first-number .ensures .passed (at-if1 .if1 .left) in
+    roomy passed (at-counts-of .counts-of .ensures) (blanked-self (at-clear-all .clear-all .ensures))
+
+clear-all-requires-2 : tie.Need-clear-all-requires-2
+clear-all-requires-2 c κs = search needs
 
 same-length-7 : tie.Need-same-length-7
-same-length-7 c = c .before .before .before .before .before .before .before .before .before .before .before .before .before .before .before .before .clear-all .kept .0
+same-length-7 c =
+    let at-clear-all2 = c .before .before .before .before .before .before .before .before .before .before .before .before in
+    let at-fill = at-clear-all2 .before .before .before .before .before .before .before .before .before .before .before .before .before .before .before .before .before .before .before .before in
+    let at-clear-all = at-fill .before .before .before .before .before .before .before .before .before .before .before .before .before .before .before .before .before .before .before .before .before .before in
+    at-clear-all2 .clear-all2 .kept .0 ∙ at-fill .fill .kept .1 .1 .1 .1 .1 .0 ∙ at-clear-all .clear-all .kept .0
 
 same-length-8 : tie.Need-same-length-8
-same-length-8 c = c .before .before .before .before .before .before .before .before .before .before .before .before .before .before .before .before .clear-all .kept .1 .0
+same-length-8 c =
+    let at-clear-all2 = c .before .before .before .before .before .before .before .before .before .before .before .before in
+    let at-fill = at-clear-all2 .before .before .before .before .before .before .before .before .before .before .before .before .before .before .before .before .before .before .before .before in
+    let at-clear-all = at-fill .before .before .before .before .before .before .before .before .before .before .before .before .before .before .before .before .before .before .before .before .before .before in
+    at-clear-all2 .clear-all2 .kept .1 .0 ∙ at-fill .fill .kept .1 .1 .1 .1 .1 .1 .0 ∙ at-clear-all .clear-all .kept .1 .0
 
 same-length-9 : tie.Need-same-length-9
-same-length-9 c = c .before .before .before .before .before .before .before .before .before .before .before .before .before .before .before .before .clear-all .kept .1 .1 .0
+same-length-9 c =
+    let at-clear-all2 = c .before .before .before .before .before .before .before .before .before .before .before .before in
+    let at-fill = at-clear-all2 .before .before .before .before .before .before .before .before .before .before .before .before .before .before .before .before .before .before .before .before in
+    let at-clear-all = at-fill .before .before .before .before .before .before .before .before .before .before .before .before .before .before .before .before .before .before .before .before .before .before in
+    at-clear-all2 .clear-all2 .kept .1 .1 .0 ∙ at-fill .fill .kept .1 .1 .1 .1 .1 .1 .1 .0 ∙ at-clear-all .clear-all .kept .1 .1 .0
 
 same-length-10 : tie.Need-same-length-10
-same-length-10 c = c .before .before .before .before .before .before .before .before .before .before .before .before .before .before .before .before .clear-all .kept .1 .1 .1 .0
+same-length-10 c =
+    let at-clear-all2 = c .before .before .before .before .before .before .before .before .before .before .before .before in
+    let at-fill = at-clear-all2 .before .before .before .before .before .before .before .before .before .before .before .before .before .before .before .before .before .before .before .before in
+    let at-clear-all = at-fill .before .before .before .before .before .before .before .before .before .before .before .before .before .before .before .before .before .before .before .before .before .before in
+    at-clear-all2 .clear-all2 .kept .1 .1 .1 .0 ∙ at-fill .fill .kept .1 .1 .1 .1 .1 .1 .1 .1 .0 ∙ at-clear-all .clear-all .kept .1 .1 .1 .0
 
 same-length-11 : tie.Need-same-length-11
-same-length-11 c = c .before .before .before .before .before .before .before .before .before .before .before .before .before .before .before .before .clear-all .kept .1 .1 .1 .1 .0
+same-length-11 c =
+    let at-clear-all2 = c .before .before .before .before .before .before .before .before .before .before .before .before in
+    let at-fill = at-clear-all2 .before .before .before .before .before .before .before .before .before .before .before .before .before .before .before .before .before .before .before .before in
+    let at-clear-all = at-fill .before .before .before .before .before .before .before .before .before .before .before .before .before .before .before .before .before .before .before .before .before .before in
+    at-clear-all2 .clear-all2 .kept .1 .1 .1 .1 .0 ∙ at-fill .fill .kept .1 .1 .1 .1 .1 .1 .1 .1 .1 .0 ∙ at-clear-all .clear-all .kept .1 .1 .1 .1 .0
 
 same-length-12 : tie.Need-same-length-12
-same-length-12 c = c .before .before .before .before .before .before .before .before .before .before .before .before .before .before .before .before .clear-all .kept .1 .1 .1 .1 .1 .0
+same-length-12 c =
+    let at-clear-all2 = c .before .before .before .before .before .before .before .before .before .before .before .before in
+    let at-fill = at-clear-all2 .before .before .before .before .before .before .before .before .before .before .before .before .before .before .before .before .before .before .before .before in
+    let at-clear-all = at-fill .before .before .before .before .before .before .before .before .before .before .before .before .before .before .before .before .before .before .before .before .before .before in
+    at-clear-all2 .clear-all2 .kept .1 .1 .1 .1 .1 .0 ∙ at-fill .fill .kept .1 .1 .1 .1 .1 .1 .1 .1 .1 .1 .0 ∙ at-clear-all .clear-all .kept .1 .1 .1 .1 .1 .0
 
 returns-2 : tie.Need-returns-2
-returns-2 c = let s = c .before .before .before .before .before .before .before .before .before .before .before .before .before .before .before .before .before .before .before .before .before .before .before .before .before .before .before .before .before .before .before .before .before .before in refuses-twins (lent (s .args .head) (s .args .initial .now) (s .args .twins .now) (s .args .formulas .now) (s .args .effects .now) (s .args .operators .now)) (sym (c .before .before .before .check .ensures) ∙ c .before .before .if1 .left) (c .if2 .taken) (c .before .before .before .before .before .before .before .before .before .before .before .before .before .before .before .before .clear-all .ensures)
+returns-2 c =
+    let at-clear-all2 = c .before .before .before .before .before .before .before .before .before .before .before .before in
+    let at-if2 = at-clear-all2 .before .before .before .before .before .before .before in
+    let at-fill = at-if2 .before .before .before .before .before .before .before .before .before .before .before .before .before in
+    let at-counts-of = at-fill .before .before .before .before .before .before .before in
+    let at-if1 = at-counts-of .before in
+    let at-first-number = at-if1 .before in
+    let at-clear-all = at-first-number .before .before .before .before .before .before .before .before .before .before .before .before .before in
+    let at-args = at-clear-all .before .before .before .before .before .before .before .before .before .before .before .before .before .before .before .before .before .before in
+    let a = at-args .args in
+    let l = lent (a .head) (a .initial .now) (a .twins .now) (a .formulas .now) (a .effects .now) (a .operators .now) in
+    let passed = at-first-number .first-number .ensures .passed (at-if1 .if1 .left) in
+    let kept = at-fill .fill .kept .1 .1 .1 .1 .1 in
+    let long = as-long (kept .0) (kept .1 .0) (kept .1 .1 .0) (kept .1 .1 .1 .0) (kept .1 .1 .1 .1 .0) (kept .1 .1 .1 .1 .1 .0) in
+    filled-over passed (at-counts-of .counts-of .ensures) (at-fill .fill .ensures) (at-if2 .if2 .taken) (blanked-as long (at-clear-all2 .clear-all2 .ensures))
+    ∙ ap (compiling l) (same-room (at-clear-all .clear-all .ensures))
 
-cast-if3 : tie.Need-cast-if3
-cast-if3 c = search needs
+clear-words-requires : tie.Need-clear-words-requires
+clear-words-requires c κs = search needs
 
-mul-if3 : tie.Need-mul-if3
-mul-if3 c = search needs
-
-cast-if3-2 : tie.Need-cast-if3-2
-cast-if3-2 c = search needs
-
-mul-if3-2 : tie.Need-mul-if3-2
-mul-if3-2 c = search needs
-
-add-if3 : tie.Need-add-if3
-add-if3 c = search needs
+compiled-head-requires : tie.Need-compiled-head-requires
+compiled-head-requires c κs =
+    let at-if2 = c .before .before .before .before in
+    let at-fill = at-if2 .before .before .before .before .before .before .before .before .before .before .before .before .before in
+    let at-counts-of = at-fill .before .before .before .before .before .before .before in
+    let at-if1 = at-counts-of .before in
+    let at-first-number = at-if1 .before in
+    let passed = at-first-number .first-number .ensures .passed (at-if1 .if1 .left) in
+    variables-fit passed (at-counts-of .counts-of .ensures) (at-fill .fill .ensures) (at-if2 .if2 .left)
 
 same-length-13 : tie.Need-same-length-13
-same-length-13 c = c .before .before .before .before .before .before .before .before .before .before .before .before .before .before .before .before .before .before .before .clear-all .kept .0
+same-length-13 c =
+    let at-fill = c .before .before .before .before .before .before .before .before .before .before .before .before .before .before .before .before .before .before in
+    let at-clear-all = at-fill .before .before .before .before .before .before .before .before .before .before .before .before .before .before .before .before .before .before .before .before .before .before in
+    at-fill .fill .kept .1 .1 .1 .1 .1 .0 ∙ at-clear-all .clear-all .kept .0
 
 same-length-14 : tie.Need-same-length-14
-same-length-14 c = c .before .before .before .before .before .before .before .before .before .before .before .before .before .before .before .before .before .before .before .clear-all .kept .1 .0
+same-length-14 c =
+    let at-fill = c .before .before .before .before .before .before .before .before .before .before .before .before .before .before .before .before .before .before in
+    let at-clear-all = at-fill .before .before .before .before .before .before .before .before .before .before .before .before .before .before .before .before .before .before .before .before .before .before in
+    at-fill .fill .kept .1 .1 .1 .1 .1 .1 .0 ∙ at-clear-all .clear-all .kept .1 .0
 
 same-length-15 : tie.Need-same-length-15
-same-length-15 c = c .before .before .before .before .before .before .before .before .before .before .before .before .before .before .before .before .before .before .before .clear-all .kept .1 .1 .0
+same-length-15 c =
+    let at-fill = c .before .before .before .before .before .before .before .before .before .before .before .before .before .before .before .before .before .before in
+    let at-clear-all = at-fill .before .before .before .before .before .before .before .before .before .before .before .before .before .before .before .before .before .before .before .before .before .before in
+    at-fill .fill .kept .1 .1 .1 .1 .1 .1 .1 .0 ∙ at-clear-all .clear-all .kept .1 .1 .0
 
 same-length-16 : tie.Need-same-length-16
-same-length-16 c = c .before .before .before .before .before .before .before .before .before .before .before .before .before .before .before .before .before .before .before .clear-all .kept .1 .1 .1 .0
+same-length-16 c =
+    let at-fill = c .before .before .before .before .before .before .before .before .before .before .before .before .before .before .before .before .before .before in
+    let at-clear-all = at-fill .before .before .before .before .before .before .before .before .before .before .before .before .before .before .before .before .before .before .before .before .before .before in
+    at-fill .fill .kept .1 .1 .1 .1 .1 .1 .1 .1 .0 ∙ at-clear-all .clear-all .kept .1 .1 .1 .0
 
 same-length-17 : tie.Need-same-length-17
-same-length-17 c = c .before .before .before .before .before .before .before .before .before .before .before .before .before .before .before .before .before .before .before .clear-all .kept .1 .1 .1 .1 .0
+same-length-17 c =
+    let at-fill = c .before .before .before .before .before .before .before .before .before .before .before .before .before .before .before .before .before .before in
+    let at-clear-all = at-fill .before .before .before .before .before .before .before .before .before .before .before .before .before .before .before .before .before .before .before .before .before .before in
+    at-fill .fill .kept .1 .1 .1 .1 .1 .1 .1 .1 .1 .0 ∙ at-clear-all .clear-all .kept .1 .1 .1 .1 .0
 
 same-length-18 : tie.Need-same-length-18
-same-length-18 c = c .before .before .before .before .before .before .before .before .before .before .before .before .before .before .before .before .before .before .before .clear-all .kept .1 .1 .1 .1 .1 .0
+same-length-18 c =
+    let at-clear-words = c .before .before .before in
+    let at-fill = at-clear-words .before .before .before .before .before .before .before .before .before .before .before .before .before .before .before in
+    let at-clear-all = at-fill .before .before .before .before .before .before .before .before .before .before .before .before .before .before .before .before .before .before .before .before .before .before in
+    at-clear-words .clear-words .kept .0 ∙ at-fill .fill .kept .1 .1 .1 .1 .1 .1 .1 .1 .1 .1 .0 ∙ at-clear-all .clear-all .kept .1 .1 .1 .1 .1 .0
 
 returns-3 : tie.Need-returns-3
-returns-3 c = let s = c .before .before .before .before .before .before .before .before .before .before .before .before .before .before .before .before .before .before .before .before .before .before .before .before .before .before .before .before .before .before .before .before .before .before .before .before .before in refuses-scratch (lent (s .args .head) (s .args .initial .now) (s .args .twins .now) (s .args .formulas .now) (s .args .effects .now) (s .args .operators .now)) (sym (c .before .before .before .before .before .before .check .ensures) ∙ c .before .before .before .before .before .if1 .left) (c .before .before .before .if2 .left) (c .if3 .taken) (c .before .before .before .before .before .before .before .before .before .before .before .before .before .before .before .before .before .before .before .clear-all .ensures)
-
-compile-checked-requires : tie.Need-compile-checked-requires
-compile-checked-requires c κs = record { passes = sym (c .before .before .before .before .before .before .before .before .before .before .before .before .check .ensures) ∙ c .before .before .before .before .before .before .before .before .before .before .before .if1 .left; untwinned = c .before .before .before .before .before .before .before .before .before .if2 .left; memo = c .before .before .before .before .before .before .if3 .left; blank = blanked-self (c .before .before .before .before .before .before .before .before .before .before .before .before .before .before .before .before .before .before .before .before .before .before .before .before .before .clear-all .ensures) }
-
-same-length-19 : tie.Need-same-length-19
-same-length-19 c = c .before .before .before .before .before .before .before .before .before .before .before .before .compile-checked .kept .1 .1 .1 .1 .1 .1 .0 ∙ c .before .before .before .before .before .before .before .before .before .before .before .before .before .before .before .before .before .before .before .before .before .before .before .before .before .before .before .before .before .before .before .before .before .before .before .before .before .before .clear-all .kept .0
-
-same-length-20 : tie.Need-same-length-20
-same-length-20 c = c .before .before .before .before .before .before .before .before .before .before .before .before .compile-checked .kept .1 .1 .1 .1 .1 .1 .1 .0 ∙ c .before .before .before .before .before .before .before .before .before .before .before .before .before .before .before .before .before .before .before .before .before .before .before .before .before .before .before .before .before .before .before .before .before .before .before .before .before .before .clear-all .kept .1 .0
-
-same-length-21 : tie.Need-same-length-21
-same-length-21 c = c .before .before .before .before .before .before .before .before .before .before .before .before .compile-checked .kept .1 .1 .1 .1 .1 .1 .1 .1 .0 ∙ c .before .before .before .before .before .before .before .before .before .before .before .before .before .before .before .before .before .before .before .before .before .before .before .before .before .before .before .before .before .before .before .before .before .before .before .before .before .before .clear-all .kept .1 .1 .0
-
-same-length-22 : tie.Need-same-length-22
-same-length-22 c = c .before .before .before .before .before .before .before .before .before .before .before .before .compile-checked .kept .1 .1 .1 .1 .1 .1 .1 .1 .1 .0 ∙ c .before .before .before .before .before .before .before .before .before .before .before .before .before .before .before .before .before .before .before .before .before .before .before .before .before .before .before .before .before .before .before .before .before .before .before .before .before .before .clear-all .kept .1 .1 .1 .0
-
-same-length-23 : tie.Need-same-length-23
-same-length-23 c = c .before .before .before .before .before .before .before .before .before .before .before .before .compile-checked .kept .1 .1 .1 .1 .1 .1 .1 .1 .1 .1 .0 ∙ c .before .before .before .before .before .before .before .before .before .before .before .before .before .before .before .before .before .before .before .before .before .before .before .before .before .before .before .before .before .before .before .before .before .before .before .before .before .before .clear-all .kept .1 .1 .1 .1 .0
-
-same-length-24 : tie.Need-same-length-24
-same-length-24 c = c .before .before .before .before .before .before .before .before .before .before .before .before .compile-checked .kept .1 .1 .1 .1 .1 .1 .1 .1 .1 .1 .1 .0 ∙ c .before .before .before .before .before .before .before .before .before .before .before .before .before .before .before .before .before .before .before .before .before .before .before .before .before .before .before .before .before .before .before .before .before .before .before .before .before .before .clear-all .kept .1 .1 .1 .1 .1 .0
-
-returns-4 : tie.Need-returns-4
-returns-4 c = let s = c .before .before .before .before .before .before .before .before .before .before .before .before .before .before .before .before .before .before .before .before .before .before .before .before .before .before .before .before .before .before .before .before .before .before .before .before .before .before .before .before .before .before .before .before .before .before .before .before .before .before .before .before .before .before .before .before in c .before .before .before .before .before .before .before .before .before .before .before .before .compile-checked .ensures ∙ ap (compiling (lent (s .args .head) (s .args .initial .now) (s .args .twins .now) (s .args .formulas .now) (s .args .effects .now) (s .args .operators .now))) (same-room (c .before .before .before .before .before .before .before .before .before .before .before .before .before .before .before .before .before .before .before .before .before .before .before .before .before .before .before .before .before .before .before .before .before .before .before .before .before .before .clear-all .ensures))
+returns-3 c =
+    let at-clear-words = c .before .before .before in
+    let at-if2 = at-clear-words .before .before in
+    let at-fill = at-if2 .before .before .before .before .before .before .before .before .before .before .before .before .before in
+    let at-counts-of = at-fill .before .before .before .before .before .before .before in
+    let at-if1 = at-counts-of .before in
+    let at-first-number = at-if1 .before in
+    let at-clear-all = at-first-number .before .before .before .before .before .before .before .before .before .before .before .before .before in
+    let at-args = at-clear-all .before .before .before .before .before .before .before .before .before .before .before .before .before .before .before .before .before .before in
+    let a = at-args .args in
+    let l = lent (a .head) (a .initial .now) (a .twins .now) (a .formulas .now) (a .effects .now) (a .operators .now) in
+    let passed = at-first-number .first-number .ensures .passed (at-if1 .if1 .left) in
+    let zero = at-clear-words .clear-words .ensures ∙ ap (λ (m : ℕ). replicate m 0) (at-fill .fill .kept .1 .1 .1 .1 .1 .1 .1 .1 .1 .1 .0) in
+    filled-done passed (at-counts-of .counts-of .ensures) (at-fill .fill .ensures) (at-if2 .if2 .left) (c .compiled-head .ensures) zero
+    ∙ ap (compiling l) (same-room (at-clear-all .clear-all .ensures))
 
 pub compile-spec : {M : Type 1} → statement M
 compile-spec =
     tie.close
     (tie.spec
     clear-all-requires
-    check-requires
+    first-number-requires
     same-length
     same-length-2
     same-length-3
@@ -135,6 +223,9 @@ compile-spec =
     same-length-5
     same-length-6
     returns
+    counts-of-requires
+    fill-requires
+    clear-all-requires-2
     same-length-7
     same-length-8
     same-length-9
@@ -142,23 +233,12 @@ compile-spec =
     same-length-11
     same-length-12
     returns-2
-    cast-if3
-    mul-if3
-    cast-if3-2
-    mul-if3-2
-    add-if3
+    clear-words-requires
+    compiled-head-requires
     same-length-13
     same-length-14
     same-length-15
     same-length-16
     same-length-17
     same-length-18
-    returns-3
-    compile-checked-requires
-    same-length-19
-    same-length-20
-    same-length-21
-    same-length-22
-    same-length-23
-    same-length-24
-    returns-4)
+    returns-3)

@@ -1,0 +1,3 @@
+-- What only private functions ask and leave; no promise to a caller rests on it.
+pub mod Builds
+pub mod Finishes

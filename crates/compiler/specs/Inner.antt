@@ -1,0 +1,4 @@
+-- What only private functions ask and leave; no promise to a caller rests on it.
+pub mod Sizes
+pub mod Numbers
+pub mod Fills

@@ -1,3 +1,0 @@
-pub mod Lesser
-pub mod AsLong
-pub mod Source
