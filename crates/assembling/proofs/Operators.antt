@@ -87,7 +87,10 @@ module _ (n : ℕ) (twins records : List ℕ) where
   records-all k i end e x = rw (sym e) x
 
 -- One operator: its rules, then its row, which is the source's with another precondition and effect.
-module _ (n : ℕ) (twins records : List ℕ) (w : Row) (k : ℕ) (source : Operator) {room rows o : ℕ} {r : Chain} {out out' operators operators' : List ℕ} (y : Writes (rules n twins (changes-between records k (w .a))) room (begun rows) out out' r) (space : operator-width * o + operator-width ≤ length operators) (stored : operators' ≡ operator-stored operators o (with-parts source (w .kind) (r .stands))) where
+module _ (n : ℕ) (twins records : List ℕ) (w : Row) (k : ℕ) (source : Operator) {room rows o : ℕ} {r : Chain}
+    {out out' operators operators' : List ℕ} (y : Writes (rules n twins (changes-between records k (w .a))) room (begun rows) out out' r)
+    (space : operator-width * o + operator-width ≤ length operators)
+    (stored : operators' ≡ operator-stored operators o (with-parts source (w .kind) (r .stands))) where
   held-before : (a : Assembled) → Holding a rows o out operators → Holds (unwritten (a .effects)) (begun rows) out
   held-before a h = record { rows = h .effect-rows; stands = refl; words = h .effect-words }
 
@@ -199,7 +202,9 @@ module _ (n : ℕ) (twins operators records : List ℕ) where
       none : (m : ℕ) → padded m [] ≡ padded m (operator-words (unassembled .operators))
       none m = unfold unassembled operator-words in refl
 
-  module _ {room rows k : ℕ} {r : Chain} {out out' outs outs' : List ℕ} (o : ℕ) (w : Words) (words : row-of w ≡ row-at records o) (from : k ≡ begins-at records o) (h : Holding (assembled-in n twins operators records o) rows o out outs) (x : WroteOperator (built-of records (row-of w) k (operator-at operators o)) n twins room rows o r out out' outs outs') where
+  module _ {room rows k : ℕ} {r : Chain} {out out' outs outs' : List ℕ} (o : ℕ) (w : Words) (words : row-of w ≡ row-at records o)
+      (from : k ≡ begins-at records o) (h : Holding (assembled-in n twins operators records o) rows o out outs)
+      (x : WroteOperator (built-of records (row-of w) k (operator-at operators o)) n twins room rows o r out out' outs outs') where
     its : built-of records (row-of w) k (operator-at operators o) ≡ built-in operators records o
     unfolding built-in
     its = rw (words, from)

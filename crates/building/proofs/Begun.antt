@@ -152,7 +152,8 @@ module _ (frame : Frame) (formulas effects operators : List ℕ) where
               };
         })
 
-    module _ (q : p .full ≡ false) {f e : ℕ} (its-formula : f ≡ operator-at operators (p .operators) .precondition) (its-effect : e ≡ operator-at operators (p .operators) .effect) where
+    module _ (q : p .full ≡ false) {f e : ℕ} (its-formula : f ≡ operator-at operators (p .operators) .precondition)
+        (its-effect : e ≡ operator-at operators (p .operators) .effect) where
       stood : Stood (operators-built frame formulas effects operators (p .operators) start .st) frame formulas effects (size-at p) s scratch
       stood = t .taken .done q
 
@@ -264,7 +265,8 @@ module _ (frame : Frame) (formulas effects operators : List ℕ) where
               })
 
   -- The goal, behind all operators.
-  module _ {s : Store} {scratch records : List ℕ} {p : Progress} (count goal : ℕ) (all : p .operators ≡ count) (t : Taken frame formulas effects operators s scratch records p) where
+  module _ {s : Store} {scratch records : List ℕ} {p : Progress} (count goal : ℕ) (all : p .operators ≡ count)
+      (t : Taken frame formulas effects operators s scratch records p) where
     before : p .full ≡ false → operators-built frame formulas effects operators count start .st ≡ held (size-at p) s
     before q = ap (λ (n : ℕ). operators-built frame formulas effects operators n start .st) (sym all) ∙ t .done q .state
 

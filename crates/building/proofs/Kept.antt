@@ -69,7 +69,9 @@ module _ (frame : Frame) (formulas effects operators : List ℕ) where
       rw (e, f) (record { count = refl; limit = omega arith; each = λ o h. absurd (omega arith) })
 
   -- Behind n operators one more: its changes recorded, then its own record stored.
-  module _ {records l : List ℕ} {n k to row : ℕ} (all : AllKept frame formulas effects operators records n k) (below : n < 256) (room : 6912 ≤ length l) (x : Recorded (changes-here frame formulas effects operators n) k records l to) (most : to ≤ 2048) (is : precondition-here frame formulas effects operators n ≡ row) where
+  module _ {records l : List ℕ} {n k to row : ℕ} (all : AllKept frame formulas effects operators records n k) (below : n < 256)
+      (room : 6912 ≤ length l) (x : Recorded (changes-here frame formulas effects operators n) k records l to) (most : to ≤ 2048)
+      (is : precondition-here frame formulas effects operators n ≡ row) where
     abbrev own : Row
     own = record { kind = row; a = to; b = 0 }
 

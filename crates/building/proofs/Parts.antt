@@ -47,7 +47,10 @@ made-here frame formulas effects operators o =
     }
 
 -- The task t is what the tables hold.
-module _ (t : Task) (frame : Frame) (formulas effects operators : List ℕ) (count goal : ℕ) (variables : length (t .initial) ≡ frame .variables) (its-formulas : t .formulas ≡ source-rows frame formulas) (its-effects : t .effects ≡ effect-rows frame effects) (its-count : length (t .operators) ≡ count) (its-operator : (o : ℕ) → o < count → operator-of t o ≡ operator-at operators o) (its-goal : t .goal ≡ goal) where
+module _ (t : Task) (frame : Frame) (formulas effects operators : List ℕ) (count goal : ℕ) (variables : length (t .initial) ≡ frame .variables)
+    (its-formulas : t .formulas ≡ source-rows frame formulas) (its-effects : t .effects ≡ effect-rows frame effects)
+    (its-count : length (t .operators) ≡ count) (its-operator : (o : ℕ) → o < count → operator-of t o ≡ operator-at operators o)
+    (its-goal : t .goal ≡ goal) where
   same-operator :
       (o : ℕ) → o < count → (s : St) → built-operator t o s .st ≡ operator-here frame formulas effects operators o s .st
   unfolding built-operator operator-here operator-built all-changes image-at tree effect-tree effect-of-operator bind give

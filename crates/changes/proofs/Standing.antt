@@ -125,7 +125,8 @@ pub makes-image :
 makes-image steady memo x =
     makes-built (x .builds) (x .memo) (λ q. effect-memo-grows (done-grows steady (x .builds .done q)) (x .rest) memo)
 
-module _ {A B : Type 0} {m : Build A} {frame : Frame} {formulas effects : List ℕ} {at : Size} {before mid : Store} {s2 : List ℕ} {full : Bool} {next : Size} {a : A} (f : A → Build B) (x : Makes m frame formulas effects at before mid s2 full next a) where
+module _ {A B : Type 0} {m : Build A} {frame : Frame} {formulas effects : List ℕ} {at : Size} {before mid : Store} {s2 : List ℕ} {full : Bool}
+    {next : Size} {a : A} (f : A → Build B) (x : Makes m frame formulas effects at before mid s2 full next a) where
   makes-bind :
       {after : Store} {s3 : List ℕ} {full' : Bool} {last : Size} {b : B}
       → full ≡ false
@@ -195,7 +196,8 @@ pub leaves-full :
 leaves-full = record { noted = λ q. absurd (true≢false q) }
 
 -- D, freed of conflict with A.
-module _ {notes : List ℕ} (frame : Frame) (formulas effects : List ℕ) (at : Size) (before : Store) (scratch : List ℕ) (e v a d : ℕ) (s : Deletes frame formulas effects notes at before scratch e v d) where
+module _ {notes : List ℕ} (frame : Frame) (formulas effects : List ℕ) (at : Size) (before : Store) (scratch : List ℕ) (e v a d : ℕ)
+    (s : Deletes frame formulas effects notes at before scratch e v d) where
   tree : Effect
   tree = effect-tree frame formulas effects e
 
@@ -217,39 +219,41 @@ module _ {notes : List ℕ} (frame : Frame) (formulas effects : List ℕ) (at : 
   unfolding deletes-of tree
   never-cleared g h = stays (rw (ne-eqb a 0 g, eq-eqb d 0 h))
 
-  module _ (g : a ≡ 0 → ⊥) (h : d ≡ 0 → ⊥) {notes' : List ℕ} {after : Store} {s2 : List ℕ} {n : Step} (x : Conditions (condition (frame .variables) negated (sets v) (effect-tree frame formulas effects e)) frame formulas effects notes' at before after s2 n) where
-    freed :
-        deletes-of (frame .variables) tree v a d
-        ≡ bind (condition (frame .variables) negated (sets v) (effect-tree frame formulas effects e)) (λ c. join plain d c)
-    unfolding deletes-of tree
-    freed = rw (ne-eqb a 0 g, ne-eqb d 0 h)
+  module _ (g : a ≡ 0 → ⊥) (h : d ≡ 0 → ⊥) {notes' : List ℕ} {after : Store} {s2 : List ℕ} {n : Step}
+      (x : Conditions (condition (frame .variables) negated (sets v) (effect-tree frame formulas effects e)) frame formulas effects notes' at before after s2 n)
+    where
+      freed :
+          deletes-of (frame .variables) tree v a d
+          ≡ bind (condition (frame .variables) negated (sets v) (effect-tree frame formulas effects e)) (λ c. join plain d c)
+      unfolding deletes-of tree
+      freed = rw (ne-eqb a 0 g, ne-eqb d 0 h)
 
-    pub negated-full :
-        n .full ≡ true
-        → Conditions (deletes-of (frame .variables) (effect-tree frame formulas effects e) v a d) frame formulas effects notes' at before after s2 n
-    unfolding tree
-    negated-full q = conditions-as freed (conditions-stop (λ c. join plain d c) (λ c. steady-join plain d c) x q)
+      pub negated-full :
+          n .full ≡ true
+          → Conditions (deletes-of (frame .variables) (effect-tree frame formulas effects e) v a d) frame formulas effects notes' at before after s2 n
+      unfolding tree
+      negated-full q = conditions-as freed (conditions-stop (λ c. join plain d c) (λ c. steady-join plain d c) x q)
 
-    pub negated-join-asks : n .full ≡ false → JoinReady (frame .rows) (n .rows) (after .table) d (n .row)
-    negated-join-asks q =
-        let k = x .builds .done q in
-        record {
-          rows = k .ready .rows;
-          two = k .ready .two;
-          left = omega (arith, k .grew, s .row);
-          right = k .below;
-        }
+      pub negated-join-asks : n .full ≡ false → JoinReady (frame .rows) (n .rows) (after .table) d (n .row)
+      negated-join-asks q =
+          let k = x .builds .done q in
+          record {
+            rows = k .ready .rows;
+            two = k .ready .two;
+            left = omega (arith, k .grew, s .row);
+            right = k .below;
+          }
 
-    pub negated-joined :
-        {last : Store} {z : Step}
-        → n .full ≡ false
-        → Builds (join plain d (n .row)) frame (size-of n) after last z
-        → Conditions (deletes-of (frame .variables) (effect-tree frame formulas effects e) v a d) frame formulas effects notes' at before last s2 z
-    unfolding tree
-    negated-joined q b =
-        conditions-as freed
-        (conditions-bind (λ c. join plain d c) x q
-        (conditions-leaf (steady-join plain d (n .row)) (x .noted q) (x .memo q) (x .effect-memo q) b))
+      pub negated-joined :
+          {last : Store} {z : Step}
+          → n .full ≡ false
+          → Builds (join plain d (n .row)) frame (size-of n) after last z
+          → Conditions (deletes-of (frame .variables) (effect-tree frame formulas effects e) v a d) frame formulas effects notes' at before last s2 z
+      unfolding tree
+      negated-joined q b =
+          conditions-as freed
+          (conditions-bind (λ c. join plain d c) x q
+          (conditions-leaf (steady-join plain d (n .row)) (x .noted q) (x .memo q) (x .effect-memo q) b))
 
 -- A, D, N.
 module _ (n v : ℕ) (effect : Effect) where
@@ -268,7 +272,8 @@ module _ (n v : ℕ) (effect : Effect) where
   unfolding after-set
   steady-after a = steady-bind (steady-condition n plain (clears v) effect) (λ d. steady-last a d)
 
-  module _ {frame : Frame} {formulas effects notes : List ℕ} {at : Size} {before mid : Store} {s2 : List ℕ} {a : Step} (x : Conditions (condition n plain (sets v) effect) frame formulas effects notes at before mid s2 a) where
+  module _ {frame : Frame} {formulas effects notes : List ℕ} {at : Size} {before mid : Store} {s2 : List ℕ} {a : Step}
+      (x : Conditions (condition n plain (sets v) effect) frame formulas effects notes at before mid s2 a) where
     pub set-full :
         {last : Size} {c : Changes}
         → a .full ≡ true
@@ -276,7 +281,8 @@ module _ (n v : ℕ) (effect : Effect) where
     unfolding changes-of after-set last-of
     set-full q = makes-stop after-set (makes-row x) steady-after q
 
-    module _ (q : a .full ≡ false) {notes' : List ℕ} {after : Store} {s3 : List ℕ} {d : Step} (y : Conditions (condition n plain (clears v) effect) frame formulas effects notes' (size-of a) mid after s3 d) where
+    module _ (q : a .full ≡ false) {notes' : List ℕ} {after : Store} {s3 : List ℕ} {d : Step}
+        (y : Conditions (condition n plain (clears v) effect) frame formulas effects notes' (size-of a) mid after s3 d) where
       pub clear-full :
           {last : Size} {c : Changes}
           → d .full ≡ true

@@ -37,7 +37,8 @@ use Rattle.compiled_file.specs.Filed.{filed-by, filed, compiled-file-by, compil
 use Rattle.compile_entry.specs.Entry.{compile-entry, compile-entry-by}
 use Rattle.run_entry.specs.Entry.{run-given, run-entry, run-entry-by}
 use Rattle.claims.specs.Statements.{OfBytes}
-use Rattle.claims.specs.Numbers.{Given, broken, keeps, no-rule-left, tables-numbers, write-number, compile-answer-number, end-number, write-numbers, compile-numbers, StateRule, state-numbers, step-numbers, run-numbers, FileNumber, not-read, was-read, read-entry-numbers, FileFits, compile-entry-numbers, SequenceRule, StopNumber, no-stop, stopped-by, run-entry-numbers, WriteKept, StateKept, StepKept, RunKept, ReadEntryKept, CompileEntryKept, RunEntryKept}
+use Rattle.claims.specs.Numbers.{Given, broken, keeps, no-rule-left, tables-numbers, write-number, compile-answer-number, end-number, write-numbers, compile-numbers, StateRule, state-numbers, step-numbers, run-numbers, FileNumber, not-read}
+use Rattle.claims.specs.Numbers.{was-read, read-entry-numbers, FileFits, compile-entry-numbers, SequenceRule, StopNumber, no-stop, stopped-by, run-entry-numbers, WriteKept, StateKept, StepKept, RunKept, ReadEntryKept, CompileEntryKept, RunEntryKept}
 use Rattle.claims.proofs.DemandTwoFiles.{file-accepted-exactly-if, reading-what-was-written, no-file-begins-another}
 use Rattle.claims.proofs.DemandTwoProgram.{own-fits}
 use Rattle.claims.proofs.DemandTwoRuns.{stopped-where}

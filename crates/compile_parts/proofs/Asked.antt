@@ -24,7 +24,8 @@ use Rattle.building.proofs.Begun.{taken-none, goal-asks, goal-taken}
 use Rattle.compile_parts.specs.declared.Counts.{Counts}
 use Rattle.compile_parts.specs.Inner.Builds.{Builds}
 
-module _ {c : Counts} {formulas effects operators originals scratch notes built records : List ℕ} (b : Builds c formulas effects operators originals scratch notes built records) where
+module _ {c : Counts} {formulas effects operators originals scratch notes built records : List ℕ}
+    (b : Builds c formulas effects operators originals scratch notes built records) where
   rules : EffectSource (c .frame) effects scratch
   rules = b .blank .effect-source
 
@@ -111,7 +112,8 @@ module _ {c : Counts} {formulas effects operators originals scratch notes built 
       }
 
   -- behind all operators
-  module _ {s : Store} {memo kept : List ℕ} {p : Progress} (all : p .operators ≡ c .operators) (k : Taken (c .frame) formulas effects operators s memo kept p) where
+  module _ {s : Store} {memo kept : List ℕ} {p : Progress} (all : p .operators ≡ c .operators)
+      (k : Taken (c .frame) formulas effects operators s memo kept p) where
     pub last-asks : TakesGoal (c .frame) formulas (c .goal) s memo p
     last-asks = goal-asks (c .frame) formulas effects operators (c .operators) (c .goal) all k (b .goal)
 

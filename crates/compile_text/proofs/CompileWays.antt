@@ -43,7 +43,8 @@ room-own c = λ j.
       scratch = c .scratch-words j;
     }
 
-module _ (l : Lent) {x : Tables} (c : CompileIn l x) (r : CompileAnswer) {v o f e w s : List ℕ} (compiles : compile-left r (tables v o f e w s) ≡ compiling l (room-of x)) where
+module _ (l : Lent) {x : Tables} (c : CompileIn l x) (r : CompileAnswer) {v o f e w s : List ℕ}
+    (compiles : compile-left r (tables v o f e w s) ≡ compiling l (room-of x)) where
   leaves : compile-left r (tables v o f e w s) ≡ compiling l own-room
   leaves = compiles ∙ ap (compiling l) (room-own c)
 

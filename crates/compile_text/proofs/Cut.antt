@@ -18,7 +18,8 @@ use Rattle.task.specs.Rules.{Counts}
 use Rattle.task.proofs.Passed.{counts-tested}
 use Rattle.file_format.specs.Bytes.{bytes-for}
 use Rattle.file_format.specs.Parse.{Parsed, next, kept, byte-read, word-read, mapped-read, table-read}
-use Rattle.file_format.specs.Reading.{Lengths, room, head-from, head-clear, head-read, head-kept, bit-of, spare-clear, initial-read, twin-read, row-clear, row-from, row-read, formula-read, effect-read, operator-clear, operator-from, operator-fields-read, operator-read, tables-read, task-read, at-end, reading}
+use Rattle.file_format.specs.Reading.{Lengths, room, head-from, head-clear, head-read, head-kept, bit-of, spare-clear, initial-read, twin-read, row-clear}
+use Rattle.file_format.specs.Reading.{row-from, row-read, formula-read, effect-read, operator-clear, operator-from, operator-fields-read, operator-read, tables-read, task-read, at-end, reading}
 use Rattle.compile_text.proofs.Looks.{Same, both-refused, both-parsed, Looks, wider, pure-looks, kept-looks, next-looks, byte-looks, word-looks, mapped-looks, table-looks}
 
 initial-looks : (v : ℕ) → Looks (bytes-for v * 1 + 0) (initial-read v)

@@ -18,7 +18,8 @@ use Rattle.compile_text.specs.Inner.Giving.{Own}
 use Rattle.compile_text.proofs.Cut.{cut-input}
 
 -- the two answers of reading, through tables with room for every task
-module _ (file : List ℕ) {r : ReadAnswer} (i w f e o : List ℕ) {i′ w′ f′ e′ o′ : List ℕ} (mine : Own i w f e o) (reads : read-left r i′ w′ f′ e′ o′ ≡ read-outcome (lengths (length i) (length w) (length f) (length e) (length o)) file) where
+module _ (file : List ℕ) {r : ReadAnswer} (i w f e o : List ℕ) {i′ w′ f′ e′ o′ : List ℕ} (mine : Own i w f e o)
+    (reads : read-left r i′ w′ f′ e′ o′ ≡ read-outcome (lengths (length i) (length w) (length f) (length e) (length o)) file) where
   own-reads : read-left r i′ w′ f′ e′ o′ ≡ read-outcome own file
   unfolding own
   own-reads =

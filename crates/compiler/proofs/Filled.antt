@@ -96,7 +96,8 @@ module _ {g : Counted} {x : Tables} (b : Begins g x) where
       }
 
   -- Behind building.
-  module _ {mid : Store} {memo records : List ℕ} {r : Step} (f : FromStart (g .frame) (g .formulas) (g .effects) (g .operators) (g .count) (g .goal) mid memo records r) where
+  module _ {mid : Store} {memo records : List ℕ} {r : Step}
+      (f : FromStart (g .frame) (g .formulas) (g .effects) (g .operators) (g .count) (g .goal) mid memo records r) where
     -- what fits is within the frame
     built-over : Allows (g .frame .variables) (room-of x) (g .frame .rows) (g .frame .twins) (g .room) → r .full ≡ true → Fits (finished (task-of (lent-of g))) (room-of x) → ⊥
     built-over a q fit =

@@ -53,7 +53,8 @@ side-not true = refl
 side-not false = refl
 
 -- Row e, with what its condition asks.
-module _ {frame : Frame} {formulas effects notes : List ℕ} {t : Target} {at : Size} {before : Store} {scratch : List ℕ} {e : ℕ} (a : Asks frame formulas effects notes t at before scratch e) where
+module _ {frame : Frame} {formulas effects notes : List ℕ} {t : Target} {at : Size} {before : Store} {scratch : List ℕ} {e : ℕ}
+    (a : Asks frame formulas effects notes t at before scratch e) where
   pub kept-asks : AsksKept frame notes scratch t e
   kept-asks = record { looks = looks a (a .noted .columns); variable = a .variable; formulas = a .source .limit; memo = a .effect-source .memo }
 
@@ -137,158 +138,166 @@ module _ {frame : Frame} {formulas effects notes : List ℕ} {t : Target} {at : 
     is-under c other = under-else frame formulas effects scratch (a .effect-source) e (a .effect) c (λ k. other (kind-read ∙ k))
 
 -- Row e is both, with the words w.
-module _ {frame : Frame} {formulas effects notes : List ℕ} {t : Target} {at : Size} {before : Store} {scratch : List ℕ} {e : ℕ} (a : Asks frame formulas effects notes t at before scratch e) (three : row-at effects e .kind ≡ 3) (w : Words) (q : row-of w ≡ row-at effects e) where
-  abbrev join-both : ℕ → ℕ → Build ℕ
-  join-both l r = join (side (not (t .negated))) l r
+module _ {frame : Frame} {formulas effects notes : List ℕ} {t : Target} {at : Size} {before : Store} {scratch : List ℕ} {e : ℕ}
+    (a : Asks frame formulas effects notes t at before scratch e) (three : row-at effects e .kind ≡ 3) (w : Words) (q : row-of w ≡ row-at effects e)
+  where
+    abbrev join-both : ℕ → ℕ → Build ℕ
+    join-both l r = join (side (not (t .negated))) l r
 
-  abbrev right-of : ℕ → Build ℕ
-  right-of l = bind (condition-at frame formulas effects t (w .b)) (λ r. join-both l r)
+    abbrev right-of : ℕ → Build ℕ
+    right-of l = bind (condition-at frame formulas effects t (w .b)) (λ r. join-both l r)
 
-  pub effects-lower : (w .a < e) × (w .b < e)
-  effects-lower =
-      let l = both-lower frame formulas effects scratch (a .effect-source) e (a .effect) three in
-      (omega (arith, l .0, ap (λ (r : Row). r .a) q), omega (arith, l .1, ap (λ (r : Row). r .b) q))
+    pub effects-lower : (w .a < e) × (w .b < e)
+    effects-lower =
+        let l = both-lower frame formulas effects scratch (a .effect-source) e (a .effect) three in
+        (omega (arith, l .0, ap (λ (r : Row). r .a) q), omega (arith, l .1, ap (λ (r : Row). r .b) q))
 
-  pub left-asks : Asks frame formulas effects notes t at before scratch (w .a)
-  left-asks = lower-asks a (w .a) (effects-lower .0)
+    pub left-asks : Asks frame formulas effects notes t at before scratch (w .a)
+    left-asks = lower-asks a (w .a) (effects-lower .0)
 
-  both-reads : condition-at frame formulas effects t e ≡ bind (condition-at frame formulas effects t (w .a)) (λ l. right-of l)
-  unfolding pair
-  both-reads = rw (← (side-not (t .negated)), ap (λ (r : Row). r .a) q, ap (λ (r : Row). r .b) q) (of-both frame formulas effects scratch (a .effect-source) e (a .effect) t three)
+    both-reads : condition-at frame formulas effects t e ≡ bind (condition-at frame formulas effects t (w .a)) (λ l. right-of l)
+    unfolding pair
+    both-reads = rw (← (side-not (t .negated)), ap (λ (r : Row). r .a) q, ap (λ (r : Row). r .b) q) (of-both frame formulas effects scratch (a .effect-source) e (a .effect) t three)
 
-  -- the left effect's condition is built
-  module _ {notes₁ : List ℕ} {mid : Store} {s1 : List ℕ} {l : Step} (x : Conditions (condition-at frame formulas effects t (w .a)) frame formulas effects notes₁ at before mid s1 l) where
-    pub left-full :
-        l .full ≡ true → Conditions (condition-at frame formulas effects t e) frame formulas effects notes₁ at before mid s1 l
-    left-full g =
-        conditions-as both-reads
-        (conditions-stop (λ l. right-of l)
-        (λ l. steady-bind (steady-condition-at frame formulas effects t (w .b)) (λ r. steady-join (side (not (t .negated))) l r)) x g)
+    -- the left effect's condition is built
+    module _ {notes₁ : List ℕ} {mid : Store} {s1 : List ℕ} {l : Step}
+        (x : Conditions (condition-at frame formulas effects t (w .a)) frame formulas effects notes₁ at before mid s1 l) where
+      pub left-full :
+          l .full ≡ true → Conditions (condition-at frame formulas effects t e) frame formulas effects notes₁ at before mid s1 l
+      left-full g =
+          conditions-as both-reads
+          (conditions-stop (λ l. right-of l)
+          (λ l. steady-bind (steady-condition-at frame formulas effects t (w .b)) (λ r. steady-join (side (not (t .negated))) l r)) x g)
 
-    module _ (g : l .full ≡ false) where
-      pub right-asks : length s1 ≡ length scratch → Asks frame formulas effects notes₁ t (size-of l) mid s1 (w .b)
-      right-asks long = asks-next (w .b) a x g long (omega (arith, effects-lower .1, a .effect))
+      module _ (g : l .full ≡ false) where
+        pub right-asks : length s1 ≡ length scratch → Asks frame formulas effects notes₁ t (size-of l) mid s1 (w .b)
+        right-asks long = asks-next (w .b) a x g long (omega (arith, effects-lower .1, a .effect))
 
-      -- and the right one's
-      module _ {notes₂ : List ℕ} {after : Store} {s2 : List ℕ} {r : Step} (y : Conditions (condition-at frame formulas effects t (w .b)) frame formulas effects notes₂ (size-of l) mid after s2 r) where
-        pub right-full :
-            r .full ≡ true → Conditions (condition-at frame formulas effects t e) frame formulas effects notes₂ at before after s2 r
-        right-full k =
-            conditions-as both-reads
-            (conditions-bind (λ l. right-of l) x g
-            (conditions-stop (λ r. join-both (l .row) r) (λ r. steady-join (side (not (t .negated))) (l .row) r) y k))
-
-        module _ (k : r .full ≡ false) where
-          pub both-join-asks : AsksJoin frame notes₂ e (r .rows) (after .table) (l .row) (r .row)
-          both-join-asks =
-              let m = y .builds .done k in
-              record {
-                looks = looks a (y .noted k .columns);
-                twins = r .twins;
-                originals = after .originals;
-                ready = m .ready;
-                left = omega (arith, x .builds .done g .below, m .grew);
-                right = m .below;
-              }
-
-          pub both-done :
-              {notes₃ : List ℕ} {last : Store} {z : Step}
-              → Joined frame notes₂ notes₃ t e (not (t .negated)) (size-of r) (l .row) (r .row) after last z
-              → Conditions (condition-at frame formulas effects t e) frame formulas effects notes₃ at before last s2 z
-          both-done j =
-              let flag : t .negated ≡ false → eqb (row-at effects e .kind) 3 ≡ not (t .negated) =
-              λ p. eq-eqb (row-at effects e .kind) 3 three ∙ ap (λ b. not b) (sym p) in
+        -- and the right one's
+        module _ {notes₂ : List ℕ} {after : Store} {s2 : List ℕ} {r : Step}
+            (y : Conditions (condition-at frame formulas effects t (w .b)) frame formulas effects notes₂ (size-of l) mid after s2 r) where
+          pub right-full :
+              r .full ≡ true → Conditions (condition-at frame formulas effects t e) frame formulas effects notes₂ at before after s2 r
+          right-full k =
               conditions-as both-reads
               (conditions-bind (λ l. right-of l) x g
-              (conditions-bind (λ r. join-both (l .row) r) y k
-              (conditions-joined (record { ready = y .builds .done k .ready; noted = y .noted k; flag = flag }) (y .memo k) (y .effect-memo k) j)))
+              (conditions-stop (λ r. join-both (l .row) r) (λ r. steady-join (side (not (t .negated))) (l .row) r) y k))
+
+          module _ (k : r .full ≡ false) where
+            pub both-join-asks : AsksJoin frame notes₂ e (r .rows) (after .table) (l .row) (r .row)
+            both-join-asks =
+                let m = y .builds .done k in
+                record {
+                  looks = looks a (y .noted k .columns);
+                  twins = r .twins;
+                  originals = after .originals;
+                  ready = m .ready;
+                  left = omega (arith, x .builds .done g .below, m .grew);
+                  right = m .below;
+                }
+
+            pub both-done :
+                {notes₃ : List ℕ} {last : Store} {z : Step}
+                → Joined frame notes₂ notes₃ t e (not (t .negated)) (size-of r) (l .row) (r .row) after last z
+                → Conditions (condition-at frame formulas effects t e) frame formulas effects notes₃ at before last s2 z
+            both-done j =
+                let flag : t .negated ≡ false → eqb (row-at effects e .kind) 3 ≡ not (t .negated) =
+                λ p. eq-eqb (row-at effects e .kind) 3 three ∙ ap (λ b. not b) (sym p) in
+                conditions-as both-reads
+                (conditions-bind (λ l. right-of l) x g
+                (conditions-bind (λ r. join-both (l .row) r) y k
+                (conditions-joined (record { ready = y .builds .done k .ready; noted = y .noted k; flag = flag }) (y .memo k) (y .effect-memo k) j)))
 
 -- Row e is a formula over an effect, with the words w.
-module _ {frame : Frame} {formulas effects notes : List ℕ} {t : Target} {at : Size} {before : Store} {scratch : List ℕ} {e : ℕ} (a : Asks frame formulas effects notes t at before scratch e) (four : row-at effects e .kind ≡ 4) (w : Words) (q : row-of w ≡ row-at effects e) where
-  abbrev over : ℕ → Build ℕ
-  over c = guarded (frame .variables) (side (t .negated)) (tree frame formulas (w .a)) c
+module _ {frame : Frame} {formulas effects notes : List ℕ} {t : Target} {at : Size} {before : Store} {scratch : List ℕ} {e : ℕ}
+    (a : Asks frame formulas effects notes t at before scratch e) (four : row-at effects e .kind ≡ 4) (w : Words) (q : row-of w ≡ row-at effects e)
+  where
+    abbrev over : ℕ → Build ℕ
+    over c = guarded (frame .variables) (side (t .negated)) (tree frame formulas (w .a)) c
 
-  pub inner-lower : (w .a < frame .formulas) × (w .b < e)
-  inner-lower =
-      let l = under-lower frame formulas effects scratch (a .effect-source) e (a .effect) four in
-      (omega (arith, l .0, ap (λ (r : Row). r .a) q), omega (arith, l .1, ap (λ (r : Row). r .b) q))
+    pub inner-lower : (w .a < frame .formulas) × (w .b < e)
+    inner-lower =
+        let l = under-lower frame formulas effects scratch (a .effect-source) e (a .effect) four in
+        (omega (arith, l .0, ap (λ (r : Row). r .a) q), omega (arith, l .1, ap (λ (r : Row). r .b) q))
 
-  pub inner-asks : Asks frame formulas effects notes t at before scratch (w .b)
-  inner-asks = lower-asks a (w .b) (inner-lower .1)
+    pub inner-asks : Asks frame formulas effects notes t at before scratch (w .b)
+    inner-asks = lower-asks a (w .b) (inner-lower .1)
 
-  under-reads : condition-at frame formulas effects t e ≡ bind (condition-at frame formulas effects t (w .b)) (λ c. over c)
-  under-reads = rw (ap (λ (r : Row). r .a) q, ap (λ (r : Row). r .b) q) (of-under frame formulas effects scratch (a .effect-source) e (a .effect) t four)
+    under-reads : condition-at frame formulas effects t e ≡ bind (condition-at frame formulas effects t (w .b)) (λ c. over c)
+    under-reads = rw (ap (λ (r : Row). r .a) q, ap (λ (r : Row). r .b) q) (of-under frame formulas effects scratch (a .effect-source) e (a .effect) t four)
 
-  -- the inner effect's condition is built
-  module _ {notes₁ : List ℕ} {mid : Store} {s1 : List ℕ} {s : Step} (x : Conditions (condition-at frame formulas effects t (w .b)) frame formulas effects notes₁ at before mid s1 s) where
-    pub inner-full :
-        s .full ≡ true → Conditions (condition-at frame formulas effects t e) frame formulas effects notes₁ at before mid s1 s
-    inner-full g =
-        conditions-as under-reads
-        (conditions-stop (λ c. over c) (λ c. steady-guarded (frame .variables) (side (t .negated)) (tree frame formulas (w .a)) c) x g)
+    -- the inner effect's condition is built
+    module _ {notes₁ : List ℕ} {mid : Store} {s1 : List ℕ} {s : Step}
+        (x : Conditions (condition-at frame formulas effects t (w .b)) frame formulas effects notes₁ at before mid s1 s) where
+      pub inner-full :
+          s .full ≡ true → Conditions (condition-at frame formulas effects t e) frame formulas effects notes₁ at before mid s1 s
+      inner-full g =
+          conditions-as under-reads
+          (conditions-stop (λ c. over c) (λ c. steady-guarded (frame .variables) (side (t .negated)) (tree frame formulas (w .a)) c) x g)
 
-    module _ (g : s .full ≡ false) where
-      -- what is left gives the whole
-      on :
-          {notes₂ : List ℕ} {last : Store} {s2 : List ℕ} {z : Step}
-          → Conditions (over (s .row)) frame formulas effects notes₂ (size-of s) mid last s2 z
-          → Conditions (condition-at frame formulas effects t e) frame formulas effects notes₂ at before last s2 z
-      on y = conditions-as under-reads (conditions-bind (λ c. over c) x g y)
+      module _ (g : s .full ≡ false) where
+        -- what is left gives the whole
+        on :
+            {notes₂ : List ℕ} {last : Store} {s2 : List ℕ} {z : Step}
+            → Conditions (over (s .row)) frame formulas effects notes₂ (size-of s) mid last s2 z
+            → Conditions (condition-at frame formulas effects t e) frame formulas effects notes₂ at before last s2 z
+        on y = conditions-as under-reads (conditions-bind (λ c. over c) x g y)
 
-      pub inner-false :
-          s .row ≡ image-of-false (side (t .negated))
-          → Conditions (condition-at frame formulas effects t e) frame formulas effects notes₁ at before mid s1 s
-      unfolding guarded give
-      inner-false h =
-          let m = x .builds .done g in
-          on
-          (conditions-as (rw (eq-eqb (s .row) (image-of-false (side (t .negated))) h))
-          (conditions-leaf (steady-give (s .row)) (x .noted g) (x .memo g) (x .effect-memo g)
-          (builds-done g (record { value = refl; state = refl; ready = m .ready; below = m .below; grew = omega arith }))))
-
-      pub image-asks : length s1 ≡ length scratch → AsksImage frame formulas (size-of s) mid s1 (w .a)
-      image-asks long =
-          let n = asks-next e a x g long (a .effect) in
-          record { source = n .source; ready = n .ready; memo = n .memo; formula = inner-lower .0 }
-
-      -- it is not false, and the formula's image is built
-      module _ (h : s .row ≡ image-of-false (side (t .negated)) → ⊥) {after : Store} {s2 : List ℕ} {f : Step} (y : Images (image-at frame formulas (side (t .negated)) (w .a)) frame formulas (size-of s) mid after s1 s2 f) where
-        joins : over (s .row) ≡ bind (image-at frame formulas (side (t .negated)) (w .a)) (λ z. join (side (t .negated)) z (s .row))
-        unfolding guarded image-at
-        joins = rw (ne-eqb (s .row) (image-of-false (side (t .negated))) h)
-
-        image : Conditions (image-at frame formulas (side (t .negated)) (w .a)) frame formulas effects notes₁ (size-of s) mid after s2 f
-        image = conditions-of-images (steady-image-at frame formulas (side (t .negated)) (w .a)) (x .noted g) (x .effect-memo g) y
-
-        pub image-full :
-            f .full ≡ true → Conditions (condition-at frame formulas effects t e) frame formulas effects notes₁ at before after s2 f
-        image-full k =
+        pub inner-false :
+            s .row ≡ image-of-false (side (t .negated))
+            → Conditions (condition-at frame formulas effects t e) frame formulas effects notes₁ at before mid s1 s
+        unfolding guarded give
+        inner-false h =
+            let m = x .builds .done g in
             on
-            (conditions-as joins
-            (conditions-stop (λ z. join (side (t .negated)) z (s .row)) (λ z. steady-join (side (t .negated)) z (s .row)) image k))
+            (conditions-as (rw (eq-eqb (s .row) (image-of-false (side (t .negated))) h))
+            (conditions-leaf (steady-give (s .row)) (x .noted g) (x .memo g) (x .effect-memo g)
+            (builds-done g (record { value = refl; state = refl; ready = m .ready; below = m .below; grew = omega arith }))))
 
-        module _ (k : f .full ≡ false) where
-          pub under-join-asks : AsksJoin frame notes₁ e (f .rows) (after .table) (f .row) (s .row)
-          under-join-asks =
-              let m = y .builds .done k in
-              record {
-                looks = looks a (x .noted g .columns);
-                twins = f .twins;
-                originals = after .originals;
-                ready = m .ready;
-                left = m .below;
-                right = omega (arith, x .builds .done g .below, m .grew);
-              }
+        pub image-asks : length s1 ≡ length scratch → AsksImage frame formulas (size-of s) mid s1 (w .a)
+        image-asks long =
+            let n = asks-next e a x g long (a .effect) in
+            record { source = n .source; ready = n .ready; memo = n .memo; formula = inner-lower .0 }
 
-          pub under-done :
-              {notes₂ : List ℕ} {last : Store} {z : Step}
-              → Joined frame notes₁ notes₂ t e (t .negated) (size-of f) (f .row) (s .row) after last z
-              → Conditions (condition-at frame formulas effects t e) frame formulas effects notes₂ at before last s2 z
-          under-done j =
-              let flag : t .negated ≡ false → eqb (row-at effects e .kind) 3 ≡ t .negated =
-              λ p. ne-eqb (row-at effects e .kind) 3 (λ z. omega (arith, z, four)) ∙ sym p in
+        -- it is not false, and the formula's image is built
+        module _ (h : s .row ≡ image-of-false (side (t .negated)) → ⊥) {after : Store} {s2 : List ℕ} {f : Step}
+            (y : Images (image-at frame formulas (side (t .negated)) (w .a)) frame formulas (size-of s) mid after s1 s2 f) where
+          joins : over (s .row) ≡ bind (image-at frame formulas (side (t .negated)) (w .a)) (λ z. join (side (t .negated)) z (s .row))
+          unfolding guarded image-at
+          joins = rw (ne-eqb (s .row) (image-of-false (side (t .negated))) h)
+
+          image : Conditions (image-at frame formulas (side (t .negated)) (w .a)) frame formulas effects notes₁ (size-of s) mid after s2 f
+          image = conditions-of-images (steady-image-at frame formulas (side (t .negated)) (w .a)) (x .noted g) (x .effect-memo g) y
+
+          pub image-full :
+              f .full ≡ true → Conditions (condition-at frame formulas effects t e) frame formulas effects notes₁ at before after s2 f
+          image-full k =
               on
               (conditions-as joins
-              (conditions-bind (λ z. join (side (t .negated)) z (s .row)) image k
-              (conditions-joined (record { ready = y .builds .done k .ready; noted = image .noted k; flag = flag }) (image .memo k)
-              (image .effect-memo k) j)))
+              (conditions-stop (λ z. join (side (t .negated)) z (s .row)) (λ z. steady-join (side (t .negated)) z (s .row)) image k))
+
+          module _ (k : f .full ≡ false) where
+            pub under-join-asks : AsksJoin frame notes₁ e (f .rows) (after .table) (f .row) (s .row)
+            under-join-asks =
+                let m = y .builds .done k in
+                record {
+                  looks = looks a (x .noted g .columns);
+                  twins = f .twins;
+                  originals = after .originals;
+                  ready = m .ready;
+                  left = m .below;
+                  right = omega (arith, x .builds .done g .below, m .grew);
+                }
+
+            pub under-done :
+                {notes₂ : List ℕ} {last : Store} {z : Step}
+                → Joined frame notes₁ notes₂ t e (t .negated) (size-of f) (f .row) (s .row) after last z
+                → Conditions (condition-at frame formulas effects t e) frame formulas effects notes₂ at before last s2 z
+            under-done j =
+                let flag : t .negated ≡ false → eqb (row-at effects e .kind) 3 ≡ t .negated =
+                λ p. ne-eqb (row-at effects e .kind) 3 (λ z. omega (arith, z, four)) ∙ sym p in
+                on
+                (conditions-as joins
+                (conditions-bind (λ z. join (side (t .negated)) z (s .row)) image k
+                (conditions-joined (record { ready = y .builds .done k .ready; noted = image .noted k; flag = flag }) (image .memo k)
+                (image .effect-memo k) j)))

@@ -60,7 +60,8 @@ tags-apart t u q =
 abbrev pub with-row : Frame → List ℕ → Target → ℕ → ℕ → List ℕ
 with-row frame scratch t e row = set (set scratch (tag-place frame e) (tag t)) (effect-place frame e) (row + 1)
 
-module _ (frame : Frame) (scratch : List ℕ) (t : Target) (e row : ℕ) (h : e < frame .effects) (room : 2 * frame .formulas + 2 * frame .effects ≤ length scratch) where
+module _ (frame : Frame) (scratch : List ℕ) (t : Target) (e row : ℕ) (h : e < frame .effects)
+    (room : 2 * frame .formulas + 2 * frame .effects ≤ length scratch) where
   -- other words stay
   row-other :
       (j : ℕ)

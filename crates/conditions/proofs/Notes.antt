@@ -314,7 +314,8 @@ module _ {frame : Frame} {notes : List ℕ} {t : Target} {e k : ℕ} (h : e < fr
   unfolding column
   same-column x d g = earlier x d (omega (arith, sets-behind frame))
 
-  module _ (formulas effects : List ℕ) (s : St) (r : ℕ) (now : Known (condition-at frame formulas effects t e) s r) (n : Noted frame formulas effects notes s) where
+  module _ (formulas effects : List ℕ) (s : St) (r : ℕ) (now : Known (condition-at frame formulas effects t e) s r)
+      (n : Noted frame formulas effects notes s) where
     -- what is read from a word of the notes with r
     read-back :
         (u : Target) (d x : ℕ)

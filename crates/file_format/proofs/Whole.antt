@@ -19,7 +19,8 @@ use Rattle.file_format.proofs.Parse.{Bytes, bytes-behind, parsed-value,
 use Rattle.file_format.proofs.Table.{Table}
 use Rattle.file_format.proofs.Rows.{head-reads, head-parsed, mapped-stable}
 use Rattle.file_format.proofs.Initial.{bits-of-state}
-use Rattle.file_format.proofs.Tables.{initial-reads, Initial, initial-parsed, initial-stable, twin-front, twins-reads, twins-parsed, twins-stable, formulas-reads, formulas-parsed, formulas-stable, effects-reads, effects-parsed, effects-stable, operators-reads, operators-parsed, operators-stable}
+use Rattle.file_format.proofs.Tables.{initial-reads, Initial, initial-parsed, initial-stable, twin-front, twins-reads, twins-parsed, twins-stable}
+use Rattle.file_format.proofs.Tables.{formulas-reads, formulas-parsed, formulas-stable, effects-reads, effects-parsed, effects-stable, operators-reads, operators-parsed, operators-stable}
 
 -- the five parts behind the head, and what follows them
 unfoldable pub tables-bytes : Task → List ℕ → List ℕ
@@ -110,7 +111,8 @@ behind-same : {h : Head} {bytes : List ℕ} {t u : Task} {rest rest′ : List �
 behind-same p q b = rw (← p, ← q) b
 
 -- the parts, one by one
-module _ (h : Head) (bytes initial m1 originals m2 : List ℕ) (formulas : List Row) (m3 : List ℕ) (effects : List Row) (m4 : List ℕ) (operators : List Operator) (m5 : List ℕ) where
+module _ (h : Head) (bytes initial m1 originals m2 : List ℕ) (formulas : List Row) (m3 : List ℕ) (effects : List Row) (m4 : List ℕ)
+    (operators : List Operator) (m5 : List ℕ) where
   joined-parts :
       Initial (h .variables) bytes initial m1
       → Table word-bytes (twin-read (h .variables - h .twins)) 0 (λ k done w. twin-kept (h .variables - h .twins) (done ++ (w ∷ [])) k ≡ true) (h .twins) m1 originals m2

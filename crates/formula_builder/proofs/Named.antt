@@ -91,7 +91,8 @@ module _ (frame : Frame) (n w : ℕ) (table o : List ℕ) (ready : Ready frame (
         (λ x. steady-variable-row (frame .variables + x))
         (λ x. omega (arith, x .twins, ap (λ (x : List ℕ). length x) met, length-append l (v ∷ []), long)))
 
-    module _ {after : List ℕ} {m k : ℕ} (b : Builds (variable-row (frame .variables + w)) frame (sized n w) (store table o) (store after o) (stepped m w k)) where
+    module _ {after : List ℕ} {m k : ℕ}
+        (b : Builds (variable-row (frame .variables + w)) frame (sized n w) (store table o) (store after o) (stepped m w k)) where
       -- there is no room for its row
       pub twin-over :
           k ≡ 65535

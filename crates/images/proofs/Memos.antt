@@ -194,7 +194,8 @@ pub record Joins (p : Polarity) (m left right : Build ℕ) : Type 0 where
   pub is : m ≡ pair p left right
   pub steady : Steady right
 
-module _ {p : Polarity} {m left right : Build ℕ} {frame : Frame} {formulas : List ℕ} {at : Size} {before mid : Store} {s1 s2 : List ℕ} {l : Step} (j : Joins p m left right) (x : Images left frame formulas at before mid s1 s2 l) where
+module _ {p : Polarity} {m left right : Build ℕ} {frame : Frame} {formulas : List ℕ} {at : Size} {before mid : Store} {s1 s2 : List ℕ} {l : Step}
+    (j : Joins p m left right) (x : Images left frame formulas at before mid s1 s2 l) where
   pub left-full : l .full ≡ true → Images m frame formulas at before mid s1 s2 l
   unfolding pair
   left-full e =

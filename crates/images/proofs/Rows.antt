@@ -110,7 +110,8 @@ unfolding pair-at
 pair-words frame formulas i w e left right or = rw (← e)
 
 -- Row i of the source, with the words w.
-module _ {frame : Frame} {formulas : List ℕ} {at : Size} {before : Store} {scratch : List ℕ} {i : ℕ} (x : Asks frame formulas at before scratch i) (w : Words) (e : row-of w ≡ row-at formulas i) where
+module _ {frame : Frame} {formulas : List ℕ} {at : Size} {before : Store} {scratch : List ℕ} {i : ℕ} (x : Asks frame formulas at before scratch i)
+    (w : Words) (e : row-of w ≡ row-at formulas i) where
   row-held : getD (source-rows frame formulas) i no-row ≡ row-of w
   unfolding source-rows
   row-held = getD-upto (frame .formulas) (row-at formulas) i no-row (x .formula) ∙ sym e

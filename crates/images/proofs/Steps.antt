@@ -62,7 +62,8 @@ asks-lower :
 asks-lower a h = record { source = a .source; ready = a .ready; memo = a .memo; formula = omega (arith, a .formula) }
 
 -- Row i with the words w.
-module _ {frame : Frame} {formulas : List ℕ} {at : Size} {before : Store} {scratch : List ℕ} {i : ℕ} (a : Asks frame formulas at before scratch i) (w : Words) (e : row-of w ≡ row-at formulas i) where
+module _ {frame : Frame} {formulas : List ℕ} {at : Size} {before : Store} {scratch : List ℕ} {i : ℕ} (a : Asks frame formulas at before scratch i)
+    (w : Words) (e : row-of w ≡ row-at formulas i) where
   pub asks-negated : w .kind ≡ 3 → Asks frame formulas at before scratch (w .a)
   asks-negated k = asks-lower a (negated-operand a w e k)
 
@@ -93,7 +94,8 @@ module _ {frame : Frame} {formulas : List ℕ} {at : Size} {before : Store} {scr
       images-leaf (steady-image-at frame formulas (side b) i) (a .memo) (builds-as (of-leaf a w e b l) x)
 
 -- Its operands.
-module _ {frame : Frame} {formulas : List ℕ} {at : Size} {before : Store} {scratch : List ℕ} {i : ℕ} (a : AsksPair frame formulas at before scratch i) (w : Words) (e : row-of w ≡ row-at formulas i) where
+module _ {frame : Frame} {formulas : List ℕ} {at : Size} {before : Store} {scratch : List ℕ} {i : ℕ}
+    (a : AsksPair frame formulas at before scratch i) (w : Words) (e : row-of w ≡ row-at formulas i) where
   pub left-lower : w .a < i
   left-lower = omega (arith, ap (λ (r : Row). r .a) e, a .left)
 

@@ -109,4 +109,10 @@ module _ (bytes out : List ℕ) {z out′ : List ℕ} {end : ℕ} (clear : z ≡
 pub flat-in : (t : Task) (i w f e o : List ℕ) → flat-bytes (lent-in t i w f e o) ≡ tables-bytes t
 unfolding flat-bytes lent-in head-of tables-bytes
 flat-in t i w f e o =
-    rw (take-append-seam (t .initial) i, take-append-seam (t .originals) w, take-at _ f (3 * length (t .formulas)) (length-words (t .formulas)), take-at _ e (3 * length (t .effects)) (length-words (t .effects)), take-at _ o (operator-width * length (t .operators)) (length-operator-words (t .operators)))
+    rw (
+      take-append-seam (t .initial) i,
+      take-append-seam (t .originals) w,
+      take-at _ f (3 * length (t .formulas)) (length-words (t .formulas)),
+      take-at _ e (3 * length (t .effects)) (length-words (t .effects)),
+      take-at _ o (operator-width * length (t .operators)) (length-operator-words (t .operators)),
+    )

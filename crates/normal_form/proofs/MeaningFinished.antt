@@ -68,7 +68,8 @@ only-second true false p q e f = rw e
 only-second false true p q e f = f
 only-second false false p q e f = refl
 
-module _ (t : Task) (rules : Checked t) (source compiled : List ℕ) (width : length source ≡ vars t) (states : Corresponding (finished t .originals) source compiled) where
+module _ (t : Task) (rules : Checked t) (source compiled : List ℕ) (width : length source ≡ vars t)
+    (states : Corresponding (finished t .originals) source compiled) where
   seen : Seen (vars t) (built t .st)
   unfolding finished
   seen =

@@ -89,7 +89,8 @@ module _ (frame : Frame) (formulas effects : List ℕ) (e : ℕ) where
   unfolding all-changes each give
   none-recorded at s from l = recorded-none from l
 
-  module _ {at : Size} {before mid : Store} {s2 : List ℕ} {here : Size} (v : ℕ) (x : Reaches (all-changes frame formulas effects e v) frame formulas effects at before mid s2 false here) where
+  module _ {at : Size} {before mid : Store} {s2 : List ℕ} {here : Size} (v : ℕ)
+      (x : Reaches (all-changes frame formulas effects e v) frame formulas effects at before mid s2 false here) where
     changes-more :
         {after : Store} {s3 : List ℕ} {full : Bool} {next : Size}
         → Reaches (changes-of (frame .variables) (effect-tree frame formulas effects e) v) frame formulas effects here mid after s3 full next
@@ -174,7 +175,8 @@ looks-on a n h =
 pub looks-at : {frame : Frame} {notes : List ℕ} {e from v : ℕ} → LooksOn frame notes e from → v < frame .variables → InSet frame v e
 looks-at l h = record { variables = l .variables; limit = l .limit; variable = h; effect = l .effect }
 
-module _ {frame : Frame} {formulas effects notes : List ℕ} {e : ℕ} {at : Size} {before : Store} {s1 : List ℕ} (a : StandsAt frame formulas effects notes at before s1 e) where
+module _ {frame : Frame} {formulas effects notes : List ℕ} {e : ℕ} {at : Size} {before : Store} {s1 : List ℕ}
+    (a : StandsAt frame formulas effects notes at before s1 e) where
   -- on to the next variable of which an atom is named
   walking-on :
       {mid : Store} {s2 : List ℕ} {from : ℕ} {l m : List ℕ} {here : Size} {k v next : ℕ} {notes' : List ℕ} {t : St}
@@ -208,7 +210,8 @@ module _ {frame : Frame} {formulas effects notes : List ℕ} {e : ℕ} {at : Siz
       })
       (a .noted) n
 
-  module _ {mid : Store} {s2 : List ℕ} {from : ℕ} {l m : List ℕ} {here : Size} {k v : ℕ} (w : Walking frame formulas effects e at before mid s2 from l m here k v) where
+  module _ {mid : Store} {s2 : List ℕ} {from : ℕ} {l m : List ℕ} {here : Size} {k v : ℕ}
+      (w : Walking frame formulas effects e at before mid s2 from l m here k v) where
     -- what the change of variable v asks, whose bits say what is named, and what recording it asks
     pub walking-asks :
         {notes' : List ℕ} {sets clears : Bool}
@@ -235,38 +238,40 @@ module _ {frame : Frame} {formulas effects notes : List ℕ} {e : ℕ} {at : Siz
           limit = omega (arith, o .limit, w .few, w .below, a .stands .ready .variables);
         }
 
-    module _ {after : Store} {s3 : List ℕ} {there : Size} (c : Change) (y : Makes (changes-of (frame .variables) (effect-tree frame formulas effects e) v) frame formulas effects here mid after s3 (c .full) there (made v c)) where
-      pub walking-stops :
-          {n : List ℕ} {r : Tally}
-          → v < frame .variables
-          → c .full ≡ true
-          → r .full ≡ true
-          → Walked (all-changes frame formulas effects e (frame .variables)) frame formulas effects at before after s3 from l n r
-      walking-stops h q full =
-          record {
-            reaches =
-                rw full
-                (changes-stop frame formulas effects e (v + 1) (frame .variables) (omega arith)
-                (rw q at (changes-more frame formulas effects e v (w .reaches) (y .reaches))));
-            recorded = λ z. absurd (true≢false (sym full ∙ z));
-          }
+    module _ {after : Store} {s3 : List ℕ} {there : Size} (c : Change)
+        (y : Makes (changes-of (frame .variables) (effect-tree frame formulas effects e) v) frame formulas effects here mid after s3 (c .full) there (made v c))
+      where
+        pub walking-stops :
+            {n : List ℕ} {r : Tally}
+            → v < frame .variables
+            → c .full ≡ true
+            → r .full ≡ true
+            → Walked (all-changes frame formulas effects e (frame .variables)) frame formulas effects at before after s3 from l n r
+        walking-stops h q full =
+            record {
+              reaches =
+                  rw full
+                  (changes-stop frame formulas effects e (v + 1) (frame .variables) (omega arith)
+                  (rw q at (changes-more frame formulas effects e v (w .reaches) (y .reaches))));
+              recorded = λ z. absurd (true≢false (sym full ∙ z));
+            }
 
-      pub walking-more :
-          {n notes' : List ℕ} {to next : ℕ}
-          → c .full ≡ false
-          → Recorded (made v c ∷ []) k m n to
-          → Noted frame formulas effects notes' (held there after)
-          → NextTouched frame notes' e (v + 1) next
-          → Walking frame formulas effects e at before after s3 from l n there to next
-      walking-more q z noted n =
-          walking-on
-          (record {
-            below = omega (arith, n .above, n .below);
-            reaches = rw q at (changes-more frame formulas effects e v (w .reaches) (y .reaches));
-            recorded = more-recorded frame formulas effects e v (w .reaches) c (w .recorded) y q z;
-            few = omega (arith, recorded-few z, w .few);
-          })
-          noted n
+        pub walking-more :
+            {n notes' : List ℕ} {to next : ℕ}
+            → c .full ≡ false
+            → Recorded (made v c ∷ []) k m n to
+            → Noted frame formulas effects notes' (held there after)
+            → NextTouched frame notes' e (v + 1) next
+            → Walking frame formulas effects e at before after s3 from l n there to next
+        walking-more q z noted n =
+            walking-on
+            (record {
+              below = omega (arith, n .above, n .below);
+              reaches = rw q at (changes-more frame formulas effects e v (w .reaches) (y .reaches));
+              recorded = more-recorded frame formulas effects e v (w .reaches) c (w .recorded) y q z;
+              few = omega (arith, recorded-few z, w .few);
+            })
+            noted n
 
     pub walking-ends :
         {r : Tally}
@@ -278,7 +283,8 @@ module _ {frame : Frame} {formulas effects notes : List ℕ} {e : ℕ} {at : Siz
         (all-walked frame formulas effects e _ v (frame .variables) (omega (arith, w .below)) (w .reaches) (w .recorded))
 
 -- The precondition, then all changes.
-module _ (frame : Frame) (formulas effects : List ℕ) (p e : ℕ) {at : Size} {before mid : Store} {s1 s2 : List ℕ} {f : Step} (x : Images (image-at frame formulas plain p) frame formulas at before mid s1 s2 f) where
+module _ (frame : Frame) (formulas effects : List ℕ) (p e : ℕ) {at : Size} {before mid : Store} {s1 s2 : List ℕ} {f : Step}
+    (x : Images (image-at frame formulas plain p) frame formulas at before mid s1 s2 f) where
   precondition-over :
       f .full ≡ true
       → Reaches (operator-built frame formulas effects p e) frame formulas effects at before mid s2 true (size-of f)
@@ -349,7 +355,9 @@ stands-behind {frame} {formulas} {p = p} a x q long =
     (conditions-of-images (steady-image-at frame formulas plain p) (a .stands .noted) (a .stands .stands .effect-memo) x) q long
 
 -- Walked: the precondition, then all changes.
-module _ (frame : Frame) (formulas effects : List ℕ) (p e : ℕ) {at : Size} {before mid after : Store} {s1 s2 s3 : List ℕ} {f : Step} {from : ℕ} {l m : List ℕ} {w : Tally} (x : Images (image-at frame formulas plain p) frame formulas at before mid s1 s2 f) (q : f .full ≡ false) (y : Walked (all-changes frame formulas effects e (frame .variables)) frame formulas effects (size-of f) mid after s3 from l m w) where
+module _ (frame : Frame) (formulas effects : List ℕ) (p e : ℕ) {at : Size} {before mid after : Store} {s1 s2 s3 : List ℕ} {f : Step} {from : ℕ}
+    {l m : List ℕ} {w : Tally} (x : Images (image-at frame formulas plain p) frame formulas at before mid s1 s2 f) (q : f .full ≡ false)
+    (y : Walked (all-changes frame formulas effects e (frame .variables)) frame formulas effects (size-of f) mid after s3 from l m w) where
   value-is :
       operator-built frame formulas effects p e (held at before) .value
       ≡ all-changes frame formulas effects e (frame .variables) (held (size-of f) mid) .value

@@ -8,7 +8,8 @@ use mathlib.Core.Path.{_≡_}
 use mathlib.Core.List.{List, [], _∷_, _++_}
 use lib.ListN.{length, getD, length-append, List·getD-append}
 use lib.Seq.{getD-append-add}
-use Rattle.task.specs.Table.{Row, Operator, operator-width, Lent, Task, operator-at, task-of, FormulaKind, false-kind, true-kind, variable-kind, not-kind, and-kind, or-kind, implies-kind, equivalent-kind, unknown-formula, formula-kind, EffectKind, empty-kind, set-kind, clear-kind, both-kind, under-kind, unknown-effect, effect-kind}
+use Rattle.task.specs.Table.{Row, Operator, operator-width, Lent, Task, operator-at, task-of, FormulaKind, false-kind, true-kind, variable-kind, not-kind, and-kind}
+use Rattle.task.specs.Table.{or-kind, implies-kind, equivalent-kind, unknown-formula, formula-kind, EffectKind, empty-kind, set-kind, clear-kind, both-kind, under-kind, unknown-effect, effect-kind}
 use Rattle.task.specs.Rules.{no-row, no-operator, FormulaRule, EffectRule, Checked, word-limit, RowWords, OperatorWords, Rules, LentWords, LongEnough}
 use Rattle.task.specs.Words.{joined, row-words, operator-row-words, words-of, operator-words, lent-of}
 use Rattle.task.proofs.KindNumbers.{HasFormulaNumber, formula-number, HasEffectNumber, effect-number}

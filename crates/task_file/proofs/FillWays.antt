@@ -32,7 +32,8 @@ module _ (h : Head) (file : List ℕ) (at : ℕ) (f e o : List ℕ) where
   formulas-lost {f′} p q =
       record { told = rw (part-lost p q, q); formulas-behind = p .behind; effects-behind = refl; operators-behind = refl }
 
-  module _ {f′ : List ℕ} {r1 : Place} {x : ℕ} (p1 : ReadPart (3 * h .formulas) file (words-read Formulas h (h .formulas) (drop at file)) r1 f f′) (q1 : r1 ≡ At x) where
+  module _ {f′ : List ℕ} {r1 : Place} {x : ℕ} (p1 : ReadPart (3 * h .formulas) file (words-read Formulas h (h .formulas) (drop at file)) r1 f f′)
+      (q1 : r1 ≡ At x) where
     pub effects-lost :
         {e′ : List ℕ} {r : Place} {n : ℕ}
         → ReadPart (3 * h .effects) file (words-read Effects h (h .effects) (drop x file)) r e e′
@@ -42,7 +43,8 @@ module _ (h : Head) (file : List ℕ) (at : ℕ) (f e o : List ℕ) where
     effects-lost p q =
         record { told = rw (part-there p1 q1, part-lost p q, q); formulas-behind = p1 .behind; effects-behind = p .behind; operators-behind = refl }
 
-    module _ {e′ : List ℕ} {r2 : Place} {y : ℕ} (p2 : ReadPart (3 * h .effects) file (words-read Effects h (h .effects) (drop x file)) r2 e e′) (q2 : r2 ≡ At y) where
+    module _ {e′ : List ℕ} {r2 : Place} {y : ℕ} (p2 : ReadPart (3 * h .effects) file (words-read Effects h (h .effects) (drop x file)) r2 e e′)
+        (q2 : r2 ≡ At y) where
       pub rows-filled :
           {o′ : List ℕ} (r : Place)
           → ReadPart (operator-width * h .operators) file (words-read Operators h (h .operators) (drop y file)) r o o′
@@ -87,7 +89,8 @@ module _ (h : Head) (file : List ℕ) (at : ℕ) (i w f e o : List ℕ) where
           operators-behind = refl;
         }
 
-    module _ {w′ : List ℕ} {r2 : Place} {y : ℕ} (p2 : ReadPart (h .twins) file (table-read (twin-read (h .variables - h .twins)) (h .twins) (drop x file)) r2 w w′) (q2 : r2 ≡ At y) where
+    module _ {w′ : List ℕ} {r2 : Place} {y : ℕ}
+        (p2 : ReadPart (h .twins) file (table-read (twin-read (h .variables - h .twins)) (h .twins) (drop x file)) r2 w w′) (q2 : r2 ≡ At y) where
       pub all-filled :
           {f′ e′ o′ : List ℕ} (r : Place)
           → RowsFilled h file y r f e o f′ e′ o′

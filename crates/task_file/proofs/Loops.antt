@@ -22,7 +22,8 @@ use Rattle.task_file.specs.declared.Place.the-variants.{At, Nowhere}
 use Rattle.task_file.specs.Inner.Answers.{ReadPart, place-told}
 
 -- a table of n rows is one of n - 1 rows and the last row
-module _ (p : ℕ → Parsed (List ℕ)) (q : ℕ → List ℕ → List ℕ → Parsed (List ℕ)) (step : (i : ℕ) → p (suc i) ≡ next (p i) (λ ws rest. next (q i ws rest) (λ x. parsed (ws ++ x)))) where
+module _ (p : ℕ → Parsed (List ℕ)) (q : ℕ → List ℕ → List ℕ → Parsed (List ℕ))
+    (step : (i : ℕ) → p (suc i) ≡ next (p i) (λ ws rest. next (q i ws rest) (λ x. parsed (ws ++ x)))) where
   pub one-more : (i : ℕ) {ws rest x rest′ : List ℕ} → p i ≡ parsed ws rest → q i ws rest ≡ parsed x rest′ → p (i + 1) ≡ parsed (ws ++ x) rest′
   unfolding next
   one-more i e f = rw (add-one i, step i, e, f)
@@ -91,7 +92,8 @@ pub record Done (n : ℕ → ℕ) (p : ℕ → Parsed (List ℕ)) (count : ℕ) 
   pub front : p i ≡ parsed (take (n i) words) (drop place file)
   pub behind : drop (n count) words ≡ drop (n count) before
 
-module _ (n : ℕ → ℕ) (p : ℕ → Parsed (List ℕ)) (q : ℕ → List ℕ → List ℕ → Parsed (List ℕ)) (step : (i : ℕ) → p (suc i) ≡ next (p i) (λ ws rest. next (q i ws rest) (λ x. parsed (ws ++ x)))) (count : ℕ) (file before : List ℕ) where
+module _ (n : ℕ → ℕ) (p : ℕ → Parsed (List ℕ)) (q : ℕ → List ℕ → List ℕ → Parsed (List ℕ))
+    (step : (i : ℕ) → p (suc i) ≡ next (p i) (λ ws rest. next (q i ws rest) (λ x. parsed (ws ++ x)))) (count : ℕ) (file before : List ℕ) where
   pub done-refused :
       (words : List ℕ) (i place : ℕ) {k : ℕ} {r : Place}
       → Done n p count file before words i place

@@ -103,7 +103,8 @@ module _ (l : Lengths) (file : List ℕ) where
     unfolding next
     head-lost q s = filled-lost (reading-lost (by-head q)) s
 
-    module _ {h : Head} {at : ℕ} {p : Place} (head : next (head-read file) (head-kept l) ≡ parsed h (drop at file)) (filled : AllFilled h file at p i w f e o i′ w′ f′ e′ o′) where
+    module _ {h : Head} {at : ℕ} {p : Place} (head : next (head-read file) (head-kept l) ≡ parsed h (drop at file))
+        (filled : AllFilled h file at p i w f e o i′ w′ f′ e′ o′) where
       X : AllTables
       X =
           record {

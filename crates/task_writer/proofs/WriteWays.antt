@@ -114,7 +114,21 @@ head-size h =
     let r4 = f (h .effects) ++ r5 in
     let r3 = f (h .formulas) ++ r4 in
     let r2 = f (h .twins) ++ r3 in
-    omega (arith, length-append (f (h .variables)) r2, length-append (f (h .twins)) r3, length-append (f (h .formulas)) r4, length-append (f (h .effects)) r5, length-append (f (h .operators)) r6, length-append (f (h .goal)) [], field-length (h .variables), field-length (h .twins), field-length (h .formulas), field-length (h .effects), field-length (h .operators), field-length (h .goal))
+    omega (
+      arith,
+      length-append (f (h .variables)) r2,
+      length-append (f (h .twins)) r3,
+      length-append (f (h .formulas)) r4,
+      length-append (f (h .effects)) r5,
+      length-append (f (h .operators)) r6,
+      length-append (f (h .goal)) [],
+      field-length (h .variables),
+      field-length (h .twins),
+      field-length (h .formulas),
+      field-length (h .effects),
+      field-length (h .operators),
+      field-length (h .goal),
+    )
 
 pub same-head : (l : Lent) → LongEnough l → head-of (task-of l) ≡ l .head
 unfolding head-of task-of
@@ -151,7 +165,8 @@ module _ (l : Lent) (out : List ℕ) where
       let t : eqb (refusal l) 0 ≡ false = ne-eqb (refusal l) 0 (λ q. h (e ∙ q)) in
       rw t (λ j. wrote (NotWritten (e j)) (c j))
 
-  module _ {z out′ : List ℕ} {n end : ℕ} (clear : z ≡ replicate (length out) 0) (checked : n ≡ refusal l) (ok : n ≡ 0) (put : Put (file-of (task-of l)) 0 end z out′) where
+  module _ {z out′ : List ℕ} {n end : ℕ} (clear : z ≡ replicate (length out) 0) (checked : n ≡ refusal l) (ok : n ≡ 0)
+      (put : Put (file-of (task-of l)) 0 end z out′) where
     passes : eqb (refusal l) 0 ≡ true
     passes = eq-eqb (refusal l) 0 (sym checked ∙ ok)
 

@@ -12,13 +12,16 @@ evaluate-requires : tie.Need-evaluate-requires
 evaluate-requires c κs = c .before .before .before .before .before .before .pre .formulas (c .before .if1 .left)
 
 mark-requires : tie.Need-mark-requires
-mark-requires c κs = still-markable (c .before .before .before .before .before .before .before .before .before .before .pre .effects) (c .before .before .before .evaluate .kept .1 .1 .1 .1 .0)
-
-same-length : tie.Need-same-length
-same-length c = search needs
+mark-requires c κs =
+    let at-evaluate = c .before .before .before in
+    let at-pre = at-evaluate .before .before .before .before .before .before .before in
+    still-markable (at-pre .pre .effects) (at-evaluate .evaluate .kept .1 .1 .1 .1 .0)
 
 returns-2 : tie.Need-returns-2
-returns-2 c = now-decided (c .before .before .before .before .before .before .before .before .if1 .left) (c .before .before .before .before .before .before .evaluate .kept .1 .1 .1 .1 .0) (c .before .before .before .before .before .before .evaluate .ensures) (c .before .before .mark .ensures)
+returns-2 c =
+    let at-evaluate = c .before .before .before .before .before .before in
+    let at-if1 = at-evaluate .before .before in
+    now-decided (at-if1 .if1 .left) (at-evaluate .evaluate .kept .1 .1 .1 .1 .0) (at-evaluate .evaluate .ensures) (c .before .before .mark .ensures)
 
 pub decide-spec : {M : Type 1} → statement M
-decide-spec = tie.close (tie.spec returns evaluate-requires mark-requires same-length returns-2)
+decide-spec = tie.close (tie.spec returns evaluate-requires mark-requires (λ c. search needs) returns-2)

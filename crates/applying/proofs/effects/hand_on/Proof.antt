@@ -8,41 +8,8 @@ use lib.ListN.{length-set}
 use Rattle.task.specs.Table.{row-at}
 use Rattle.applying.proofs.Handing.{both-refs, under-refs, handed-both, handed-under, handed-shut, handed-none}
 
-mul-kind : tie.Need-mul-kind
-mul-kind c = search needs
-
-mul-kind-2 : tie.Need-mul-kind-2
-mul-kind-2 c = search needs
-
-shared-slice-read-kind : tie.Need-shared-slice-read-kind
-shared-slice-read-kind c = search needs
-
-mul-a : tie.Need-mul-a
-mul-a c = search needs
-
-add-a : tie.Need-add-a
-add-a c = search needs
-
-mul-a-2 : tie.Need-mul-a-2
-mul-a-2 c = search needs
-
-shared-slice-read-a : tie.Need-shared-slice-read-a
-shared-slice-read-a c = search needs
-
 cast-a : tie.Need-cast-a
 cast-a c = omega (arith, c .shared-slice-known2 .given (3 * c .before .before .args .i + 1))
-
-mul-b : tie.Need-mul-b
-mul-b c = search needs
-
-add-b : tie.Need-add-b
-add-b c = search needs
-
-mul-b-2 : tie.Need-mul-b-2
-mul-b-2 c = search needs
-
-shared-slice-read-b : tie.Need-shared-slice-read-b
-shared-slice-read-b c = search needs
 
 cast-b : tie.Need-cast-b
 cast-b c = omega (arith, c .shared-slice-known3 .given (3 * c .before .before .before .args .i + 2))
@@ -75,15 +42,9 @@ slice-write-scratch-3 : tie.Need-slice-write-scratch-3
 unfolding row-at
 slice-write-scratch-3 c = omega (arith, under-refs (c .before .before .before .before .before .before .before .pre) (c .before .before .if2 .taken))
 
-same-length : tie.Need-same-length
-same-length c = search needs
-
 returns : tie.Need-returns
 unfolding row-at
 returns c = handed-both (c .before .before .before .before .pre) (c .if1 .taken)
-
-same-length-2 : tie.Need-same-length-2
-same-length-2 c = search needs
 
 returns-2 : tie.Need-returns-2
 unfolding row-at
@@ -101,29 +62,7 @@ pub hand-on-spec : {M : Type 1} → statement M
 hand-on-spec =
     tie.close
     (tie.spec
-    mul-kind
-    mul-kind-2
-    shared-slice-read-kind
-    mul-a
-    add-a
-    mul-a-2
-    shared-slice-read-a
-    cast-a
-    mul-b
-    add-b
-    mul-b-2
-    shared-slice-read-b
-    cast-b
-    add-scratch
-    slice-write-scratch
-    add-scratch-2
-    slice-write-scratch-2
-    slice-read-if3
-    add-scratch-3
-    slice-write-scratch-3
-    same-length
-    returns
-    same-length-2
-    returns-2
-    returns-3
+    (λ c. search needs) (λ c. search needs) (λ c. search needs) (λ c. search needs) (λ c. search needs) (λ c. search needs) (λ c. search needs) cast-a
+    (λ c. search needs) (λ c. search needs) (λ c. search needs) (λ c. search needs) cast-b add-scratch slice-write-scratch add-scratch-2
+    slice-write-scratch-2 slice-read-if3 add-scratch-3 slice-write-scratch-3 (λ c. search needs) returns (λ c. search needs) returns-2 returns-3
     returns-4)

@@ -22,36 +22,52 @@ add-left c = omega (arith, c .before .before .before .before .before .before .pr
 loop-holds : tie.Need-loop-holds Inv-loop μ-loop
 loop-holds c = (omega arith, starts (c .before .before .begin-marks .ensures))
 
-sub-left : tie.Need-sub-left Inv-loop μ-loop
-sub-left c = omega arith
-
 add-if1 : tie.Need-add-if1 Inv-loop μ-loop
 add-if1 c = omega (arith, c .before .before .before .before .before .before .before .before .pre .marks)
 
 slice-read-if1 : tie.Need-slice-read-if1 Inv-loop μ-loop
-slice-read-if1 c = omega (arith, c .before .before .before .before .before .before .before .before .before .pre .marks, c .before .before .loop .inv .1 .same, c .before .before .before .before .before .begin-marks .ensures .same)
+slice-read-if1 c =
+    let at-begin-marks = c .before .before .before .before .before in
+    let at-pre = at-begin-marks .before .before .before .before in
+    omega (arith, at-pre .pre .marks, c .before .before .loop .inv .1 .same, at-begin-marks .begin-marks .ensures .same)
 
 hand-on-requires : tie.Need-hand-on-requires Inv-loop μ-loop
-hand-on-requires c κs = markable-here (still-markable (c .before .before .before .before .before .before .before .before .before .before .before .pre) (c .before .before .before .before .before .before .before .begin-marks .ensures .same)) (omega arith) (c .before .before .before .before .loop .inv .0) (c .before .before .before .before .loop .inv .1)
-
-loop-less : tie.Need-loop-less Inv-loop μ-loop
-loop-less c = omega arith
+hand-on-requires c κs =
+    let at-loop = c .before .before .before .before in
+    let at-begin-marks = at-loop .before .before .before in
+    let at-pre = at-begin-marks .before .before .before .before in
+    markable-here (still-markable (at-pre .pre) (at-begin-marks .begin-marks .ensures .same)) (omega arith) (at-loop .loop .inv .0) (at-loop .loop .inv .1)
 
 loop-again : tie.Need-loop-again Inv-loop μ-loop
-loop-again c = (omega arith, hands-on (still-markable (c .before .before .before .before .before .before .before .before .before .before .before .before .before .before .pre) (c .before .before .before .before .before .before .before .before .before .before .begin-marks .ensures .same)) (omega arith) (c .before .before .before .before .before .before .before .loop .inv .0) (c .before .before .before .before .before .before .before .loop .inv .1) (c .before .before .hand-on .last .1 .1 .1 .0) (c .before .before .before .before .if1 .taken) (c .before .before .hand-on .ensures))
-
-loop-less-2 : tie.Need-loop-less-2 Inv-loop μ-loop
-loop-less-2 c = omega arith
+loop-again c =
+    let at-if1 = c .before .before .before .before in
+    let at-loop = at-if1 .before .before .before in
+    let at-begin-marks = at-loop .before .before .before in
+    let at-pre = at-begin-marks .before .before .before .before in (
+      omega arith,
+      hands-on (still-markable (at-pre .pre) (at-begin-marks .begin-marks .ensures .same)) (omega arith) (at-loop .loop .inv .0) (at-loop .loop .inv .1)
+          (c .before .before .hand-on .last .1 .1 .1 .0) (at-if1 .if1 .taken) (c .before .before .hand-on .ensures),
+    )
 
 loop-again-2 : tie.Need-loop-again-2 Inv-loop μ-loop
-loop-again-2 c = (omega arith, passes (still-markable (c .before .before .before .before .before .before .before .before .before .before .pre) (c .before .before .before .before .before .before .begin-marks .ensures .same)) (omega arith) (c .before .before .before .loop .inv .0) (c .before .before .before .loop .inv .1) (c .if1 .left))
+loop-again-2 c =
+    let at-loop = c .before .before .before in
+    let at-begin-marks = at-loop .before .before .before in
+    let at-pre = at-begin-marks .before .before .before .before in (
+      omega arith,
+      passes (still-markable (at-pre .pre) (at-begin-marks .begin-marks .ensures .same)) (omega arith) (at-loop .loop .inv .0) (at-loop .loop .inv .1)
+          (c .if1 .left),
+    )
 
 same-length : tie.Need-same-length Inv-loop μ-loop
 same-length c = c .before .loop .inv .1 .same ∙ c .before .before .before .before .begin-marks .ensures .same
 
 returns : tie.Need-returns Inv-loop μ-loop
-returns c = let e : c .before .loop .left ≡ 0 = omega arith in
-    finished (c .before .before .before .before .before .before .before .before .pre) (c .before .before .before .before .begin-marks .ensures) (rw e at (c .before .loop .inv .1))
+returns c =
+    let at-begin-marks = c .before .before .before .before in
+    let at-pre = at-begin-marks .before .before .before .before in
+    let e : c .before .loop .left ≡ 0 = omega arith in
+    finished (at-pre .pre) (at-begin-marks .begin-marks .ensures) (rw e at (c .before .loop .inv .1))
 
 pub mark-spec : {M : Type 1} → statement M
 mark-spec =
@@ -59,16 +75,5 @@ mark-spec =
     (tie.spec
     Inv-loop
     μ-loop
-    begin-marks-requires
-    add-left
-    loop-holds
-    sub-left
-    add-if1
-    slice-read-if1
-    hand-on-requires
-    loop-less
-    loop-again
-    loop-less-2
-    loop-again-2
-    same-length
-    returns)
+    begin-marks-requires add-left loop-holds (λ c. omega arith) add-if1 slice-read-if1 hand-on-requires (λ c. omega arith) loop-again
+    (λ c. omega arith) loop-again-2 same-length returns)

@@ -24,38 +24,58 @@ abbrev μ-loop : tie.MeasureT-loop
 
 loop-holds : tie.Need-loop-holds Inv-loop μ-loop
 loop-holds c =
-    let s = c .before .before .before in
-    (omega arith, s .pre .in-order .order, refl, s .pre .ready .rows, λ twins p. records-none (s .args .frame .variables) twins (s .args .records .now) (s .args .k) (s .pre .ready .rows))
+    let at-entry = c .before .before .before in
+    let s = at-entry in (
+      omega arith,
+      s .pre .in-order .order,
+      refl,
+      s .pre .ready .rows,
+      λ twins p. records-none (s .args .frame .variables) twins (s .args .records .now) (s .args .k) (s .pre .ready .rows),
+    )
 
 add-read-row : tie.Need-add-read-row Inv-loop μ-loop
 add-read-row c = omega (arith, c .loop-test .taken, c .before .before .before .before .before .pre .in-order .limit)
 
 read-row-requires : tie.Need-read-row-requires Inv-loop μ-loop
-read-row-requires c κs = omega (arith, c .loop-test .taken, c .before .before .before .before .before .pre .in-order .limit, c .before .before .before .before .before .pre .room)
+read-row-requires c κs =
+    let at-pre = c .before .before .before .before .before in
+    omega (arith, c .loop-test .taken, at-pre .pre .in-order .limit, at-pre .pre .room)
 
 write-changes-requires : tie.Need-write-changes-requires Inv-loop μ-loop
 write-changes-requires c κs =
-    let s = c .before .before .before .before .before .before .before in
-    let below = change-below (s .args .records .now) (c .before .before .before .loop .i) (s .pre .in-order) (c .before .before .before .loop .inv .0) (c .before .before .loop-test .taken) (c .before .read-row .ensures) in
-    (record { rows = c .before .before .before .loop .inv .3; variables = s .pre .ready .variables }, omega (arith, below, s .pre .each-placed))
+    let at-loop = c .before .before .before in
+    let at-entry = at-loop .before .before .before .before in
+    let s = at-entry in
+    let below = change-below (s .args .records .now) (at-loop .loop .i) (s .pre .in-order) (at-loop .loop .inv .0) (c .before .before .loop-test .taken)
+    (c .before .read-row .ensures) in
+    (record { rows = at-loop .loop .inv .3; variables = s .pre .ready .variables }, omega (arith, below, s .pre .each-placed))
 
 add-i : tie.Need-add-i Inv-loop μ-loop
-add-i c = omega (arith, c .before .before .before .before .before .loop-test .taken, c .before .before .before .before .before .before .before .before .before .before .pre .in-order .limit)
+add-i c =
+    let at-loop-test = c .before .before .before .before .before in
+    let at-pre = at-loop-test .before .before .before .before .before in
+    omega (arith, at-loop-test .loop-test .taken, at-pre .pre .in-order .limit)
 
 loop-less : tie.Need-loop-less Inv-loop μ-loop
 loop-less c = omega (arith, c .before .before .before .before .before .loop-test .taken)
 
 loop-again : tie.Need-loop-again Inv-loop μ-loop
 loop-again c =
-    let s = c .before .before .before .before .before .before .before .before .before .before in
-    let w = c .before .before .before .before .read-row .result in
-    let below = change-below (s .args .records .now) (c .before .before .before .before .before .before .loop .i) (s .pre .in-order) (c .before .before .before .before .before .before .loop .inv .0) (c .before .before .before .before .before .loop-test .taken) (c .before .before .before .before .read-row .ensures) in (
-      omega (arith, c .before .before .before .before .before .before .loop .inv .0),
-      omega (arith, c .before .before .before .before .before .loop-test .taken),
-      c .before .before .write-changes .kept .0 ∙ c .before .before .before .before .before .before .loop .inv .2,
+    let at-read-row = c .before .before .before .before in
+    let at-loop-test = at-read-row .before in
+    let at-loop = at-loop-test .before in
+    let at-entry = at-loop .before .before .before .before in
+    let s = at-entry in
+    let w = at-read-row .read-row .result in
+    let below = change-below (s .args .records .now) (at-loop .loop .i) (s .pre .in-order) (at-loop .loop .inv .0) (at-loop-test .loop-test .taken)
+    (at-read-row .read-row .ensures) in (
+      omega (arith, at-loop .loop .inv .0),
+      omega (arith, at-loop-test .loop-test .taken),
+      c .before .before .write-changes .kept .0 ∙ at-loop .loop .inv .2,
       c .before .before .write-changes .ensures .ready,
       λ twins p.
-          records-more (s .args .frame .variables) twins (s .args .records .now) (s .args .k) (c .before .before .before .before .before .before .loop .i) w (c .before .before .before .before .before .before .loop .inv .0) (c .before .before .before .before .read-row .ensures) (c .before .before .before .before .before .before .loop .inv .4 twins p)
+          records-more (s .args .frame .variables) twins (s .args .records .now) (s .args .k) (at-loop .loop .i) w (at-loop .loop .inv .0)
+          (at-read-row .read-row .ensures) (at-loop .loop .inv .4 twins p)
           (writes-placed (s .args .frame) (record { variable = w .kind; adds = w .a; deletes = w .b }) p below (c .before .before .write-changes .ensures)),
     )
 
@@ -64,10 +84,12 @@ same-length c = c .before .loop .inv .2
 
 returns : tie.Need-returns Inv-loop μ-loop
 returns c =
-    let s = c .before .before .before .before .before in (
+    let at-entry = c .before .before .before .before .before in
+    let s = at-entry in (
       c .before .loop .inv .3,
       λ twins p.
-          records-all (s .args .frame .variables) twins (s .args .records .now) (s .args .k) (c .before .loop .i) (s .args .end) (omega (arith, c .before .loop .inv .1, c .loop-test .left)) (c .before .loop .inv .4 twins p),
+          records-all (s .args .frame .variables) twins (s .args .records .now) (s .args .k) (c .before .loop .i) (s .args .end)
+          (omega (arith, c .before .loop .inv .1, c .loop-test .left)) (c .before .loop .inv .4 twins p),
     )
 
 pub write-records-spec : {M : Type 1} → statement M
@@ -76,12 +98,4 @@ write-records-spec =
     (tie.spec
     Inv-loop
     μ-loop
-    loop-holds
-    add-read-row
-    read-row-requires
-    write-changes-requires
-    add-i
-    loop-less
-    loop-again
-    same-length
-    returns)
+    loop-holds add-read-row read-row-requires write-changes-requires add-i loop-less loop-again same-length returns)

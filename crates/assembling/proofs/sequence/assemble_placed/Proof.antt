@@ -18,61 +18,89 @@ abbrev μ-loop : tie.MeasureT-loop
 
 loop-holds : tie.Need-loop-holds Inv-loop μ-loop
 loop-holds c =
-    let s = c .before .before .before .before .before in
+    let at-entry = c .before .before .before .before .before in
+    let s = at-entry in
     let a = s .pre .0 in (
       omega arith,
       refl,
       refl,
       begins-none (s .args .records .now),
-      λ twins p. assembling-begun (s .args .frame .variables) twins (s .args .operators .now) (s .args .records .now) (s .args .out .now) (s .args .written .now) (omega (arith, a .one, a .space)) (a .blank) (a .blank-operators),
+      λ twins p. assembling-begun (s .args .frame .variables) twins (s .args .operators .now) (s .args .records .now) (s .args .out .now)
+          (s .args .written .now) (omega (arith, a .one, a .space)) (a .blank) (a .blank-operators),
       a .one,
     )
 
 read-row-requires : tie.Need-read-row-requires Inv-loop μ-loop
-read-row-requires c κs = omega (arith, c .loop-test .taken, c .before .before .before .before .before .before .before .pre .0 .limit, c .before .before .before .before .before .before .before .pre .0 .room)
+read-row-requires c κs =
+    let at-pre = c .before .before .before .before .before .before .before in
+    omega (arith, c .loop-test .taken, at-pre .pre .0 .limit, at-pre .pre .0 .room)
 
 assemble-operator-requires : tie.Need-assemble-operator-requires Inv-loop μ-loop
 assemble-operator-requires c κs =
-    let s = c .before .before .before .before .before .before .before .before .before .before in
-    let inv = c .before .before .before .before .loop .inv in
-    asks-operator (c .before .before .read-row .result) (s .pre .0) (s .pre .1) (c .before .before .before .loop-test .taken) (c .before .before .read-row .ensures) (inv .3) (inv .5) (inv .1) (inv .2)
+    let at-loop-test = c .before .before .before in
+    let at-loop = at-loop-test .before in
+    let at-entry = at-loop .before .before .before .before .before .before in
+    let s = at-entry in
+    let inv = at-loop .loop .inv in
+    asks-operator (c .before .before .read-row .result) (s .pre .0) (s .pre .1) (at-loop-test .loop-test .taken) (c .before .before .read-row .ensures) (inv .3)
+    (inv .5) (inv .1) (inv .2)
 
 same-length : tie.Need-same-length Inv-loop μ-loop
-same-length c = c .before .before .before .before .before .assemble-operator .kept .1 .1 .1 .1 .1 .1 .1 .1 .0 ∙ c .before .before .before .before .before .before .before .before .before .before .loop .inv .1
+same-length c =
+    let at-assemble-operator = c .before .before .before .before .before in
+    let at-loop = at-assemble-operator .before .before .before .before .before in
+    at-assemble-operator .assemble-operator .kept .1 .1 .1 .1 .1 .1 .1 .1 .0 ∙ at-loop .loop .inv .1
 
 same-length-2 : tie.Need-same-length-2 Inv-loop μ-loop
-same-length-2 c = c .before .before .before .before .before .assemble-operator .kept .1 .1 .1 .1 .1 .1 .1 .1 .1 .0 ∙ c .before .before .before .before .before .before .before .before .before .before .loop .inv .2
+same-length-2 c =
+    let at-assemble-operator = c .before .before .before .before .before in
+    let at-loop = at-assemble-operator .before .before .before .before .before in
+    at-assemble-operator .assemble-operator .kept .1 .1 .1 .1 .1 .1 .1 .1 .1 .0 ∙ at-loop .loop .inv .2
 
 returns : tie.Need-returns Inv-loop μ-loop
 returns c =
-    let s = c .before .before .before .before .before .before .before .before .before .before .before .before .before .before .before .before in
-    let at = c .before .before .before .before .before .before .before .before .before .before .loop in
-    let w = c .before .before .before .before .before .before .before .before .read-row in
-    let done = c .before .before .before .before .before .assemble-operator in
+    let at-assemble-operator = c .before .before .before .before .before in
+    let at-read-row = at-assemble-operator .before .before .before in
+    let at-loop-test = at-read-row .before in
+    let at-loop = at-loop-test .before in
+    let at-entry = at-loop .before .before .before .before .before .before in
+    let s = at-entry in
+    let at = at-loop .loop in
+    let w = at-read-row .read-row in
+    let done = at-assemble-operator .assemble-operator in
     λ twins p.
-    assembling-stop (s .args .frame .variables) twins (s .args .operators .now) (s .args .records .now) (at .o) (w .result) (w .ensures) (at .inv .3) (at .inv .4 twins p) (done .ensures .1 twins p) (s .args .count) (c .before .before .before .before .before .before .before .before .before .loop-test .taken) (c .if1 .taken)
-
-cast-k : tie.Need-cast-k Inv-loop μ-loop
-cast-k c = omega arith
+    assembling-stop (s .args .frame .variables) twins (s .args .operators .now) (s .args .records .now) (at .o) (w .result) (w .ensures) (at .inv .3)
+    (at .inv .4 twins p) (done .ensures .1 twins p) (s .args .count) (at-loop-test .loop-test .taken) (c .if1 .taken)
 
 add-o : tie.Need-add-o Inv-loop μ-loop
-add-o c = omega (arith, c .before .before .before .before .before .before .before .before .before .before .loop-test .taken, c .before .before .before .before .before .before .before .before .before .before .before .before .before .before .before .before .before .pre .0 .limit)
+add-o c =
+    let at-loop-test = c .before .before .before .before .before .before .before .before .before .before in
+    let at-pre = at-loop-test .before .before .before .before .before .before .before in
+    omega (arith, at-loop-test .loop-test .taken, at-pre .pre .0 .limit)
 
 loop-less : tie.Need-loop-less Inv-loop μ-loop
-loop-less c = omega (arith, c .before .before .before .before .before .before .before .before .before .before .loop-test .taken)
+loop-less c =
+    let at-loop-test = c .before .before .before .before .before .before .before .before .before .before in
+    omega (arith, at-loop-test .loop-test .taken)
 
 loop-again : tie.Need-loop-again Inv-loop μ-loop
 loop-again c =
-    let s = c .before .before .before .before .before .before .before .before .before .before .before .before .before .before .before .before .before in
-    let at = c .before .before .before .before .before .before .before .before .before .before .before .loop in
-    let w = c .before .before .before .before .before .before .before .before .before .read-row in
-    let done = c .before .before .before .before .before .before .assemble-operator in (
-      omega (arith, c .before .before .before .before .before .before .before .before .before .before .loop-test .taken),
+    let at-assemble-operator = c .before .before .before .before .before .before in
+    let at-read-row = at-assemble-operator .before .before .before in
+    let at-loop-test = at-read-row .before in
+    let at-loop = at-loop-test .before in
+    let at-entry = at-loop .before .before .before .before .before .before in
+    let s = at-entry in
+    let at = at-loop .loop in
+    let w = at-read-row .read-row in
+    let done = at-assemble-operator .assemble-operator in (
+      omega (arith, at-loop-test .loop-test .taken),
       done .kept .1 .1 .1 .1 .1 .1 .1 .1 .0 ∙ at .inv .1,
       done .kept .1 .1 .1 .1 .1 .1 .1 .1 .1 .0 ∙ at .inv .2,
       begins-next (s .args .records .now) (at .o) (w .ensures),
       λ twins p.
-          assembling-more (s .args .frame .variables) twins (s .args .operators .now) (s .args .records .now) (at .o) (w .result) (w .ensures) (at .inv .3) (at .inv .4 twins p) (done .ensures .1 twins p) (c .before .if1 .left),
+          assembling-more (s .args .frame .variables) twins (s .args .operators .now) (s .args .records .now) (at .o) (w .result) (w .ensures) (at .inv .3)
+          (at .inv .4 twins p) (done .ensures .1 twins p) (c .before .if1 .left),
       done .ensures .0 .within,
     )
 
@@ -84,10 +112,12 @@ same-length-4 c = c .before .loop .inv .2
 
 returns-2 : tie.Need-returns-2 Inv-loop μ-loop
 returns-2 c =
-    let s = c .before .before .before .before .before .before .before in
+    let at-entry = c .before .before .before .before .before .before .before in
+    let s = at-entry in
     let at = c .before .loop in
     λ twins p.
-    assembling-done (s .args .frame .variables) twins (s .args .operators .now) (s .args .records .now) (at .o) (s .args .count) (omega (arith, at .inv .0, c .loop-test .left)) (at .inv .4 twins p) (at .inv .5)
+    assembling-done (s .args .frame .variables) twins (s .args .operators .now) (s .args .records .now) (at .o) (s .args .count)
+    (omega (arith, at .inv .0, c .loop-test .left)) (at .inv .4 twins p) (at .inv .5)
 
 pub assemble-placed-spec : {M : Type 1} → statement M
 assemble-placed-spec =
@@ -95,16 +125,5 @@ assemble-placed-spec =
     (tie.spec
     Inv-loop
     μ-loop
-    loop-holds
-    read-row-requires
-    assemble-operator-requires
-    same-length
-    same-length-2
-    returns
-    cast-k
-    add-o
-    loop-less
-    loop-again
-    same-length-3
-    same-length-4
-    returns-2)
+    loop-holds read-row-requires assemble-operator-requires same-length same-length-2 returns (λ c. omega arith) add-o loop-less loop-again
+    same-length-3 same-length-4 returns-2)

@@ -8,18 +8,6 @@ use native.Mathlib.Omega.{arith}
 use Rattle.atom_sets.proofs.Places.{place-within, byte-small, lacks-by}
 use Rattle.atom_sets.proofs.bits.set_word.Reads as set-word-reads
 
--- src/bits.rt:29:9
-set-word-requires : tie.Need-set-word-requires
-set-word-requires c κs = search needs
-
--- src/bits.rt:30:15
-mul-bit : tie.Need-mul-bit
-mul-bit c = search needs
-
--- src/bits.rt:30:29
-cast-bit : tie.Need-cast-bit
-cast-bit c = search needs
-
 -- src/bits.rt:30:15
 add-bit : tie.Need-add-bit
 add-bit c = omega (arith, byte-small (c .before .before .args .clear))
@@ -42,18 +30,13 @@ shr-result c = omega (arith, byte-small (c .before .before .before .args .clear)
 
 -- src/bits.rt:25:1
 returns : tie.Need-returns
-returns c = lacks-by (c .before .before .before .args .frame) (c .before .before .before .args .notes .now) (c .before .before .before .args .clear) (c .before .before .before .args .v) (c .before .before .before .args .e) (c .before .set-word .result) (c .before .set-word .ensures)
+returns c =
+    let at-args = c .before .before .before in
+    lacks-by (at-args .args .frame) (at-args .args .notes .now) (at-args .args .clear) (at-args .args .v) (at-args .args .e) (c .before .set-word .result)
+    (c .before .set-word .ensures)
 
 pub lacks-spec : {M : Type 1} → statement M
 lacks-spec =
     tie.close
     (tie.spec
-    set-word-requires
-    mul-bit
-    cast-bit
-    add-bit
-    mul-result
-    shared-slice-read-result
-    cast-result
-    shr-result
-    returns)
+    (λ c κs. search needs) (λ c. search needs) (λ c. search needs) add-bit mul-result shared-slice-read-result cast-result shr-result returns)

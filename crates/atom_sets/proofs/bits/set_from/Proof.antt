@@ -9,14 +9,6 @@ use Rattle.atom_sets.proofs.bits.set_word.Reads as set-word-reads
 use native.Mathlib.Omega.{arith}
 use Rattle.atom_sets.proofs.Places.{place-within, from-by}
 
--- src/bits.rt:47:9
-set-word-requires : tie.Need-set-word-requires
-set-word-requires c κs = search needs
-
--- src/bits.rt:48:15
-mul-bit : tie.Need-mul-bit
-mul-bit c = search needs
-
 -- src/bits.rt:49:5
 mul-result : tie.Need-mul-result
 mul-result c = omega (arith, place-within (c .before .before .pre .0), c .set-word .ensures, c .before .before .good)
@@ -25,26 +17,15 @@ mul-result c = omega (arith, place-within (c .before .before .pre .0), c .set-wo
 shared-slice-read-result : tie.Need-shared-slice-read-result
 shared-slice-read-result c = omega (arith, place-within (c .before .before .before .pre .0), c .before .set-word .ensures, c .before .before .before .pre .1)
 
--- src/bits.rt:49:17
-cast-result : tie.Need-cast-result
-cast-result c = search needs
-
--- src/bits.rt:49:5
-shr-result : tie.Need-shr-result
-shr-result c = search needs
-
 -- src/bits.rt:43:1
 returns : tie.Need-returns
-returns c = from-by (c .before .before .before .args .frame) (c .before .before .before .args .notes .now) (c .before .before .before .args .v) (c .before .before .before .args .e) (c .before .set-word .result) (c .before .set-word .ensures)
+returns c =
+    let at-args = c .before .before .before in
+    from-by (at-args .args .frame) (at-args .args .notes .now) (at-args .args .v) (at-args .args .e) (c .before .set-word .result)
+    (c .before .set-word .ensures)
 
 pub set-from-spec : {M : Type 1} → statement M
 set-from-spec =
     tie.close
     (tie.spec
-    set-word-requires
-    mul-bit
-    mul-result
-    shared-slice-read-result
-    cast-result
-    shr-result
-    returns)
+    (λ c κs. search needs) (λ c. search needs) mul-result shared-slice-read-result (λ c. search needs) (λ c. search needs) returns)

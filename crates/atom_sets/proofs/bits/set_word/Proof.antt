@@ -8,30 +8,29 @@ use Rattle.atom_sets.proofs.bits.set_words.Reads as set-words-reads
 use native.Mathlib.Omega.{arith}
 use Rattle.atom_sets.proofs.Places.{product-small, place-is}
 
--- src/bits.rt:21:5
-mul-result : tie.Need-mul-result
-mul-result c = search needs
-
--- src/bits.rt:21:26
-set-words-requires : tie.Need-set-words-requires
-set-words-requires c κs = search needs
-
 -- src/bits.rt:21:26
 mul-result-2 : tie.Need-mul-result-2
-mul-result-2 c = let p = product-small (c .set-words .result) (c .before .before .args .e) (c .set-words .ensures .1) (omega (arith, c .before .before .pre)) in omega (arith, p)
+mul-result-2 c =
+    let p = product-small (c .set-words .result) (c .before .before .args .e) (c .set-words .ensures .1) (omega (arith, c .before .before .pre)) in omega
+    (arith, p)
 
 -- src/bits.rt:21:26
 add-result : tie.Need-add-result
-add-result c = let p = product-small (c .set-words .result) (c .before .before .args .e) (c .set-words .ensures .1) (omega (arith, c .before .before .pre)) in omega (arith, p, c .before .before .pre)
+add-result c =
+    let p = product-small (c .set-words .result) (c .before .before .args .e) (c .set-words .ensures .1) (omega (arith, c .before .before .pre)) in omega
+    (arith, p, c .before .before .pre)
 
 -- src/bits.rt:21:5
 add-result-2 : tie.Need-add-result-2
-add-result-2 c = let p = product-small (c .set-words .result) (c .before .before .args .e) (c .set-words .ensures .1) (omega (arith, c .before .before .pre)) in omega (arith, p, c .before .before .pre)
+add-result-2 c =
+    let p = product-small (c .set-words .result) (c .before .before .args .e) (c .set-words .ensures .1) (omega (arith, c .before .before .pre)) in omega
+    (arith, p, c .before .before .pre)
 
 -- src/bits.rt:17:1
 returns : tie.Need-returns
-returns c = place-is (c .before .before .args .frame) (c .before .before .args .v) (c .before .before .args .e) (c .set-words .result) (c .set-words .ensures .0)
+returns c =
+    place-is (c .before .before .args .frame) (c .before .before .args .v) (c .before .before .args .e) (c .set-words .result) (c .set-words .ensures .0)
 
 pub set-word-spec : {M : Type 1} → statement M
 set-word-spec =
-    tie.close (tie.spec mul-result set-words-requires mul-result-2 add-result add-result-2 returns)
+    tie.close (tie.spec (λ c. search needs) (λ c κs. search needs) mul-result-2 add-result add-result-2 returns)

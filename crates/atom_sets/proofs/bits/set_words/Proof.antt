@@ -6,17 +6,9 @@ use Rattle.atom_sets.proofs.bits.set_words.Reads as reads
 use Rattle.atom_sets.proofs.bits.set_words.Lts as lts
 use Rattle.atom_sets.proofs.Places.{words-are}
 
--- src/bits.rt:13:6
-add-result : tie.Need-add-result
-add-result c = search needs
-
--- src/bits.rt:13:5
-mul-result : tie.Need-mul-result
-mul-result c = search needs
-
 -- src/bits.rt:9:1
 returns : tie.Need-returns
 returns c = words-are (c .before .args .frame) (c .before .pre)
 
 pub set-words-spec : {M : Type 1} → statement M
-set-words-spec = tie.close (tie.spec add-result mul-result returns)
+set-words-spec = tie.close (tie.spec (λ c. search needs) (λ c. search needs) returns)

@@ -8,25 +8,26 @@ use Rattle.atom_sets.proofs.bits.set_words.Reads as set-words-reads
 use native.Mathlib.Omega.{arith}
 use Rattle.atom_sets.proofs.Places.{product-small, end-is}
 
--- src/bits.rt:39:5
-mul-result : tie.Need-mul-result
-mul-result c = search needs
-
--- src/bits.rt:39:25
-set-words-requires : tie.Need-set-words-requires
-set-words-requires c κs = search needs
-
 -- src/bits.rt:39:25
 mul-result-2 : tie.Need-mul-result-2
-mul-result-2 c = let p = product-small (c .before .set-words .result) (c .before .before .before .args .frame .effects) (c .before .set-words .ensures .1) (c .before .before .before .pre .1) in omega (arith, p)
+mul-result-2 c =
+    let at-args = c .before .before .before in
+    let p = product-small (c .before .set-words .result) (at-args .args .frame .effects) (c .before .set-words .ensures .1) (at-args .pre .1) in omega
+    (arith, p)
 
 -- src/bits.rt:39:5
 add-result : tie.Need-add-result
-add-result c = let p = product-small (c .before .set-words .result) (c .before .before .before .args .frame .effects) (c .before .set-words .ensures .1) (c .before .before .before .pre .1) in omega (arith, p, c .before .before .before .pre)
+add-result c =
+    let at-args = c .before .before .before in
+    let p = product-small (c .before .set-words .result) (at-args .args .frame .effects) (c .before .set-words .ensures .1) (at-args .pre .1) in omega
+    (arith, p, at-args .pre)
 
 -- src/bits.rt:35:1
 returns : tie.Need-returns
-returns c = let p = product-small (c .before .set-words .result) (c .before .before .before .args .frame .effects) (c .before .set-words .ensures .1) (c .before .before .before .pre .1) in (end-is (c .before .before .before .args .frame) (c .before .set-words .result) (c .before .set-words .ensures .0), omega (arith, p, c .before .before .before .pre))
+returns c =
+    let at-args = c .before .before .before in
+    let p = product-small (c .before .set-words .result) (at-args .args .frame .effects) (c .before .set-words .ensures .1) (at-args .pre .1) in
+    (end-is (at-args .args .frame) (c .before .set-words .result) (c .before .set-words .ensures .0), omega (arith, p, at-args .pre))
 
 pub sets-end-spec : {M : Type 1} → statement M
-sets-end-spec = tie.close (tie.spec mul-result set-words-requires mul-result-2 add-result returns)
+sets-end-spec = tie.close (tie.spec (λ c. search needs) (λ c κs. search needs) mul-result-2 add-result returns)

@@ -19,7 +19,8 @@ abbrev μ-loop : tie.MeasureT-loop
 
 -- src/pass.rt:61:5
 loop-holds : tie.Need-loop-holds Inv-loop μ-loop
-loop-holds c = (omega arith, omega arith, refl, written-none (c .before .args .i) (copied (c .before .args .notes .now) (c .before .args .a)) (c .before .args .notes .now))
+loop-holds c =
+    (omega arith, omega arith, refl, written-none (c .before .args .i) (copied (c .before .args .notes .now) (c .before .args .a)) (c .before .args .notes .now))
 
 -- src/pass.rt:62:26
 add-copy-four : tie.Need-add-copy-four Inv-loop μ-loop
@@ -31,19 +32,25 @@ add-copy-four-2 c = omega (arith, c .before .before .before .before .pre, c .bef
 
 -- src/pass.rt:62:9
 copy-four-requires : tie.Need-copy-four-requires Inv-loop μ-loop
-copy-four-requires c κs = room-four (c .before .before .loop .k) (c .before .before .before .before .pre .1) (omega (arith, c .before .before .before .before .pre .0, c .before .before .loop .inv)) (c .before .before .loop .inv .2)
+copy-four-requires c κs =
+    let at-pre = c .before .before .before .before in
+    room-four (c .before .before .loop .k) (at-pre .pre .1) (omega (arith, at-pre .pre .0, c .before .before .loop .inv)) (c .before .before .loop .inv .2)
 
 -- src/pass.rt:63:9
 add-k : tie.Need-add-k Inv-loop μ-loop
 add-k c = omega (arith, c .before .before .before .before .before .before .before .pre, c .before .before .before .before .before .before .before .good)
 
 -- src/pass.rt:61:5
-loop-less : tie.Need-loop-less Inv-loop μ-loop
-loop-less c = omega arith
-
--- src/pass.rt:61:5
 loop-again : tie.Need-loop-again Inv-loop μ-loop
-loop-again c = (omega (arith, c .before .before .before .before .before .before .before .pre .0, c .before .before .before .before .before .loop .inv), omega (arith, c .before .before .before .before .before .loop .inv), c .before .before .copy-four .kept .0 ∙ c .before .before .before .before .before .loop .inv .2, copied-more (c .before .before .before .before .before .loop .k) (c .before .before .before .before .before .before .before .pre .1) (omega (arith, c .before .before .before .before .before .before .before .pre .0, c .before .before .before .before .before .loop .inv)) (c .before .before .before .before .before .loop .inv .3) (c .before .before .copy-four .ensures))
+loop-again c =
+    let at-loop = c .before .before .before .before .before in
+    let at-pre = at-loop .before .before in (
+      omega (arith, at-pre .pre .0, at-loop .loop .inv),
+      omega (arith, at-loop .loop .inv),
+      c .before .before .copy-four .kept .0 ∙ at-loop .loop .inv .2,
+      copied-more (at-loop .loop .k) (at-pre .pre .1) (omega (arith, at-pre .pre .0, at-loop .loop .inv)) (at-loop .loop .inv .3)
+          (c .before .before .copy-four .ensures),
+    )
 
 -- src/pass.rt:56:1
 same-length : tie.Need-same-length Inv-loop μ-loop
@@ -59,12 +66,4 @@ copy-spec =
     (tie.spec
     Inv-loop
     μ-loop
-    loop-holds
-    add-copy-four
-    add-copy-four-2
-    copy-four-requires
-    add-k
-    loop-less
-    loop-again
-    same-length
-    returns)
+    loop-holds add-copy-four add-copy-four-2 copy-four-requires add-k (λ c. omega arith) loop-again same-length returns)

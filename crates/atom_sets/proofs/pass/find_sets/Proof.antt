@@ -29,12 +29,13 @@ add-i : tie.Need-add-i Inv-loop μ-loop
 add-i c = omega (arith, c .before .before .before .before .before .before .before .before .before .pre .limit)
 
 -- src/pass.rt:116:5
-loop-less : tie.Need-loop-less Inv-loop μ-loop
-loop-less c = omega arith
-
--- src/pass.rt:116:5
 loop-again : tie.Need-loop-again Inv-loop μ-loop
-loop-again c = (c .before .before .set-of .kept .1 .1 .1 .0 ∙ c .before .before .before .before .before .before .loop .inv .0, finding-more (c .before .before .before .before .before .before .before .before .before .pre) (omega arith) (c .before .before .before .before .before .before .loop .inv .1) (c .before .before .set-of .ensures))
+loop-again c =
+    let at-loop = c .before .before .before .before .before .before in
+    let at-pre = at-loop .before .before .before in (
+      c .before .before .set-of .kept .1 .1 .1 .0 ∙ at-loop .loop .inv .0,
+      finding-more (at-pre .pre) (omega arith) (at-loop .loop .inv .1) (c .before .before .set-of .ensures),
+    )
 
 -- src/pass.rt:111:1
 same-length : tie.Need-same-length Inv-loop μ-loop
@@ -50,10 +51,4 @@ find-sets-spec =
     (tie.spec
     Inv-loop
     μ-loop
-    loop-holds
-    set-of-requires
-    add-i
-    loop-less
-    loop-again
-    same-length
-    returns)
+    loop-holds set-of-requires add-i (λ c. omega arith) loop-again same-length returns)

@@ -9,18 +9,6 @@ use native.Mathlib.Omega.{arith}
 use Rattle.atom_sets.proofs.Places.{place-within, byte-small}
 use Rattle.atom_sets.proofs.Finds.{put-by}
 
--- src/pass.rt:72:9
-set-word-requires : tie.Need-set-word-requires
-set-word-requires c κs = search needs
-
--- src/pass.rt:73:15
-mul-bit : tie.Need-mul-bit
-mul-bit c = search needs
-
--- src/pass.rt:73:29
-cast-bit : tie.Need-cast-bit
-cast-bit c = search needs
-
 -- src/pass.rt:73:15
 add-bit : tie.Need-add-bit
 add-bit c = omega (arith, byte-small (c .before .before .args .clear))
@@ -42,24 +30,14 @@ slice-write-notes : tie.Need-slice-write-notes
 slice-write-notes c = omega (arith, place-within (c .before .before .pre .0), c .set-word .ensures, c .before .before .pre .1)
 
 -- src/pass.rt:68:1
-same-length : tie.Need-same-length
-same-length c = search needs
-
--- src/pass.rt:68:1
 returns : tie.Need-returns
-returns c = put-by (c .before .before .args .frame) (c .before .before .args .notes .now) (c .before .before .args .clear) (c .before .before .args .v) (c .before .before .args .i) (c .set-word .result) (c .set-word .ensures)
+returns c =
+    put-by (c .before .before .args .frame) (c .before .before .args .notes .now) (c .before .before .args .clear) (c .before .before .args .v)
+    (c .before .before .args .i) (c .set-word .result) (c .set-word .ensures)
 
 pub put-atom-spec : {M : Type 1} → statement M
 put-atom-spec =
     tie.close
     (tie.spec
-    set-word-requires
-    mul-bit
-    cast-bit
-    add-bit
-    cast-notes
-    shl-notes
-    mul-notes
-    slice-write-notes
-    same-length
+    (λ c κs. search needs) (λ c. search needs) (λ c. search needs) add-bit cast-notes shl-notes mul-notes slice-write-notes (λ c. search needs)
     returns)

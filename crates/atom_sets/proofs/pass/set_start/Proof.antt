@@ -9,25 +9,21 @@ use native.Mathlib.Omega.{arith}
 use Rattle.atom_sets.proofs.Places.{product-small}
 use Rattle.atom_sets.proofs.Finds.{start-is}
 
--- src/pass.rt:82:5
-mul-result : tie.Need-mul-result
-mul-result c = search needs
-
--- src/pass.rt:82:25
-set-words-requires : tie.Need-set-words-requires
-set-words-requires c κs = search needs
-
 -- src/pass.rt:82:25
 mul-result-2 : tie.Need-mul-result-2
-mul-result-2 c = let p = product-small (c .set-words .result) (c .before .before .args .e) (c .set-words .ensures .1) (omega (arith, c .before .before .pre)) in omega (arith, p)
+mul-result-2 c =
+    let p = product-small (c .set-words .result) (c .before .before .args .e) (c .set-words .ensures .1) (omega (arith, c .before .before .pre)) in omega
+    (arith, p)
 
 -- src/pass.rt:82:5
 add-result : tie.Need-add-result
-add-result c = let p = product-small (c .set-words .result) (c .before .before .args .e) (c .set-words .ensures .1) (omega (arith, c .before .before .pre)) in omega (arith, p, c .before .before .pre)
+add-result c =
+    let p = product-small (c .set-words .result) (c .before .before .args .e) (c .set-words .ensures .1) (omega (arith, c .before .before .pre)) in omega
+    (arith, p, c .before .before .pre)
 
 -- src/pass.rt:78:1
 returns : tie.Need-returns
 returns c = start-is (c .before .before .args .frame) (c .before .before .args .e) (c .set-words .result) (c .set-words .ensures .0)
 
 pub set-start-spec : {M : Type 1} → statement M
-set-start-spec = tie.close (tie.spec mul-result set-words-requires mul-result-2 add-result returns)
+set-start-spec = tie.close (tie.spec (λ c. search needs) (λ c κs. search needs) mul-result-2 add-result returns)

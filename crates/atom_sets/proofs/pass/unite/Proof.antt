@@ -19,7 +19,12 @@ abbrev μ-loop : tie.MeasureT-loop
 
 -- src/pass.rt:34:5
 loop-holds : tie.Need-loop-holds Inv-loop μ-loop
-loop-holds c = (omega arith, omega arith, refl, written-none (c .before .args .i) (united (c .before .args .notes .now) (c .before .args .a) (c .before .args .b)) (c .before .args .notes .now))
+loop-holds c = (
+  omega arith,
+  omega arith,
+  refl,
+  written-none (c .before .args .i) (united (c .before .args .notes .now) (c .before .args .a) (c .before .args .b)) (c .before .args .notes .now),
+)
 
 -- src/pass.rt:35:27
 add-unite-four : tie.Need-add-unite-four Inv-loop μ-loop
@@ -35,19 +40,28 @@ add-unite-four-3 c = omega (arith, c .before .before .before .before .pre, c .be
 
 -- src/pass.rt:35:9
 unite-four-requires : tie.Need-unite-four-requires Inv-loop μ-loop
-unite-four-requires c κs = let h : c .before .before .loop .k + 4 ≤ c .before .before .before .before .args .n = omega (arith, c .before .before .before .before .pre .0, c .before .before .loop .inv) in (room-four (c .before .before .loop .k) (c .before .before .before .before .pre .1) h (c .before .before .loop .inv .2), room-four (c .before .before .loop .k) (c .before .before .before .before .pre .2) h (c .before .before .loop .inv .2))
+unite-four-requires c κs =
+    let at-args = c .before .before .before .before in
+    let h : c .before .before .loop .k + 4 ≤ at-args .args .n = omega (arith, at-args .pre .0, c .before .before .loop .inv) in (
+      room-four (c .before .before .loop .k) (at-args .pre .1) h (c .before .before .loop .inv .2),
+      room-four (c .before .before .loop .k) (at-args .pre .2) h (c .before .before .loop .inv .2),
+    )
 
 -- src/pass.rt:36:9
 add-k : tie.Need-add-k Inv-loop μ-loop
 add-k c = omega (arith, c .before .before .before .before .before .before .before .pre, c .before .before .before .before .before .before .before .good)
 
 -- src/pass.rt:34:5
-loop-less : tie.Need-loop-less Inv-loop μ-loop
-loop-less c = omega arith
-
--- src/pass.rt:34:5
 loop-again : tie.Need-loop-again Inv-loop μ-loop
-loop-again c = let h : c .before .before .before .before .before .loop .k + 4 ≤ c .before .before .before .before .before .before .before .args .n = omega (arith, c .before .before .before .before .before .before .before .pre .0, c .before .before .before .before .before .loop .inv) in (h, omega (arith, c .before .before .before .before .before .loop .inv), c .before .before .unite-four .kept .0 ∙ c .before .before .before .before .before .loop .inv .2, united-more (c .before .before .before .before .before .before .before .pre .1) (c .before .before .before .before .before .before .before .pre .2) h (c .before .before .before .before .before .loop .inv .3) (c .before .before .unite-four .ensures))
+loop-again c =
+    let at-loop = c .before .before .before .before .before in
+    let at-args = at-loop .before .before in
+    let h : at-loop .loop .k + 4 ≤ at-args .args .n = omega (arith, at-args .pre .0, at-loop .loop .inv) in (
+      h,
+      omega (arith, at-loop .loop .inv),
+      c .before .before .unite-four .kept .0 ∙ at-loop .loop .inv .2,
+      united-more (at-args .pre .1) (at-args .pre .2) h (at-loop .loop .inv .3) (c .before .before .unite-four .ensures),
+    )
 
 -- src/pass.rt:29:1
 same-length : tie.Need-same-length Inv-loop μ-loop
@@ -63,13 +77,4 @@ unite-spec =
     (tie.spec
     Inv-loop
     μ-loop
-    loop-holds
-    add-unite-four
-    add-unite-four-2
-    add-unite-four-3
-    unite-four-requires
-    add-k
-    loop-less
-    loop-again
-    same-length
-    returns)
+    loop-holds add-unite-four add-unite-four-2 add-unite-four-3 unite-four-requires add-k (λ c. omega arith) loop-again same-length returns)

@@ -14,15 +14,6 @@ returns c = record { done = λ q. absurd (true≢false (sym (c .if1 .taken) ∙ 
 image-from-requires : tie.Need-image-from-requires
 image-from-requires c κs = c .before .before .before .before .before .before .before .before .pre .asks (c .before .before .before .if1 .left)
 
-same-length : tie.Need-same-length
-same-length c = search needs
-
-same-length-2 : tie.Need-same-length-2
-same-length-2 c = search needs
-
-same-length-3 : tie.Need-same-length-3
-same-length-3 c = search needs
-
 returns-2 : tie.Need-returns-2
 returns-2 c =
     let at-image-from = c .before .before .before .before .before .before in
@@ -35,4 +26,4 @@ returns-2 c =
 pub take-goal-spec : {M : Type 1} → statement M
 take-goal-spec =
     tie.close
-    (tie.spec returns image-from-requires same-length same-length-2 same-length-3 returns-2)
+    (tie.spec returns image-from-requires (λ c. search needs) (λ c. search needs) (λ c. search needs) returns-2)

@@ -14,69 +14,67 @@ use Rattle.formula_builder.specs.Inner.Held.{sized}
 use mathlib.Core.Path.{refl}
 
 returns : tie.Need-returns
-returns c = (never-set (framed (c .before .before .before .before .before .before .before .args .frame .now)) (c .before .before .before .before .before .before .before .args .formulas .now) (c .before .before .before .before .before .before .before .args .effects .now) ((sized (c .before .before .before .before .before .before .before .args .rows .now) (c .before .before .before .before .before .before .before .args .twins .now))) (store (c .before .before .before .before .before .before .before .args .table .now) (c .before .before .before .before .before .before .before .args .originals .now)) (c .before .before .before .before .before .before .before .args .scratch .now) (c .before .before .before .before .before .before .before .args .e) (c .before .before .before .before .before .before .before .args .v) (c .before .before .before .before .before .before .before .args .a) (c .before .before .before .before .before .before .before .args .d) (c .before .before .before .before .before .before .before .pre) (c .if1 .taken))
+returns c =
+    let at-args = c .before .before .before .before .before .before .before in
+    (never-set (framed (at-args .args .frame .now)) (at-args .args .formulas .now) (at-args .args .effects .now)
+    ((sized (at-args .args .rows .now) (at-args .args .twins .now))) (store (at-args .args .table .now) (at-args .args .originals .now))
+    (at-args .args .scratch .now) (at-args .args .e) (at-args .args .v) (at-args .args .a) (at-args .args .d) (at-args .pre) (c .if1 .taken))
 
 returns-2 : tie.Need-returns-2
-returns-2 c = (never-cleared (framed (c .before .before .before .before .before .before .before .before .args .frame .now)) (c .before .before .before .before .before .before .before .before .args .formulas .now) (c .before .before .before .before .before .before .before .before .args .effects .now) ((sized (c .before .before .before .before .before .before .before .before .args .rows .now) (c .before .before .before .before .before .before .before .before .args .twins .now))) (store (c .before .before .before .before .before .before .before .before .args .table .now) (c .before .before .before .before .before .before .before .before .args .originals .now)) (c .before .before .before .before .before .before .before .before .args .scratch .now) (c .before .before .before .before .before .before .before .before .args .e) (c .before .before .before .before .before .before .before .before .args .v) (c .before .before .before .before .before .before .before .before .args .a) (c .before .before .before .before .before .before .before .before .args .d) (c .before .before .before .before .before .before .before .before .pre) (c .before .if1 .left) (c .if2 .taken))
+returns-2 c =
+    let at-args = c .before .before .before .before .before .before .before .before in
+    (never-cleared (framed (at-args .args .frame .now)) (at-args .args .formulas .now) (at-args .args .effects .now)
+    ((sized (at-args .args .rows .now) (at-args .args .twins .now))) (store (at-args .args .table .now) (at-args .args .originals .now))
+    (at-args .args .scratch .now) (at-args .args .e) (at-args .args .v) (at-args .args .a) (at-args .args .d) (at-args .pre) (c .before .if1 .left)
+    (c .if2 .taken))
 
 condition-requires : tie.Need-condition-requires
-condition-requires c κs = asks-condition _ (c .before .before .before .before .before .before .before .before .before .before .before .before .before .before .pre .stands) (c .before .before .before .before .before .before .before .before .before .before .before .before .before .before .pre .variable)
-
-same-length : tie.Need-same-length
-same-length c = search needs
-
-same-length-2 : tie.Need-same-length-2
-same-length-2 c = search needs
-
-same-length-3 : tie.Need-same-length-3
-same-length-3 c = search needs
-
-same-length-4 : tie.Need-same-length-4
-same-length-4 c = search needs
+condition-requires c κs =
+    let at-pre = c .before .before .before .before .before .before .before .before .before .before .before .before .before .before in
+    asks-condition _ (at-pre .pre .stands) (at-pre .pre .variable)
 
 returns-3 : tie.Need-returns-3
 unfolding condition-at
-returns-3 c = negated-full (framed (c .before .before .before .before .before .before .before .before .before .before .before .before .before .before .before .before .before .before .before .before .before .before .before .before .args .frame .now)) (c .before .before .before .before .before .before .before .before .before .before .before .before .before .before .before .before .before .before .before .before .before .before .before .before .args .formulas .now) (c .before .before .before .before .before .before .before .before .before .before .before .before .before .before .before .before .before .before .before .before .before .before .before .before .args .effects .now) ((sized (c .before .before .before .before .before .before .before .before .before .before .before .before .before .before .before .before .before .before .before .before .before .before .before .before .args .rows .now) (c .before .before .before .before .before .before .before .before .before .before .before .before .before .before .before .before .before .before .before .before .before .before .before .before .args .twins .now))) (store (c .before .before .before .before .before .before .before .before .before .before .before .before .before .before .before .before .before .before .before .before .before .before .before .before .args .table .now) (c .before .before .before .before .before .before .before .before .before .before .before .before .before .before .before .before .before .before .before .before .before .before .before .before .args .originals .now)) (c .before .before .before .before .before .before .before .before .before .before .before .before .before .before .before .before .before .before .before .before .before .before .before .before .args .scratch .now) (c .before .before .before .before .before .before .before .before .before .before .before .before .before .before .before .before .before .before .before .before .before .before .before .before .args .e) (c .before .before .before .before .before .before .before .before .before .before .before .before .before .before .before .before .before .before .before .before .before .before .before .before .args .v) (c .before .before .before .before .before .before .before .before .before .before .before .before .before .before .before .before .before .before .before .before .before .before .before .before .args .a) (c .before .before .before .before .before .before .before .before .before .before .before .before .before .before .before .before .before .before .before .before .before .before .before .before .args .d) (c .before .before .before .before .before .before .before .before .before .before .before .before .before .before .before .before .before .before .before .before .before .before .before .before .pre) (c .before .before .before .before .before .before .before .before .before .before .before .before .before .before .before .before .before .if1 .left) (c .before .before .before .before .before .before .before .before .before .before .before .before .before .before .before .before .if2 .left) (c .before .before .before .before .before .before .before .before .before .condition .ensures) (eq-eqb _ 65535 (c .if3 .taken))
-
-element-copy-out-join : tie.Need-element-copy-out-join
-element-copy-out-join c = search needs
+returns-3 c =
+    let at-condition = c .before .before .before .before .before .before .before .before .before in
+    let at-if2 = at-condition .before .before .before .before .before .before .before in
+    let at-if1 = at-if2 .before in
+    let at-args = at-if1 .before .before .before .before .before .before .before in
+    negated-full (framed (at-args .args .frame .now)) (at-args .args .formulas .now) (at-args .args .effects .now)
+    ((sized (at-args .args .rows .now) (at-args .args .twins .now))) (store (at-args .args .table .now) (at-args .args .originals .now))
+    (at-args .args .scratch .now) (at-args .args .e) (at-args .args .v) (at-args .args .a) (at-args .args .d) (at-args .pre) (at-if1 .if1 .left)
+    (at-if2 .if2 .left) (at-condition .condition .ensures) (eq-eqb _ 65535 (c .if3 .taken))
 
 join-requires : tie.Need-join-requires
 unfolding condition-at
-join-requires c κs = negated-join-asks (framed (c .before .before .before .before .before .before .before .before .before .before .before .before .before .before .before .before .before .before .before .before .before .before .before .before .before .before .before .args .frame .now)) (c .before .before .before .before .before .before .before .before .before .before .before .before .before .before .before .before .before .before .before .before .before .before .before .before .before .before .before .args .formulas .now) (c .before .before .before .before .before .before .before .before .before .before .before .before .before .before .before .before .before .before .before .before .before .before .before .before .before .before .before .args .effects .now) ((sized (c .before .before .before .before .before .before .before .before .before .before .before .before .before .before .before .before .before .before .before .before .before .before .before .before .before .before .before .args .rows .now) (c .before .before .before .before .before .before .before .before .before .before .before .before .before .before .before .before .before .before .before .before .before .before .before .before .before .before .before .args .twins .now))) (store (c .before .before .before .before .before .before .before .before .before .before .before .before .before .before .before .before .before .before .before .before .before .before .before .before .before .before .before .args .table .now) (c .before .before .before .before .before .before .before .before .before .before .before .before .before .before .before .before .before .before .before .before .before .before .before .before .before .before .before .args .originals .now)) (c .before .before .before .before .before .before .before .before .before .before .before .before .before .before .before .before .before .before .before .before .before .before .before .before .before .before .before .args .scratch .now) (c .before .before .before .before .before .before .before .before .before .before .before .before .before .before .before .before .before .before .before .before .before .before .before .before .before .before .before .args .e) (c .before .before .before .before .before .before .before .before .before .before .before .before .before .before .before .before .before .before .before .before .before .before .before .before .before .before .before .args .v) (c .before .before .before .before .before .before .before .before .before .before .before .before .before .before .before .before .before .before .before .before .before .before .before .before .before .before .before .args .a) (c .before .before .before .before .before .before .before .before .before .before .before .before .before .before .before .before .before .before .before .before .before .before .before .before .before .before .before .args .d) (c .before .before .before .before .before .before .before .before .before .before .before .before .before .before .before .before .before .before .before .before .before .before .before .before .before .before .before .pre) (c .before .before .before .before .before .before .before .before .before .before .before .before .before .before .before .before .before .before .before .before .if1 .left) (c .before .before .before .before .before .before .before .before .before .before .before .before .before .before .before .before .before .before .before .if2 .left) (c .before .before .before .before .before .before .before .before .before .before .before .before .condition .ensures) (ne-eqb _ 65535 (c .before .before .before .if3 .left))
-
-same-length-5 : tie.Need-same-length-5
-same-length-5 c = search needs
-
-same-length-6 : tie.Need-same-length-6
-same-length-6 c = search needs
-
-same-length-7 : tie.Need-same-length-7
-same-length-7 c = search needs
-
-same-length-8 : tie.Need-same-length-8
-same-length-8 c = search needs
+join-requires c κs =
+    let at-if3 = c .before .before .before in
+    let at-condition = at-if3 .before .before .before .before .before .before .before .before .before in
+    let at-if2 = at-condition .before .before .before .before .before .before .before in
+    let at-if1 = at-if2 .before in
+    let at-args = at-if1 .before .before .before .before .before .before .before in
+    negated-join-asks (framed (at-args .args .frame .now)) (at-args .args .formulas .now) (at-args .args .effects .now)
+    ((sized (at-args .args .rows .now) (at-args .args .twins .now))) (store (at-args .args .table .now) (at-args .args .originals .now))
+    (at-args .args .scratch .now) (at-args .args .e) (at-args .args .v) (at-args .args .a) (at-args .args .d) (at-args .pre) (at-if1 .if1 .left)
+    (at-if2 .if2 .left) (at-condition .condition .ensures) (ne-eqb _ 65535 (at-if3 .if3 .left))
 
 returns-4 : tie.Need-returns-4
 unfolding condition-at
-returns-4 c = negated-joined (framed (c .before .before .before .before .before .before .before .before .before .before .before .before .before .before .before .before .before .before .before .before .before .before .before .before .before .before .before .before .before .before .args .frame .now)) (c .before .before .before .before .before .before .before .before .before .before .before .before .before .before .before .before .before .before .before .before .before .before .before .before .before .before .before .before .before .before .args .formulas .now) (c .before .before .before .before .before .before .before .before .before .before .before .before .before .before .before .before .before .before .before .before .before .before .before .before .before .before .before .before .before .before .args .effects .now) ((sized (c .before .before .before .before .before .before .before .before .before .before .before .before .before .before .before .before .before .before .before .before .before .before .before .before .before .before .before .before .before .before .args .rows .now) (c .before .before .before .before .before .before .before .before .before .before .before .before .before .before .before .before .before .before .before .before .before .before .before .before .before .before .before .before .before .before .args .twins .now))) (store (c .before .before .before .before .before .before .before .before .before .before .before .before .before .before .before .before .before .before .before .before .before .before .before .before .before .before .before .before .before .before .args .table .now) (c .before .before .before .before .before .before .before .before .before .before .before .before .before .before .before .before .before .before .before .before .before .before .before .before .before .before .before .before .before .before .args .originals .now)) (c .before .before .before .before .before .before .before .before .before .before .before .before .before .before .before .before .before .before .before .before .before .before .before .before .before .before .before .before .before .before .args .scratch .now) (c .before .before .before .before .before .before .before .before .before .before .before .before .before .before .before .before .before .before .before .before .before .before .before .before .before .before .before .before .before .before .args .e) (c .before .before .before .before .before .before .before .before .before .before .before .before .before .before .before .before .before .before .before .before .before .before .before .before .before .before .before .before .before .before .args .v) (c .before .before .before .before .before .before .before .before .before .before .before .before .before .before .before .before .before .before .before .before .before .before .before .before .before .before .before .before .before .before .args .a) (c .before .before .before .before .before .before .before .before .before .before .before .before .before .before .before .before .before .before .before .before .before .before .before .before .before .before .before .before .before .before .args .d) (c .before .before .before .before .before .before .before .before .before .before .before .before .before .before .before .before .before .before .before .before .before .before .before .before .before .before .before .before .before .before .pre) (c .before .before .before .before .before .before .before .before .before .before .before .before .before .before .before .before .before .before .before .before .before .before .before .if1 .left) (c .before .before .before .before .before .before .before .before .before .before .before .before .before .before .before .before .before .before .before .before .before .before .if2 .left) (c .before .before .before .before .before .before .before .before .before .before .before .before .before .before .before .condition .ensures) (ne-eqb _ 65535 (c .before .before .before .before .before .before .if3 .left)) (c .before .before .join .ensures _ _ _ refl (c .before .before .before .before .before .before .before .before .before .before .before .before .before .before .before .condition .ensures .builds .done (ne-eqb _ 65535 (c .before .before .before .before .before .before .if3 .left)) .ready))
+returns-4 c =
+    let at-if3 = c .before .before .before .before .before .before in
+    let at-condition = at-if3 .before .before .before .before .before .before .before .before .before in
+    let at-if2 = at-condition .before .before .before .before .before .before .before in
+    let at-if1 = at-if2 .before in
+    let at-args = at-if1 .before .before .before .before .before .before .before in
+    negated-joined (framed (at-args .args .frame .now)) (at-args .args .formulas .now) (at-args .args .effects .now)
+    ((sized (at-args .args .rows .now) (at-args .args .twins .now))) (store (at-args .args .table .now) (at-args .args .originals .now))
+    (at-args .args .scratch .now) (at-args .args .e) (at-args .args .v) (at-args .args .a) (at-args .args .d) (at-args .pre) (at-if1 .if1 .left)
+    (at-if2 .if2 .left) (at-condition .condition .ensures) (ne-eqb _ 65535 (at-if3 .if3 .left))
+    (c .before .before .join .ensures _ _ _ refl (at-condition .condition .ensures .builds .done (ne-eqb _ 65535 (at-if3 .if3 .left)) .ready))
 
 pub deletes-spec : {M : Type 1} → statement M
 deletes-spec =
     tie.close
     (tie.spec
-    returns
-    returns-2
-    condition-requires
-    same-length
-    same-length-2
-    same-length-3
-    same-length-4
-    returns-3
-    element-copy-out-join
-    join-requires
-    same-length-5
-    same-length-6
-    same-length-7
-    same-length-8
-    returns-4)
+    returns returns-2 condition-requires (λ c. search needs) (λ c. search needs) (λ c. search needs) (λ c. search needs) returns-3 (λ c. search needs)
+    join-requires (λ c. search needs) (λ c. search needs) (λ c. search needs) (λ c. search needs) returns-4)

@@ -12,82 +12,110 @@ use Rattle.changes.proofs.Standing.{leaves-full, set-full, clear-full, 
 use borrow.Author.Tests.{eq-eqb, ne-eqb}
 use Rattle.formula_builder.specs.Inner.Held.{sized, framed}
 
-condition-if-requires : tie.Need-condition-if-requires
-condition-if-requires c κs = search needs
-
-same-length : tie.Need-same-length
-same-length c = search needs
-
-same-length-2 : tie.Need-same-length-2
-same-length-2 c = search needs
-
-same-length-3 : tie.Need-same-length-3
-same-length-3 c = search needs
-
-same-length-4 : tie.Need-same-length-4
-same-length-4 c = search needs
-
 returns : tie.Need-returns
 unfolding condition-at
-returns c = (set-full (framed (c .before .before .before .before .before .before .before .before .before .before .before .before .before .before .before .before .before .before .before .before .before .before .args .frame .now) .variables) (c .before .before .before .before .before .before .before .before .before .before .before .before .before .before .before .before .before .before .before .before .before .before .args .v) (effect-tree (framed (c .before .before .before .before .before .before .before .before .before .before .before .before .before .before .before .before .before .before .before .before .before .before .args .frame .now)) (c .before .before .before .before .before .before .before .before .before .before .before .before .before .before .before .before .before .before .before .before .before .before .args .formulas .now) (c .before .before .before .before .before .before .before .before .before .before .before .before .before .before .before .before .before .before .before .before .before .before .args .effects .now) (c .before .before .before .before .before .before .before .before .before .before .before .before .before .before .before .before .before .before .before .before .before .before .args .e)) (c .before .before .before .before .before .before .before .before .before .condition-if .ensures) (eq-eqb _ 65535 (c .if1 .taken)), leaves-full)
+returns c =
+    let at-condition-if = c .before .before .before .before .before .before .before .before .before in
+    let at-args = at-condition-if .before .before .before .before .before .before .before .before .before .before .before .before .before in (
+      set-full (framed (at-args .args .frame .now) .variables) (at-args .args .v)
+          (effect-tree (framed (at-args .args .frame .now)) (at-args .args .formulas .now) (at-args .args .effects .now) (at-args .args .e))
+          (at-condition-if .condition-if .ensures) (eq-eqb _ 65535 (c .if1 .taken)),
+      leaves-full,
+    )
 
 condition-if-requires-2 : tie.Need-condition-if-requires-2
-condition-if-requires-2 c κs = (stands-at-next (c .before .before .before .before .before .before .before .before .before .before .before .before .before .before .before .before .before .before .before .before .before .before .before .before .before .before .before .before .pre .0) (c .before .before .before .before .before .before .before .before .before .before .before .before .before .before .before .condition-if .ensures) (ne-eqb _ 65535 (c .before .before .before .before .before .before .if1 .left)) (c .before .before .before .before .before .before .before .before .before .before .before .before .before .before .before .condition-if .kept .1 .1 .1 .1 .1 .1 .1 .1 .1 .1 .1 .0), c .before .before .before .before .before .before .before .before .before .before .before .before .before .before .before .before .before .before .before .before .before .before .before .before .before .before .before .before .pre .3, c .before .before .before .before .before .before .before .before .before .before .before .before .before .before .before .before .before .before .before .before .before .before .before .before .before .before .before .before .pre .2)
-
-same-length-5 : tie.Need-same-length-5
-same-length-5 c = search needs
-
-same-length-6 : tie.Need-same-length-6
-same-length-6 c = search needs
-
-same-length-7 : tie.Need-same-length-7
-same-length-7 c = search needs
-
-same-length-8 : tie.Need-same-length-8
-same-length-8 c = search needs
+condition-if-requires-2 c κs =
+    let at-if1 = c .before .before .before .before .before .before in
+    let at-condition-if = at-if1 .before .before .before .before .before .before .before .before .before in
+    let at-pre = at-condition-if .before .before .before .before .before .before .before .before .before .before .before .before .before in (
+      stands-at-next (at-pre .pre .0) (at-condition-if .condition-if .ensures) (ne-eqb _ 65535 (at-if1 .if1 .left))
+          (at-condition-if .condition-if .kept .1 .1 .1 .1 .1 .1 .1 .1 .1 .1 .1 .0),
+      at-pre .pre .3,
+      at-pre .pre .2,
+    )
 
 returns-2 : tie.Need-returns-2
 unfolding condition-at
-returns-2 c = (clear-full (framed (c .before .before .before .before .before .before .before .before .before .before .before .before .before .before .before .before .before .before .before .before .before .before .before .before .before .before .before .before .before .before .before .before .before .before .before .before .before .before .args .frame .now) .variables) (c .before .before .before .before .before .before .before .before .before .before .before .before .before .before .before .before .before .before .before .before .before .before .before .before .before .before .before .before .before .before .before .before .before .before .before .before .before .before .args .v) (effect-tree (framed (c .before .before .before .before .before .before .before .before .before .before .before .before .before .before .before .before .before .before .before .before .before .before .before .before .before .before .before .before .before .before .before .before .before .before .before .before .before .before .args .frame .now)) (c .before .before .before .before .before .before .before .before .before .before .before .before .before .before .before .before .before .before .before .before .before .before .before .before .before .before .before .before .before .before .before .before .before .before .before .before .before .before .args .formulas .now) (c .before .before .before .before .before .before .before .before .before .before .before .before .before .before .before .before .before .before .before .before .before .before .before .before .before .before .before .before .before .before .before .before .before .before .before .before .before .before .args .effects .now) (c .before .before .before .before .before .before .before .before .before .before .before .before .before .before .before .before .before .before .before .before .before .before .before .before .before .before .before .before .before .before .before .before .before .before .before .before .before .before .args .e)) (c .before .before .before .before .before .before .before .before .before .before .before .before .before .before .before .before .before .before .before .before .before .before .before .before .before .condition-if .ensures) (ne-eqb _ 65535 (c .before .before .before .before .before .before .before .before .before .before .before .before .before .before .before .before .if1 .left)) (c .before .before .before .before .before .before .before .before .before .condition-if2 .ensures) (eq-eqb _ 65535 (c .if2 .taken)), leaves-full)
+returns-2 c =
+    let at-condition-if2 = c .before .before .before .before .before .before .before .before .before in
+    let at-if1 = at-condition-if2 .before .before .before .before .before .before .before in
+    let at-condition-if = at-if1 .before .before .before .before .before .before .before .before .before in
+    let at-args = at-condition-if .before .before .before .before .before .before .before .before .before .before .before .before .before in (
+      clear-full (framed (at-args .args .frame .now) .variables) (at-args .args .v)
+          (effect-tree (framed (at-args .args .frame .now)) (at-args .args .formulas .now) (at-args .args .effects .now) (at-args .args .e))
+          (at-condition-if .condition-if .ensures) (ne-eqb _ 65535 (at-if1 .if1 .left)) (at-condition-if2 .condition-if2 .ensures) (eq-eqb _ 65535 (c .if2 .taken)),
+      leaves-full,
+    )
 
 deletes-requires : tie.Need-deletes-requires
-deletes-requires c κs = record { stands = stands-at-next (stands-at-next (c .before .before .before .before .before .before .before .before .before .before .before .before .before .before .before .before .before .before .before .before .before .before .before .before .before .before .before .before .before .before .before .before .before .before .before .before .before .before .before .before .before .before .before .before .pre .0) (c .before .before .before .before .before .before .before .before .before .before .before .before .before .before .before .before .before .before .before .before .before .before .before .before .before .before .before .before .before .before .before .condition-if .ensures) (ne-eqb _ 65535 (c .before .before .before .before .before .before .before .before .before .before .before .before .before .before .before .before .before .before .before .before .before .before .if1 .left)) (c .before .before .before .before .before .before .before .before .before .before .before .before .before .before .before .before .before .before .before .before .before .before .before .before .before .before .before .before .before .before .before .condition-if .kept .1 .1 .1 .1 .1 .1 .1 .1 .1 .1 .1 .0)) (c .before .before .before .before .before .before .before .before .before .before .before .before .before .before .before .condition-if2 .ensures) (ne-eqb _ 65535 (c .before .before .before .before .before .before .if2 .left)) (c .before .before .before .before .before .before .before .before .before .before .before .before .before .before .before .condition-if2 .kept .1 .1 .1 .1 .1 .1 .1 .1 .1 .1 .1 .0); variable = c .before .before .before .before .before .before .before .before .before .before .before .before .before .before .before .before .before .before .before .before .before .before .before .before .before .before .before .before .before .before .before .before .before .before .before .before .before .before .before .before .before .before .before .before .pre .3; row = c .before .before .before .before .before .before .before .before .before .before .before .before .before .before .before .condition-if2 .ensures .builds .done (ne-eqb _ 65535 (c .before .before .before .before .before .before .if2 .left)) .below }
+deletes-requires c κs =
+    let at-if2 = c .before .before .before .before .before .before in
+    let at-condition-if2 = at-if2 .before .before .before .before .before .before .before .before .before in
+    let at-if1 = at-condition-if2 .before .before .before .before .before .before .before in
+    let at-condition-if = at-if1 .before .before .before .before .before .before .before .before .before in
+    let at-pre = at-condition-if .before .before .before .before .before .before .before .before .before .before .before .before .before in
+    record {
+      stands =
+          stands-at-next
+          (stands-at-next (at-pre .pre .0) (at-condition-if .condition-if .ensures) (ne-eqb _ 65535 (at-if1 .if1 .left))
+          (at-condition-if .condition-if .kept .1 .1 .1 .1 .1 .1 .1 .1 .1 .1 .1 .0))
+          (at-condition-if2 .condition-if2 .ensures) (ne-eqb _ 65535 (at-if2 .if2 .left))
+          (at-condition-if2 .condition-if2 .kept .1 .1 .1 .1 .1 .1 .1 .1 .1 .1 .1 .0);
+      variable = at-pre .pre .3;
+      row = at-condition-if2 .condition-if2 .ensures .builds .done (ne-eqb _ 65535 (at-if2 .if2 .left)) .below;
+    }
 
 same-length-9 : tie.Need-same-length-9
-same-length-9 c = c .before .before .before .before .before .before .before .before .deletes .kept .1 .1 .0 ∙ c .before .before .before .before .before .before .before .before .before .before .before .before .before .before .before .before .before .before .before .before .before .before .before .before .condition-if2 .kept .1 .1 .0 ∙ c .before .before .before .before .before .before .before .before .before .before .before .before .before .before .before .before .before .before .before .before .before .before .before .before .before .before .before .before .before .before .before .before .before .before .before .before .before .before .before .before .condition-if .kept .1 .1 .0
+same-length-9 c =
+    let at-deletes = c .before .before .before .before .before .before .before .before in
+    let at-condition-if2 = at-deletes .before .before .before .before .before .before .before .before .before .before .before .before .before .before .before .before in
+    let at-condition-if = at-condition-if2 .before .before .before .before .before .before .before .before .before .before .before .before .before .before .before .before in
+    at-deletes .deletes .kept .1 .1 .0 ∙ at-condition-if2 .condition-if2 .kept .1 .1 .0 ∙ at-condition-if .condition-if .kept .1 .1 .0
 
 same-length-10 : tie.Need-same-length-10
-same-length-10 c = c .before .before .before .before .before .before .before .before .deletes .kept .1 .1 .1 .1 .1 .1 .1 .1 .1 .1 .0 ∙ c .before .before .before .before .before .before .before .before .before .before .before .before .before .before .before .before .before .before .before .before .before .before .before .before .condition-if2 .kept .1 .1 .1 .1 .1 .1 .1 .1 .1 .0 ∙ c .before .before .before .before .before .before .before .before .before .before .before .before .before .before .before .before .before .before .before .before .before .before .before .before .before .before .before .before .before .before .before .before .before .before .before .before .before .before .before .before .condition-if .kept .1 .1 .1 .1 .1 .1 .1 .1 .1 .0
+same-length-10 c =
+    let at-deletes = c .before .before .before .before .before .before .before .before in
+    let at-condition-if2 = at-deletes .before .before .before .before .before .before .before .before .before .before .before .before .before .before .before .before in
+    let at-condition-if = at-condition-if2 .before .before .before .before .before .before .before .before .before .before .before .before .before .before .before .before in
+    at-deletes .deletes .kept .1 .1 .1 .1 .1 .1 .1 .1 .1 .1 .0 ∙ at-condition-if2 .condition-if2 .kept .1 .1 .1 .1 .1 .1 .1 .1 .1 .0 ∙
+    at-condition-if .condition-if .kept .1 .1 .1 .1 .1 .1 .1 .1 .1 .0
 
 same-length-11 : tie.Need-same-length-11
-same-length-11 c = c .before .before .before .before .before .before .before .before .deletes .kept .1 .1 .1 .1 .1 .1 .1 .1 .1 .1 .1 .0 ∙ c .before .before .before .before .before .before .before .before .before .before .before .before .before .before .before .before .before .before .before .before .before .before .before .before .condition-if2 .kept .1 .1 .1 .1 .1 .1 .1 .1 .1 .1 .0 ∙ c .before .before .before .before .before .before .before .before .before .before .before .before .before .before .before .before .before .before .before .before .before .before .before .before .before .before .before .before .before .before .before .before .before .before .before .before .before .before .before .before .condition-if .kept .1 .1 .1 .1 .1 .1 .1 .1 .1 .1 .0
+same-length-11 c =
+    let at-deletes = c .before .before .before .before .before .before .before .before in
+    let at-condition-if2 = at-deletes .before .before .before .before .before .before .before .before .before .before .before .before .before .before .before .before in
+    let at-condition-if = at-condition-if2 .before .before .before .before .before .before .before .before .before .before .before .before .before .before .before .before in
+    at-deletes .deletes .kept .1 .1 .1 .1 .1 .1 .1 .1 .1 .1 .1 .0 ∙ at-condition-if2 .condition-if2 .kept .1 .1 .1 .1 .1 .1 .1 .1 .1 .1 .0 ∙
+    at-condition-if .condition-if .kept .1 .1 .1 .1 .1 .1 .1 .1 .1 .1 .0
 
 same-length-12 : tie.Need-same-length-12
-same-length-12 c = c .before .before .before .before .before .before .before .before .deletes .kept .1 .1 .1 .1 .1 .1 .1 .1 .1 .1 .1 .1 .0 ∙ c .before .before .before .before .before .before .before .before .before .before .before .before .before .before .before .before .before .before .before .before .before .before .before .before .condition-if2 .kept .1 .1 .1 .1 .1 .1 .1 .1 .1 .1 .1 .0 ∙ c .before .before .before .before .before .before .before .before .before .before .before .before .before .before .before .before .before .before .before .before .before .before .before .before .before .before .before .before .before .before .before .before .before .before .before .before .before .before .before .before .condition-if .kept .1 .1 .1 .1 .1 .1 .1 .1 .1 .1 .1 .0
+same-length-12 c =
+    let at-deletes = c .before .before .before .before .before .before .before .before in
+    let at-condition-if2 = at-deletes .before .before .before .before .before .before .before .before .before .before .before .before .before .before .before .before in
+    let at-condition-if = at-condition-if2 .before .before .before .before .before .before .before .before .before .before .before .before .before .before .before .before in
+    at-deletes .deletes .kept .1 .1 .1 .1 .1 .1 .1 .1 .1 .1 .1 .1 .0 ∙ at-condition-if2 .condition-if2 .kept .1 .1 .1 .1 .1 .1 .1 .1 .1 .1 .1 .0 ∙
+    at-condition-if .condition-if .kept .1 .1 .1 .1 .1 .1 .1 .1 .1 .1 .1 .0
 
 returns-3 : tie.Need-returns-3
 unfolding condition-at
-returns-3 c = (change-made (framed (c .before .before .before .before .before .before .before .before .before .before .before .before .before .before .before .before .before .before .before .before .before .before .before .before .before .before .before .before .before .before .before .before .before .before .before .before .before .before .before .before .before .before .before .before .before .before .before .before .before .before .before .before .before .args .frame .now) .variables) (c .before .before .before .before .before .before .before .before .before .before .before .before .before .before .before .before .before .before .before .before .before .before .before .before .before .before .before .before .before .before .before .before .before .before .before .before .before .before .before .before .before .before .before .before .before .before .before .before .before .before .before .before .before .args .v) (effect-tree (framed (c .before .before .before .before .before .before .before .before .before .before .before .before .before .before .before .before .before .before .before .before .before .before .before .before .before .before .before .before .before .before .before .before .before .before .before .before .before .before .before .before .before .before .before .before .before .before .before .before .before .before .before .before .before .args .frame .now)) (c .before .before .before .before .before .before .before .before .before .before .before .before .before .before .before .before .before .before .before .before .before .before .before .before .before .before .before .before .before .before .before .before .before .before .before .before .before .before .before .before .before .before .before .before .before .before .before .before .before .before .before .before .before .args .formulas .now) (c .before .before .before .before .before .before .before .before .before .before .before .before .before .before .before .before .before .before .before .before .before .before .before .before .before .before .before .before .before .before .before .before .before .before .before .before .before .before .before .before .before .before .before .before .before .before .before .before .before .before .before .before .before .args .effects .now) (c .before .before .before .before .before .before .before .before .before .before .before .before .before .before .before .before .before .before .before .before .before .before .before .before .before .before .before .before .before .before .before .before .before .before .before .before .before .before .before .before .before .before .before .before .before .before .before .before .before .before .before .before .before .args .e)) (c .before .before .before .before .before .before .before .before .before .before .before .before .before .before .before .before .before .before .before .before .before .before .before .before .before .before .before .before .before .before .before .before .before .before .before .before .before .before .before .before .condition-if .ensures) (ne-eqb _ 65535 (c .before .before .before .before .before .before .before .before .before .before .before .before .before .before .before .before .before .before .before .before .before .before .before .before .before .before .before .before .before .before .before .if1 .left)) (c .before .before .before .before .before .before .before .before .before .before .before .before .before .before .before .before .before .before .before .before .before .before .before .before .condition-if2 .ensures) (ne-eqb _ 65535 (c .before .before .before .before .before .before .before .before .before .before .before .before .before .before .before .if2 .left)) (c .before .before .before .before .before .before .before .before .deletes .ensures), record { noted = c .before .before .before .before .before .before .before .before .deletes .ensures .noted })
+returns-3 c =
+    let at-deletes = c .before .before .before .before .before .before .before .before in
+    let at-if2 = at-deletes .before .before .before .before .before .before .before in
+    let at-condition-if2 = at-if2 .before .before .before .before .before .before .before .before .before in
+    let at-if1 = at-condition-if2 .before .before .before .before .before .before .before in
+    let at-condition-if = at-if1 .before .before .before .before .before .before .before .before .before in
+    let at-args = at-condition-if .before .before .before .before .before .before .before .before .before .before .before .before .before in (
+      change-made (framed (at-args .args .frame .now) .variables) (at-args .args .v)
+          (effect-tree (framed (at-args .args .frame .now)) (at-args .args .formulas .now) (at-args .args .effects .now) (at-args .args .e))
+          (at-condition-if .condition-if .ensures) (ne-eqb _ 65535 (at-if1 .if1 .left)) (at-condition-if2 .condition-if2 .ensures)
+          (ne-eqb _ 65535 (at-if2 .if2 .left)) (at-deletes .deletes .ensures),
+      record { noted = at-deletes .deletes .ensures .noted },
+    )
 
 pub change-of-spec : {M : Type 1} → statement M
 change-of-spec =
     tie.close
     (tie.spec
-    condition-if-requires
-    same-length
-    same-length-2
-    same-length-3
-    same-length-4
-    returns
-    condition-if-requires-2
-    same-length-5
-    same-length-6
-    same-length-7
-    same-length-8
-    returns-2
-    deletes-requires
-    same-length-9
-    same-length-10
-    same-length-11
-    same-length-12
-    returns-3)
+    (λ c κs. search needs) (λ c. search needs) (λ c. search needs) (λ c. search needs) (λ c. search needs) returns condition-if-requires-2
+    (λ c. search needs) (λ c. search needs) (λ c. search needs) (λ c. search needs) returns-2 deletes-requires same-length-9 same-length-10
+    same-length-11 same-length-12 returns-3)

@@ -28,12 +28,6 @@ mul-out-2 c = omega (arith, c .before .before .before .good, c .before .before .
 slice-write-out : tie.Need-slice-write-out Inv-loop μ-loop
 slice-write-out c = omega (arith, c .before .before .before .pre, c .before .before .loop .inv)
 
-add-i : tie.Need-add-i Inv-loop μ-loop
-add-i c = omega arith
-
-loop-less : tie.Need-loop-less Inv-loop μ-loop
-loop-less c = omega arith
-
 loop-again : tie.Need-loop-again Inv-loop μ-loop
 loop-again c =
     let at-args = c .before .before .before in
@@ -54,13 +48,4 @@ copy-words-spec =
     (tie.spec
     Inv-loop
     μ-loop
-    loop-holds
-    mul-out
-    shared-slice-read-out
-    mul-out-2
-    slice-write-out
-    add-i
-    loop-less
-    loop-again
-    same-length
-    returns)
+    loop-holds mul-out shared-slice-read-out mul-out-2 slice-write-out (λ c. omega arith) (λ c. omega arith) loop-again same-length returns)

@@ -12,9 +12,6 @@ use native.Mathlib.Omega.{arith}
 use mathlib.Core.Path.{refl}
 use Rattle.compile_parts.proofs.Written.{nothing-built, rules-over, all-written}
 
-no-room-requires : tie.Need-no-room-requires
-no-room-requires c κs = search needs
-
 returns : tie.Need-returns
 returns c = nothing-built (c .before .if1 .taken) (c .no-room .ensures)
 
@@ -25,69 +22,54 @@ assemble-operators-requires c κs =
     let stands = at-pre .pre .stands (at-if1 .if1 .left) in
     (stands .assembles, stands .twinned)
 
-no-room-requires-2 : tie.Need-no-room-requires-2
-no-room-requires-2 c κs = search needs
-
-same-length : tie.Need-same-length
-same-length c = search needs
-
-same-length-2 : tie.Need-same-length-2
-same-length-2 c = search needs
-
 returns-2 : tie.Need-returns-2
 returns-2 c = rules-over (c .before .before .before .before .before .before .assemble-operators .ensures) (c .before .if2 .taken) (c .no-room2 .ensures)
 
 write-initial-requires : tie.Need-write-initial-requires
 write-initial-requires c κs =
-    let at-if1 = c .before .before .before .before .before .before .before .before .before .before in
+    let at-entry = c .before .before .before .before .before .before .before .before .before .before in
+    let at-if1 = at-entry in
     let at-pre = at-if1 .before .before .before .before .before .before .before .before .before .before in
     at-pre .pre .stands (at-if1 .if1 .left) .initial-ready
 
 mul-copy-words : tie.Need-mul-copy-words
 mul-copy-words c =
-    let at-if1 = c .before .before .before .before .before .before .before .before .before .before .before .before .before .before .before in
+    let at-entry = c .before .before .before .before .before .before .before .before .before .before .before .before .before .before .before in
+    let at-if1 = at-entry in
     let at-pre = at-if1 .before .before .before .before .before .before .before .before .before .before in
     omega (arith, at-pre .pre .stands (at-if1 .if1 .left) .limit)
 
 copy-words-requires : tie.Need-copy-words-requires
 copy-words-requires c κs =
-    let at-if1 = c .before .before .before .before .before .before .before .before .before .before .before .before .before .before .before in
+    let at-entry = c .before .before .before .before .before .before .before .before .before .before .before .before .before .before .before in
+    let at-if1 = at-entry in
     let at-pre = at-if1 .before .before .before .before .before .before .before .before .before .before in
     let stands = at-pre .pre .stands (at-if1 .if1 .left) in
     (stands .there, stands .space)
 
 cast-t26 : tie.Need-cast-t26
 cast-t26 c =
-    let at-if1 = c .before .before .before .before .before .before .before .before .before .before .before .before .before .before .before .before .before .before .before in
+    let at-entry = c .before .before .before .before .before .before .before .before .before .before .before .before .before .before .before .before .before .before .before in
+    let at-if1 = at-entry in
     let at-pre = at-if1 .before .before .before .before .before .before .before .before .before .before in
     omega (arith, at-pre .pre .stands (at-if1 .if1 .left) .limit)
 
 cast-t27 : tie.Need-cast-t27
 cast-t27 c =
-    let at-if1 = c .before .before .before .before .before .before .before .before .before .before .before .before .before .before .before .before .before .before .before .before in
+    let at-entry = c .before .before .before .before .before .before .before .before .before .before .before .before .before .before .before .before .before .before .before .before in
+    let at-if1 = at-entry in
     let at-pre = at-if1 .before .before .before .before .before .before .before .before .before .before in
     omega (arith, at-pre .pre .stands (at-if1 .if1 .left) .assembles .variables)
 
 cast-t28 : tie.Need-cast-t28
 cast-t28 c =
-    let at-if2 = c .before .before .before .before .before .before .before .before .before .before .before .before in
+    let at-entry = c .before .before .before .before .before .before .before .before .before .before .before .before in
+    let at-if2 = at-entry in
     let at-assemble-operators = at-if2 .before .before .before .before .before in
     let at-if1 = at-assemble-operators .before .before .before .before in
     let at-pre = at-if1 .before .before .before .before .before .before .before .before .before .before in
     omega
     (arith, at-assemble-operators .assemble-operators .ensures .within (at-if2 .if2 .left), at-pre .pre .stands (at-if1 .if1 .left) .assembles .rows-limit)
-
-same-length-3 : tie.Need-same-length-3
-same-length-3 c = search needs
-
-same-length-4 : tie.Need-same-length-4
-same-length-4 c = search needs
-
-same-length-5 : tie.Need-same-length-5
-same-length-5 c = search needs
-
-same-length-6 : tie.Need-same-length-6
-same-length-6 c = search needs
 
 returns-3 : tie.Need-returns-3
 returns-3 c =
@@ -97,8 +79,7 @@ returns-3 c =
     let at-assemble-operators = at-if2 .before .before .before .before .before in
     let at-if1 = at-assemble-operators .before .before .before .before in
     let rules = at-assemble-operators .assemble-operators .ensures in
-    all-written
-    refl
+    all-written refl
     (record {
       whole = at-if1 .if1 .left;
       holding = rules .done (at-if2 .if2 .left);
@@ -112,21 +93,6 @@ pub finish-spec : {M : Type 1} → statement M
 finish-spec =
     tie.close
     (tie.spec
-    no-room-requires
-    returns
-    assemble-operators-requires
-    no-room-requires-2
-    same-length
-    same-length-2
-    returns-2
-    write-initial-requires
-    mul-copy-words
-    copy-words-requires
-    cast-t26
-    cast-t27
-    cast-t28
-    same-length-3
-    same-length-4
-    same-length-5
-    same-length-6
-    returns-3)
+    (λ c κs. search needs) returns assemble-operators-requires (λ c κs. search needs) (λ c. search needs) (λ c. search needs) returns-2
+    write-initial-requires mul-copy-words copy-words-requires cast-t26 cast-t27 cast-t28 (λ c. search needs) (λ c. search needs) (λ c. search needs)
+    (λ c. search needs) returns-3)

@@ -35,7 +35,8 @@ abbrev μ-loop : tie.MeasureT-loop
 
 find-sets-requires : tie.Need-find-sets-requires Inv-loop μ-loop
 find-sets-requires c κs =
-    let at-pre = c .before .before .before .before .before .before .before .before .before .before in
+    let at-entry = c .before .before .before .before .before .before .before .before .before .before in
+    let at-pre = at-entry in
     finds (at-pre .pre)
 
 find-columns-requires : tie.Need-find-columns-requires Inv-loop μ-loop
@@ -47,7 +48,8 @@ find-columns-requires c κs =
 
 begin-requires : tie.Need-begin-requires Inv-loop μ-loop
 begin-requires c κs =
-    let at-pre = c .before .before .before .before .before .before .before .before .before .before .before .before .before .before .before .before .before .before in
+    let at-entry = c .before .before .before .before .before .before .before .before .before .before .before .before .before .before .before .before .before .before in
+    let at-pre = at-entry in
     at-pre .pre .fresh
 
 loop-holds : tie.Need-loop-holds Inv-loop μ-loop
@@ -64,20 +66,25 @@ loop-holds c =
 
 take-operator-requires : tie.Need-take-operator-requires Inv-loop μ-loop
 take-operator-requires c κs =
-    let at-if1 = c .before .before .before .before .before in
+    let at-entry = c .before .before .before .before .before in
+    let at-if1 = at-entry in
     let at-loop = at-if1 .before .before in
-    let at-pre = at-loop .before .before .before .before .before .before .before .before .before .before .before .before .before .before .before .before .before .before .before .before .before .before in
+    let at-pre =
+    at-loop .before .before .before .before .before .before .before .before .before .before .before .before .before .before .before .before .before .before .before .before .before .before
+    in
     let so-far = at-loop .loop .inv in
     next-asks (at-pre .pre) (so-far .7) (at-if1 .if1 .taken) (so-far .5) (so-far .6)
 
 loop-less : tie.Need-loop-less Inv-loop μ-loop
 loop-less c =
-    let at-take-operator = c .before .before .before .before .before .before .before .before .before .before in
+    let at-entry = c .before .before .before .before .before .before .before .before .before .before in
+    let at-take-operator = at-entry in
     omega (arith, at-take-operator .take-operator .ensures .0 .next)
 
 loop-again : tie.Need-loop-again Inv-loop μ-loop
 loop-again c =
-    let at-take-operator = c .before .before .before .before .before .before .before .before .before .before in
+    let at-entry = c .before .before .before .before .before .before .before .before .before .before in
+    let at-take-operator = at-entry in
     let at-if1 = at-take-operator .before .before .before .before .before .before in
     let at-loop = at-if1 .before .before in
     let so-far = at-loop .loop .inv in
@@ -95,8 +102,11 @@ loop-again c =
 
 take-goal-requires : tie.Need-take-goal-requires Inv-loop μ-loop
 take-goal-requires c κs =
-    let at-loop = c .before .before .before .before .before in
-    let at-pre = at-loop .before .before .before .before .before .before .before .before .before .before .before .before .before .before .before .before .before .before .before .before .before .before in
+    let at-entry = c .before .before .before .before .before in
+    let at-loop = at-entry in
+    let at-pre =
+    at-loop .before .before .before .before .before .before .before .before .before .before .before .before .before .before .before .before .before .before .before .before .before .before
+    in
     let so-far = at-loop .loop .inv in
     last-asks (at-pre .pre) (omega (arith, so-far .0)) (so-far .6)
 
@@ -114,7 +124,8 @@ same-length-2 c =
 
 same-length-3 : tie.Need-same-length-3 Inv-loop μ-loop
 same-length-3 c =
-    let at-loop = c .before .before .before .before .before .before .before .before .before .before .before .before in
+    let at-entry = c .before .before .before .before .before .before .before .before .before .before .before .before in
+    let at-loop = at-entry in
     let at-find-columns = at-loop .before .before .before .before .before .before .before in
     let at-find-sets = at-find-columns .before .before .before .before in
     at-loop .loop .inv .3 ∙ at-find-columns .find-columns .kept .1 .1 .1 .1 .0 ∙ at-find-sets .find-sets .kept .1 .1 .0
@@ -128,15 +139,19 @@ same-length-4 c =
 
 same-length-5 : tie.Need-same-length-5 Inv-loop μ-loop
 same-length-5 c =
-    let at-loop = c .before .before .before .before .before .before .before .before .before .before .before .before in
+    let at-entry = c .before .before .before .before .before .before .before .before .before .before .before .before in
+    let at-loop = at-entry in
     at-loop .loop .inv .5
 
 returns : tie.Need-returns Inv-loop μ-loop
 returns c =
-    let at-take-goal = c .before .before .before .before .before .before in
+    let at-entry = c .before .before .before .before .before .before in
+    let at-take-goal = at-entry in
     let at-if1 = at-take-goal .before .before .before .before in
     let at-loop = at-if1 .before .before in
-    let at-pre = at-loop .before .before .before .before .before .before .before .before .before .before .before .before .before .before .before .before .before .before .before .before .before .before in
+    let at-pre =
+    at-loop .before .before .before .before .before .before .before .before .before .before .before .before .before .before .before .before .before .before .before .before .before .before
+    in
     let so-far = at-loop .loop .inv in
     let goal = at-take-goal .take-goal in
     all-built (at-pre .pre) (omega (arith, so-far .0, at-if1 .if1 .left)) (so-far .6) (goal .kept .1 .1 .1 .1 .1 .1 .0) (goal .ensures)
@@ -147,17 +162,5 @@ build-spec =
     (tie.spec
     Inv-loop
     μ-loop
-    find-sets-requires
-    find-columns-requires
-    begin-requires
-    loop-holds
-    take-operator-requires
-    loop-less
-    loop-again
-    take-goal-requires
-    same-length
-    same-length-2
-    same-length-3
-    same-length-4
-    same-length-5
-    returns)
+    find-sets-requires find-columns-requires begin-requires loop-holds take-operator-requires loop-less loop-again take-goal-requires same-length
+    same-length-2 same-length-3 same-length-4 same-length-5 returns)

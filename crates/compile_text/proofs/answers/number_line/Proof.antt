@@ -8,12 +8,6 @@ use Rattle.compile_text.proofs.PrintWays.{number-printed}
 use Rattle.compile_text.proofs.answers.number_line.Statement.{statement}
 use Rattle.compile_text.proofs.answers.number_line.Tie as tie
 
-print-refusal-requires : tie.Need-print-refusal-requires
-print-refusal-requires c κs = search needs
-
-printed-requires : tie.Need-printed-requires
-printed-requires c κs = search needs
-
 returns : tie.Need-returns
 returns c =
     let a = c .before .before .before .args in
@@ -22,4 +16,4 @@ returns c =
     number-printed (a .number) (length (a .out .now)) b n (c .before .print-refusal .ensures) (c .printed .ensures) (c .before .print-refusal .kept .1 .0)
 
 pub number-line-spec : {M : Type 1} → statement M
-number-line-spec = tie.close (tie.spec print-refusal-requires printed-requires returns)
+number-line-spec = tie.close (tie.spec (λ c κs. search needs) (λ c κs. search needs) returns)

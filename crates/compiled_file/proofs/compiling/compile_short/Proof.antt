@@ -9,39 +9,25 @@ use borrow.Author.Needs.{needs}
 use Rattle.compiled_file.proofs.compiling.compile_short.Statement.{statement}
 use Rattle.compiled_file.proofs.compiling.compile_short.Tie as tie
 
-compile-small-requires : tie.Need-compile-small-requires
-compile-small-requires c κs = search needs
-
-same-length : tie.Need-same-length
-same-length c = search needs
-
-same-length-2 : tie.Need-same-length-2
-same-length-2 c = search needs
-
 returns : tie.Need-returns
-returns c = let a = c .before .before .before .before .before .before .before .before .before .before .before .before .before .before .before .args in small-settled (length (a .out .now)) (length (a .result .now)) (c .before .before .before .before .before .before .before .before .before .before .before .before .before .before .before .pre) (c .if1 .taken) (c .before .before .before .before .before .compile-small .ensures)
-
-compile-full-requires : tie.Need-compile-full-requires
-compile-full-requires c κs = search needs
-
-same-length-3 : tie.Need-same-length-3
-same-length-3 c = search needs
-
-same-length-4 : tie.Need-same-length-4
-same-length-4 c = search needs
+returns c =
+    let at-compile-small = c .before .before .before .before .before in
+    let at-args = at-compile-small .before .before .before .before .before .before .before .before .before .before in
+    let a = at-args .args in small-settled (length (a .out .now)) (length (a .result .now)) (at-args .pre) (c .if1 .taken)
+    (at-compile-small .compile-small .ensures)
 
 returns-2 : tie.Need-returns-2
-returns-2 c = let a = c .before .before .before .before .before .before .before .before .before .before .before .before .before .before .before .before .before .before .before .before .before .before .args in same-outputs (compiled-file (task-of (lent (a .head) (a .initial .now) (a .twins .now) (a .formulas .now) (a .effects .now) (a .operators .now)))) (c .before .before .before .before .before .before .before .before .before .before .before .before .compile-small .kept .1 .1 .1 .1 .1 .1 .0) (c .before .before .before .before .before .before .before .before .before .before .before .before .compile-small .kept .1 .1 .1 .1 .1 .1 .1 .0) (c .before .before .before .before .compile-full .ensures)
+returns-2 c =
+    let at-compile-full = c .before .before .before .before in
+    let at-compile-small = at-compile-full .before .before .before .before .before .before .before .before in
+    let at-args = at-compile-small .before .before .before .before .before .before .before .before .before .before in
+    let a = at-args .args in same-outputs
+    (compiled-file (task-of (lent (a .head) (a .initial .now) (a .twins .now) (a .formulas .now) (a .effects .now) (a .operators .now))))
+    (at-compile-small .compile-small .kept .1 .1 .1 .1 .1 .1 .0) (at-compile-small .compile-small .kept .1 .1 .1 .1 .1 .1 .1 .0)
+    (at-compile-full .compile-full .ensures)
 
 pub compile-short-spec : {M : Type 1} → statement M
 compile-short-spec =
     tie.close
     (tie.spec
-    compile-small-requires
-    same-length
-    same-length-2
-    returns
-    compile-full-requires
-    same-length-3
-    same-length-4
-    returns-2)
+    (λ c κs. search needs) (λ c. search needs) (λ c. search needs) returns (λ c κs. search needs) (λ c. search needs) (λ c. search needs) returns-2)

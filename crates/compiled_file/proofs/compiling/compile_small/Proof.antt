@@ -4,48 +4,15 @@ use borrow.Author.Needs.{needs}
 use Rattle.compiled_file.proofs.compiling.compile_small.Statement.{statement}
 use Rattle.compiled_file.proofs.compiling.compile_small.Tie as tie
 
-slice-aggregate-compile-through : tie.Need-slice-aggregate-compile-through
-slice-aggregate-compile-through c = search needs
-
-slice-aggregate-compile-through-2 : tie.Need-slice-aggregate-compile-through-2
-slice-aggregate-compile-through-2 c = search needs
-
-slice-aggregate-compile-through-3 : tie.Need-slice-aggregate-compile-through-3
-slice-aggregate-compile-through-3 c = search needs
-
-slice-aggregate-compile-through-4 : tie.Need-slice-aggregate-compile-through-4
-slice-aggregate-compile-through-4 c = search needs
-
-slice-aggregate-compile-through-5 : tie.Need-slice-aggregate-compile-through-5
-slice-aggregate-compile-through-5 c = search needs
-
-slice-aggregate-compile-through-6 : tie.Need-slice-aggregate-compile-through-6
-slice-aggregate-compile-through-6 c = search needs
-
-compile-through-requires : tie.Need-compile-through-requires
-compile-through-requires c κs = search needs
-
-same-length : tie.Need-same-length
-same-length c = search needs
-
-same-length-2 : tie.Need-same-length-2
-same-length-2 c = search needs
-
 returns : tie.Need-returns
 unfolding small-room
-returns c = c .before .before .before .before .before .before .before .before .before .before .compile-through .ensures
+returns c =
+    let at-compile-through = c .before .before .before .before .before .before .before .before .before .before in
+    at-compile-through .compile-through .ensures
 
 pub compile-small-spec : {M : Type 1} → statement M
 compile-small-spec =
     tie.close
     (tie.spec
-    slice-aggregate-compile-through
-    slice-aggregate-compile-through-2
-    slice-aggregate-compile-through-3
-    slice-aggregate-compile-through-4
-    slice-aggregate-compile-through-5
-    slice-aggregate-compile-through-6
-    compile-through-requires
-    same-length
-    same-length-2
-    returns)
+    (λ c. search needs) (λ c. search needs) (λ c. search needs) (λ c. search needs) (λ c. search needs) (λ c. search needs) (λ c κs. search needs)
+    (λ c. search needs) (λ c. search needs) returns)

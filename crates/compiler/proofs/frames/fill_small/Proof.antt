@@ -17,23 +17,8 @@ use Rattle.compiler.proofs.Filled.{finish-asks, filled}
 use Rattle.compiler.proofs.Owned.{owns-small}
 use Rattle.compiler.proofs.Cleared.{as-long, cleared-again}
 
-is-small-requires : tie.Need-is-small-requires
-is-small-requires c κs = search needs
-
-no-room-requires : tie.Need-no-room-requires
-no-room-requires c κs = search needs
-
 returns : tie.Need-returns
 returns c = record { done = λ q. absurd (true≢false (sym (ap (λ (r : Filled). r .full) (c .no-room .ensures)) ∙ q)); over = λ _. refl }
-
-slice-aggregate-build : tie.Need-slice-aggregate-build
-slice-aggregate-build c = search needs
-
-slice-aggregate-build-2 : tie.Need-slice-aggregate-build-2
-slice-aggregate-build-2 c = search needs
-
-slice-aggregate-build-3 : tie.Need-slice-aggregate-build-3
-slice-aggregate-build-3 c = search needs
 
 build-requires : tie.Need-build-requires
 build-requires c κs =
@@ -44,67 +29,74 @@ build-requires c κs =
     owns-small (at-pre .pre) (small .few-effects (not-false (at-is-small .is-small .result) (at-if1 .if1 .left)))
     (small .few-variables (not-false (at-is-small .is-small .result) (at-if1 .if1 .left)))
 
-slice-aggregate-finish : tie.Need-slice-aggregate-finish
-slice-aggregate-finish c = search needs
-
-slice-aggregate-finish-2 : tie.Need-slice-aggregate-finish-2
-slice-aggregate-finish-2 c = search needs
-
 finish-requires : tie.Need-finish-requires
 finish-requires c κs =
-    let at-build = c .before .before .before .before .before .before .before .before .before .before .before .before .before .before in
-    let at-pre = at-build .before .before .before .before .before .before .before .before .before .before .before .before .before .before .before .before .before .before in
+    let at-entry = c .before .before .before .before .before .before .before .before .before .before .before .before .before .before in
+    let at-build = at-entry in
+    let at-pre =
+    at-build .before .before .before .before .before .before .before .before .before .before .before .before .before .before .before .before .before .before in
     let whole = at-build .build in
     finish-asks (at-pre .pre .begins) (whole .ensures) (whole .kept .1 .1 .1 .1 .1 .1 .1 .1 .0)
 
-clear-all-requires : tie.Need-clear-all-requires
-clear-all-requires c κs = search needs
-
-no-room-requires-2 : tie.Need-no-room-requires-2
-no-room-requires-2 c κs = search needs
-
 same-length : tie.Need-same-length
 same-length c =
-    let at-clear-all = c .before .before .before .before .before .before .before .before .before .before .before .before .before in
-    let at-finish = at-clear-all .before .before .before .before .before .before .before .before .before .before .before .before .before .before .before .before in
+    let at-entry = c .before .before .before .before .before .before .before .before .before .before .before .before .before in
+    let at-clear-all = at-entry in
+    let at-finish = at-clear-all .before .before .before .before .before .before .before .before .before .before .before .before .before .before .before .before
+    in
     at-clear-all .clear-all .kept .0 ∙ at-finish .finish .kept .1 .1 .1 .1 .1 .1 .1 .0
 
 same-length-2 : tie.Need-same-length-2
 same-length-2 c =
-    let at-clear-all = c .before .before .before .before .before .before .before .before .before .before .before .before .before in
-    let at-build = at-clear-all .before .before .before .before .before .before .before .before .before .before .before .before .before .before .before .before .before .before .before .before .before .before .before .before .before .before .before .before .before .before .before in
+    let at-entry = c .before .before .before .before .before .before .before .before .before .before .before .before .before in
+    let at-clear-all = at-entry in
+    let at-build =
+    at-clear-all .before .before .before .before .before .before .before .before .before .before .before .before .before .before .before .before .before .before .before .before .before .before .before .before .before .before .before .before .before .before .before
+    in
     at-clear-all .clear-all .kept .1 .0 ∙ at-build .build .kept .1 .1 .1 .1 .0
 
 same-length-3 : tie.Need-same-length-3
 same-length-3 c =
-    let at-clear-all = c .before .before .before .before .before .before .before .before .before .before .before .before .before in
-    let at-finish = at-clear-all .before .before .before .before .before .before .before .before .before .before .before .before .before .before .before .before in
+    let at-entry = c .before .before .before .before .before .before .before .before .before .before .before .before .before in
+    let at-clear-all = at-entry in
+    let at-finish = at-clear-all .before .before .before .before .before .before .before .before .before .before .before .before .before .before .before .before
+    in
     at-clear-all .clear-all .kept .1 .1 .0 ∙ at-finish .finish .kept .1 .1 .1 .1 .1 .1 .1 .1 .0
 
 same-length-4 : tie.Need-same-length-4
 same-length-4 c =
-    let at-clear-all = c .before .before .before .before .before .before .before .before .before .before .before .before .before in
-    let at-finish = at-clear-all .before .before .before .before .before .before .before .before .before .before .before .before .before .before .before .before in
+    let at-entry = c .before .before .before .before .before .before .before .before .before .before .before .before .before in
+    let at-clear-all = at-entry in
+    let at-finish = at-clear-all .before .before .before .before .before .before .before .before .before .before .before .before .before .before .before .before
+    in
     at-clear-all .clear-all .kept .1 .1 .1 .0 ∙ at-finish .finish .kept .1 .1 .1 .1 .1 .1 .1 .1 .1 .0
 
 same-length-5 : tie.Need-same-length-5
 same-length-5 c =
-    let at-clear-all = c .before .before .before .before .before .before .before .before .before .before .before .before .before in
-    let at-finish = at-clear-all .before .before .before .before .before .before .before .before .before .before .before .before .before .before .before .before in
+    let at-entry = c .before .before .before .before .before .before .before .before .before .before .before .before .before in
+    let at-clear-all = at-entry in
+    let at-finish = at-clear-all .before .before .before .before .before .before .before .before .before .before .before .before .before .before .before .before
+    in
     at-clear-all .clear-all .kept .1 .1 .1 .1 .0 ∙ at-finish .finish .kept .1 .1 .1 .1 .1 .1 .1 .1 .1 .1 .0
 
 same-length-6 : tie.Need-same-length-6
 same-length-6 c =
-    let at-clear-all = c .before .before .before .before .before .before .before .before .before .before .before .before .before in
-    let at-build = at-clear-all .before .before .before .before .before .before .before .before .before .before .before .before .before .before .before .before .before .before .before .before .before .before .before .before .before .before .before .before .before .before .before in
+    let at-entry = c .before .before .before .before .before .before .before .before .before .before .before .before .before in
+    let at-clear-all = at-entry in
+    let at-build =
+    at-clear-all .before .before .before .before .before .before .before .before .before .before .before .before .before .before .before .before .before .before .before .before .before .before .before .before .before .before .before .before .before .before .before
+    in
     at-clear-all .clear-all .kept .1 .1 .1 .1 .1 .0 ∙ at-build .build .kept .1 .1 .1 .1 .1 .0
 
 returns-2 : tie.Need-returns-2
 returns-2 c =
-    let at-clear-all = c .before .before .before .before .before .before .before .before .before .before .before .before .before in
-    let at-finish = at-clear-all .before .before .before .before .before .before .before .before .before .before .before .before .before .before .before .before in
+    let at-entry = c .before .before .before .before .before .before .before .before .before .before .before .before .before in
+    let at-clear-all = at-entry in
+    let at-finish = at-clear-all .before .before .before .before .before .before .before .before .before .before .before .before .before .before .before .before
+    in
     let at-build = at-finish .before .before .before .before .before .before .before .before .before .before .before .before .before .before .before in
-    let at-pre = at-build .before .before .before .before .before .before .before .before .before .before .before .before .before .before .before .before .before .before in
+    let at-pre =
+    at-build .before .before .before .before .before .before .before .before .before .before .before .before .before .before .before .before .before .before in
     let whole = at-build .build in
     let last = at-finish .finish in
     let long = as-long (last .kept .1 .1 .1 .1 .1 .1 .1 .0) (whole .kept .1 .1 .1 .1 .0) (last .kept .1 .1 .1 .1 .1 .1 .1 .1 .0)
@@ -119,7 +111,8 @@ same-length-7 c = c .before .before .before .before .before .before .before .bef
 
 same-length-8 : tie.Need-same-length-8
 same-length-8 c =
-    let at-build = c .before .before .before .before .before .before .before .before .before .before .before .before .before .before .before .before .before .before .before .before .before .before .before .before in
+    let at-entry = c .before .before .before .before .before .before .before .before .before .before .before .before .before .before .before .before .before .before .before .before .before .before .before .before in
+    let at-build = at-entry in
     at-build .build .kept .1 .1 .1 .1 .0
 
 same-length-9 : tie.Need-same-length-9
@@ -133,14 +126,17 @@ same-length-11 c = c .before .before .before .before .before .before .before .be
 
 same-length-12 : tie.Need-same-length-12
 same-length-12 c =
-    let at-build = c .before .before .before .before .before .before .before .before .before .before .before .before .before .before .before .before .before .before .before .before .before .before .before .before in
+    let at-entry = c .before .before .before .before .before .before .before .before .before .before .before .before .before .before .before .before .before .before .before .before .before .before .before .before in
+    let at-build = at-entry in
     at-build .build .kept .1 .1 .1 .1 .1 .0
 
 returns-3 : tie.Need-returns-3
 returns-3 c =
-    let at-finish = c .before .before .before .before .before .before .before .before .before in
+    let at-entry = c .before .before .before .before .before .before .before .before .before in
+    let at-finish = at-entry in
     let at-build = at-finish .before .before .before .before .before .before .before .before .before .before .before .before .before .before .before in
-    let at-pre = at-build .before .before .before .before .before .before .before .before .before .before .before .before .before .before .before .before .before .before in
+    let at-pre =
+    at-build .before .before .before .before .before .before .before .before .before .before .before .before .before .before .before .before .before .before in
     let whole = at-build .build in
     let last = at-finish .finish in
     record {
@@ -153,29 +149,7 @@ pub fill-small-spec : {M : Type 1} → statement M
 fill-small-spec =
     tie.close
     (tie.spec
-    is-small-requires
-    no-room-requires
-    returns
-    slice-aggregate-build
-    slice-aggregate-build-2
-    slice-aggregate-build-3
-    build-requires
-    slice-aggregate-finish
-    slice-aggregate-finish-2
-    finish-requires
-    clear-all-requires
-    no-room-requires-2
-    same-length
-    same-length-2
-    same-length-3
-    same-length-4
-    same-length-5
-    same-length-6
-    returns-2
-    same-length-7
-    same-length-8
-    same-length-9
-    same-length-10
-    same-length-11
-    same-length-12
+    (λ c κs. search needs) (λ c κs. search needs) returns (λ c. search needs) (λ c. search needs) (λ c. search needs) build-requires
+    (λ c. search needs) (λ c. search needs) finish-requires (λ c κs. search needs) (λ c κs. search needs) same-length same-length-2 same-length-3
+    same-length-4 same-length-5 same-length-6 returns-2 same-length-7 same-length-8 same-length-9 same-length-10 same-length-11 same-length-12
     returns-3)

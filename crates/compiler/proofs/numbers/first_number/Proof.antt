@@ -10,9 +10,6 @@ use Rattle.task.specs.Table.{lent}
 use Rattle.compiler.specs.Inner.Sizes.{room-by}
 use Rattle.compiler.proofs.Refusing.{by-the-check, some-twins, short-scratch, short-initial, short-operators, short-effects, no-number}
 
-check-requires : tie.Need-check-requires
-check-requires c κs = search needs
-
 returns : tie.Need-returns
 returns c =
     let a = c .before .before .before .before .before .before .before .args in
@@ -26,21 +23,6 @@ returns-2 c =
     let passes = sym (c .before .before .before .check .ensures) ∙ c .before .before .if1 .left in
     some-twins l (room-by (a .lengths)) passes (c .if2 .taken)
 
-cast-if3 : tie.Need-cast-if3
-cast-if3 c = search needs
-
-mul-if3 : tie.Need-mul-if3
-mul-if3 c = search needs
-
-cast-if3-2 : tie.Need-cast-if3-2
-cast-if3-2 c = search needs
-
-mul-if3-2 : tie.Need-mul-if3-2
-mul-if3-2 c = search needs
-
-add-if3 : tie.Need-add-if3
-add-if3 c = search needs
-
 returns-3 : tie.Need-returns-3
 returns-3 c =
     let at-if2 = c .before .before .before .before in
@@ -51,9 +33,6 @@ returns-3 c =
     let l = lent (a .head) (a .initial .now) (a .twins .now) (a .formulas .now) (a .effects .now) (a .operators .now) in
     let passes = sym (at-check .check .ensures) ∙ at-if1 .if1 .left in
     short-scratch l (room-by (a .lengths)) passes (at-if2 .if2 .left) (c .if3 .taken)
-
-cast-if4 : tie.Need-cast-if4
-cast-if4 c = search needs
 
 returns-4 : tie.Need-returns-4
 returns-4 c =
@@ -66,12 +45,6 @@ returns-4 c =
     let l = lent (a .head) (a .initial .now) (a .twins .now) (a .formulas .now) (a .effects .now) (a .operators .now) in
     let passes = sym (at-check .check .ensures) ∙ at-if1 .if1 .left in
     short-initial l (room-by (a .lengths)) passes (at-if2 .if2 .left) (at-if3 .if3 .left) (c .if4 .taken)
-
-cast-if5 : tie.Need-cast-if5
-cast-if5 c = search needs
-
-mul-if5 : tie.Need-mul-if5
-mul-if5 c = search needs
 
 returns-5 : tie.Need-returns-5
 returns-5 c =
@@ -114,19 +87,5 @@ pub first-number-spec : {M : Type 1} → statement M
 first-number-spec =
     tie.close
     (tie.spec
-    check-requires
-    returns
-    returns-2
-    cast-if3
-    mul-if3
-    cast-if3-2
-    mul-if3-2
-    add-if3
-    returns-3
-    cast-if4
-    returns-4
-    cast-if5
-    mul-if5
-    returns-5
-    returns-6
-    returns-7)
+    (λ c κs. search needs) returns returns-2 (λ c. search needs) (λ c. search needs) (λ c. search needs) (λ c. search needs) (λ c. search needs)
+    returns-3 (λ c. search needs) returns-4 (λ c. search needs) (λ c. search needs) returns-5 returns-6 returns-7)

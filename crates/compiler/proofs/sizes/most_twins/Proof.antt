@@ -7,18 +7,6 @@ use Rattle.compiler.proofs.sizes.most_twins.Lts as lts
 use Rattle.compiler.proofs.sizes.least.Reads as least-reads
 use Rattle.compiler.proofs.Lesser.{most-twins}
 
-sub-least : tie.Need-sub-least
-sub-least c = search needs
-
-least-requires : tie.Need-least-requires
-least-requires c κs = search needs
-
-sub-least-2 : tie.Need-sub-least-2
-sub-least-2 c = search needs
-
-least-requires-2 : tie.Need-least-requires-2
-least-requires-2 c κs = search needs
-
 returns : tie.Need-returns
 returns c =
     let s = c .before .before in
@@ -26,4 +14,4 @@ returns c =
 
 pub most-twins-spec : {M : Type 1} → statement M
 most-twins-spec =
-    tie.close (tie.spec sub-least least-requires sub-least-2 least-requires-2 returns)
+    tie.close (tie.spec (λ c. search needs) (λ c κs. search needs) (λ c. search needs) (λ c κs. search needs) returns)

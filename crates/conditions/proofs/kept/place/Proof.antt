@@ -29,7 +29,8 @@ mul-a c =
     let start = at-width-of .before .before .before .before .before .before in
     omega (
       arith,
-      word-small (at-width-of .width-of .result) (start .args .t .variable) (at-width-of .width-of .ensures .1) (omega (arith, start .pre .0 .variables, start .pre .1)),
+      word-small (at-width-of .width-of .result) (start .args .t .variable) (at-width-of .width-of .ensures .1)
+          (omega (arith, start .pre .0 .variables, start .pre .1)),
     )
 
 add-a : tie.Need-add-a
@@ -39,7 +40,8 @@ add-a c =
     let start = at-part-of .before .before .before .before in
     omega (
       arith,
-      word-small (at-width-of .width-of .result) (start .args .t .variable) (at-width-of .width-of .ensures .1) (omega (arith, start .pre .0 .variables, start .pre .1)),
+      word-small (at-width-of .width-of .result) (start .args .t .variable) (at-width-of .width-of .ensures .1)
+          (omega (arith, start .pre .0 .variables, start .pre .1)),
       at-part-of .part-of .ensures .1,
     )
 
@@ -65,12 +67,14 @@ mul-k c =
 
 mul-k-2 : tie.Need-mul-k-2
 mul-k-2 c =
-    let at-width-of = c .before .before .before .before .before in
+    let at-entry = c .before .before .before .before .before in
+    let at-width-of = at-entry in
     let at-column = at-width-of .before .before .before .before in
     let start = at-column .before .before in
     omega (
       arith,
-      place-small (getD (start .args .notes .now) (start .args .e) 0) (at-width-of .width-of .result) (framed (start .args .frame .now) .variables) (omega (arith, at-column .shared-slice-known2 .given (start .args .e))) (at-width-of .width-of .ensures .1) (start .pre .0 .variables),
+      place-small (getD (start .args .notes .now) (start .args .e) 0) (at-width-of .width-of .result) (framed (start .args .frame .now) .variables)
+          (omega (arith, at-column .shared-slice-known2 .given (start .args .e))) (at-width-of .width-of .ensures .1) (start .pre .0 .variables),
     )
 
 add-k : tie.Need-add-k
@@ -82,8 +86,10 @@ add-k c =
     let start = at-column .before .before in
     omega (
       arith,
-      place-small (getD (start .args .notes .now) (start .args .e) 0) (at-width-of .width-of .result) (framed (start .args .frame .now) .variables) (omega (arith, at-column .shared-slice-known2 .given (start .args .e))) (at-width-of .width-of .ensures .1) (start .pre .0 .variables),
-      word-small (at-width-of .width-of .result) (start .args .t .variable) (at-width-of .width-of .ensures .1) (omega (arith, start .pre .0 .variables, start .pre .1)),
+      place-small (getD (start .args .notes .now) (start .args .e) 0) (at-width-of .width-of .result) (framed (start .args .frame .now) .variables)
+          (omega (arith, at-column .shared-slice-known2 .given (start .args .e))) (at-width-of .width-of .ensures .1) (start .pre .0 .variables),
+      word-small (at-width-of .width-of .result) (start .args .t .variable) (at-width-of .width-of .ensures .1)
+          (omega (arith, start .pre .0 .variables, start .pre .1)),
       at-part-of .part-of .ensures .1,
       at-sets-end .sets-end .ensures .1,
     )
@@ -97,15 +103,18 @@ add-k-2 c =
     let start = at-column .before .before in
     omega (
       arith,
-      place-small (getD (start .args .notes .now) (start .args .e) 0) (at-width-of .width-of .result) (framed (start .args .frame .now) .variables) (omega (arith, at-column .shared-slice-known2 .given (start .args .e))) (at-width-of .width-of .ensures .1) (start .pre .0 .variables),
-      word-small (at-width-of .width-of .result) (start .args .t .variable) (at-width-of .width-of .ensures .1) (omega (arith, start .pre .0 .variables, start .pre .1)),
+      place-small (getD (start .args .notes .now) (start .args .e) 0) (at-width-of .width-of .result) (framed (start .args .frame .now) .variables)
+          (omega (arith, at-column .shared-slice-known2 .given (start .args .e))) (at-width-of .width-of .ensures .1) (start .pre .0 .variables),
+      word-small (at-width-of .width-of .result) (start .args .t .variable) (at-width-of .width-of .ensures .1)
+          (omega (arith, start .pre .0 .variables, start .pre .1)),
       at-part-of .part-of .ensures .1,
       at-sets-end .sets-end .ensures .1,
     )
 
 returns-3 : tie.Need-returns-3
 returns-3 c =
-    let start = c .before .before .before .before .before .before .before .before .before .before .before .before in
+    let at-entry = c .before .before .before .before .before .before .before .before .before .before .before .before in
+    let start = at-entry in
     place-none (framed (start .args .frame .now)) (start .args .notes .now) (start .args .t) (start .args .e)
 
 returns-4 : tie.Need-returns-4
@@ -123,7 +132,8 @@ returns-4 c =
       at-width-of .width-of .ensures .0,
       at-if2 .if2 .left,
     )) (start .pre .1)
-    (place-sum (framed (start .args .frame .now)) _ (start .args .t) (getD (start .args .notes .now) (start .args .e) 0) _ _ (at-frame-of .frame-of .ensures) (at-sets-end .sets-end .ensures .0) (at-part-of .part-of .ensures .0) (at-width-of .width-of .ensures .0))
+    (place-sum (framed (start .args .frame .now)) _ (start .args .t) (getD (start .args .notes .now) (start .args .e) 0) _ _ (at-frame-of .frame-of .ensures)
+    (at-sets-end .sets-end .ensures .0) (at-part-of .part-of .ensures .0) (at-width-of .width-of .ensures .0))
     (omega (arith, c .if3 .left))
 
 pub place-spec : {M : Type 1} → statement M

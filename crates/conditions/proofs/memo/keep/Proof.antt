@@ -18,7 +18,8 @@ returns c =
     let at-tag-of = at-keep-noted .before .before .before in
     let start = at-tag-of .before .before .before .before in
     rw (at-tag-of .tag-of .ensures)
-    (keep-row (framed (start .args .frame .now)) (start .args .scratch .now) (start .args .t) (start .args .e) (start .args .row) (start .pre .0 .looks .effect) (start .pre .0 .memo) (at-keep-noted .keep-noted .ensures))
+    (keep-row (framed (start .args .frame .now)) (start .args .scratch .now) (start .args .t) (start .args .e) (start .args .row) (start .pre .0 .looks .effect)
+    (start .pre .0 .memo) (at-keep-noted .keep-noted .ensures))
 
 pub keep-spec : {M : Type 1} → statement M
 keep-spec =

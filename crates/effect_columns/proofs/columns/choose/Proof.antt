@@ -10,47 +10,31 @@ use Rattle.effect_columns.proofs.thin.thin_between.Reads as thin-betwee
 use native.Mathlib.Omega.{arith}
 use Rattle.effect_columns.proofs.Settling.{elsewhere-then}
 
-thin-between-requires : tie.Need-thin-between-requires
-thin-between-requires c κs = search needs
-
-same-length : tie.Need-same-length
-same-length c = search needs
-
-returns : tie.Need-returns
-returns c = search needs
-
-spread-requires : tie.Need-spread-requires
-spread-requires c κs = search needs
-
-thin-between-requires-2 : tie.Need-thin-between-requires-2
-thin-between-requires-2 c κs = search needs
-
-same-length-2 : tie.Need-same-length-2
-same-length-2 c = search needs
-
 returns-2 : tie.Need-returns-2
-returns-2 c = elsewhere-then {i = c .before .before .before .before .before .before .before .before .before .before .before .before .before .before .before .before .args .frame .effects} (omega arith) (omega arith) (elsewhere-then {i = c .before .before .before .before .before .before .before .before .before .before .before .before .before .before .before .before .args .frame .effects} (omega arith) (omega arith) (c .before .before .before .before .before .before .before .before .before .before .before .before .thin-between .ensures) (c .before .before .before .before .before .before .before .spread .ensures)) (c .before .before .before .thin-between2 .ensures)
-
-thin-between-requires-3 : tie.Need-thin-between-requires-3
-thin-between-requires-3 c κs = search needs
-
-same-length-3 : tie.Need-same-length-3
-same-length-3 c = search needs
+returns-2 c =
+    let at-thin-between2 = c .before .before .before in
+    let at-spread = at-thin-between2 .before .before .before .before in
+    let at-thin-between = at-spread .before .before .before .before .before in
+    let at-args = at-thin-between .before .before .before .before in
+    elsewhere-then {i = at-args .args .frame .effects} (omega arith) (omega arith)
+    (elsewhere-then {i = at-args .args .frame .effects} (omega arith) (omega arith) (at-thin-between .thin-between .ensures) (at-spread .spread .ensures))
+    (at-thin-between2 .thin-between2 .ensures)
 
 returns-3 : tie.Need-returns-3
-returns-3 c = elsewhere-then (omega arith) (omega arith) (elsewhere-then {i = c .before .before .before .before .before .before .before .before .before .before .before .before .before .before .before .before .before .before .before .before .args .frame .effects} (omega arith) (omega arith) (elsewhere-then {i = c .before .before .before .before .before .before .before .before .before .before .before .before .before .before .before .before .before .before .before .before .args .frame .effects} (omega arith) (omega arith) (c .before .before .before .before .before .before .before .before .before .before .before .before .before .before .before .before .thin-between .ensures) (c .before .before .before .before .before .before .before .before .before .before .before .spread .ensures)) (c .before .before .before .before .before .before .before .thin-between2 .ensures)) (c .before .before .thin-between3 .ensures)
+returns-3 c =
+    let at-thin-between2 = c .before .before .before .before .before .before .before in
+    let at-spread = at-thin-between2 .before .before .before .before in
+    let at-thin-between = at-spread .before .before .before .before .before in
+    let at-args = at-thin-between .before .before .before .before in
+    elsewhere-then (omega arith) (omega arith)
+    (elsewhere-then {i = at-args .args .frame .effects} (omega arith) (omega arith)
+    (elsewhere-then {i = at-args .args .frame .effects} (omega arith) (omega arith) (at-thin-between .thin-between .ensures) (at-spread .spread .ensures))
+    (at-thin-between2 .thin-between2 .ensures))
+    (c .before .before .thin-between3 .ensures)
 
 pub choose-spec : {M : Type 1} → statement M
 choose-spec =
     tie.close
     (tie.spec
-    thin-between-requires
-    same-length
-    returns
-    spread-requires
-    thin-between-requires-2
-    same-length-2
-    returns-2
-    thin-between-requires-3
-    same-length-3
-    returns-3)
+    (λ c κs. search needs) (λ c. search needs) (λ c. search needs) (λ c κs. search needs) (λ c κs. search needs) (λ c. search needs) returns-2
+    (λ c κs. search needs) (λ c. search needs) returns-3)

@@ -11,36 +11,6 @@ use Rattle.effect_columns.proofs.columns.number_rows.Reads as number-ro
 use Rattle.effect_columns.proofs.columns.renumber.Reads as renumber-reads
 use Rattle.effect_columns.proofs.Settling.{found-after}
 
-number-rows-requires : tie.Need-number-rows-requires
-number-rows-requires c κs = search needs
-
-sets-end-requires : tie.Need-sets-end-requires
-sets-end-requires c κs = search needs
-
-sub-room : tie.Need-sub-room
-sub-room c = search needs
-
-most-columns-requires : tie.Need-most-columns-requires
-most-columns-requires c κs = search needs
-
-cast-if1 : tie.Need-cast-if1
-cast-if1 c = search needs
-
-same-length : tie.Need-same-length
-same-length c = search needs
-
-returns : tie.Need-returns
-returns c = search needs
-
-choose-requires : tie.Need-choose-requires
-choose-requires c κs = search needs
-
-renumber-requires : tie.Need-renumber-requires
-renumber-requires c κs = search needs
-
-same-length-2 : tie.Need-same-length-2
-same-length-2 c = search needs
-
 returns-2 : tie.Need-returns-2
 returns-2 c =
     let at-renumber = c .before .before in
@@ -52,14 +22,5 @@ pub find-columns-spec : {M : Type 1} → statement M
 find-columns-spec =
     tie.close
     (tie.spec
-    number-rows-requires
-    sets-end-requires
-    sub-room
-    most-columns-requires
-    cast-if1
-    same-length
-    returns
-    choose-requires
-    renumber-requires
-    same-length-2
-    returns-2)
+    (λ c κs. search needs) (λ c κs. search needs) (λ c. search needs) (λ c κs. search needs) (λ c. search needs) (λ c. search needs)
+    (λ c. search needs) (λ c κs. search needs) (λ c κs. search needs) (λ c. search needs) returns-2)

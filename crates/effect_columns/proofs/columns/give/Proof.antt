@@ -7,57 +7,23 @@ use Rattle.effect_columns.proofs.columns.give.Lts as lts
 use native.Mathlib.Omega.{arith}
 use Rattle.effect_columns.proofs.Settling.{elsewhere-none, settled-by}
 
--- src/columns.rt:83:20
-add-notes : tie.Need-add-notes
-add-notes c = search needs
-
--- src/columns.rt:83:9
-mul-notes : tie.Need-mul-notes
-mul-notes c = search needs
-
--- src/columns.rt:83:9
-slice-write-notes : tie.Need-slice-write-notes
-slice-write-notes c = search needs
-
--- src/columns.rt:84:16
-add-result : tie.Need-add-result
-add-result c = search needs
-
--- src/columns.rt:84:9
-same-length : tie.Need-same-length
-same-length c = search needs
-
 -- src/columns.rt:84:9
 returns : tie.Need-returns
-returns c = settled-by (c .before .args .frame) (c .before .args .i) (c .before .args .last) _ _ (c .before .args .notes .now) (c .before .args .notes .now) (omega (arith, c .before .pre .0 .room, c .before .pre .0 .effect)) (elsewhere-none (c .before .args .i) (c .before .args .notes .now)) (omega arith) (omega arith) (omega arith) (λ p. omega arith)
-
--- src/columns.rt:86:5
-mul-notes-2 : tie.Need-mul-notes-2
-mul-notes-2 c = search needs
-
--- src/columns.rt:86:5
-slice-write-notes-2 : tie.Need-slice-write-notes-2
-slice-write-notes-2 c = search needs
-
--- src/columns.rt:77:1
-same-length-2 : tie.Need-same-length-2
-same-length-2 c = search needs
+returns c =
+    settled-by (c .before .args .frame) (c .before .args .i) (c .before .args .last) _ _ (c .before .args .notes .now) (c .before .args .notes .now)
+    (omega (arith, c .before .pre .0 .room, c .before .pre .0 .effect)) (elsewhere-none (c .before .args .i) (c .before .args .notes .now)) (omega arith)
+    (omega arith) (omega arith) (λ p. omega arith)
 
 -- src/columns.rt:77:1
 returns-2 : tie.Need-returns-2
-returns-2 c = settled-by (c .before .args .frame) (c .before .args .i) (c .before .args .last) _ _ (c .before .args .notes .now) (c .before .args .notes .now) (omega (arith, c .before .pre .0 .room, c .before .pre .0 .effect)) (elsewhere-none (c .before .args .i) (c .before .args .notes .now)) (omega arith) (omega arith) (omega arith) (λ p. absurd (omega arith))
+returns-2 c =
+    settled-by (c .before .args .frame) (c .before .args .i) (c .before .args .last) _ _ (c .before .args .notes .now) (c .before .args .notes .now)
+    (omega (arith, c .before .pre .0 .room, c .before .pre .0 .effect)) (elsewhere-none (c .before .args .i) (c .before .args .notes .now)) (omega arith)
+    (omega arith) (omega arith) (λ p. absurd (omega arith))
 
 pub give-spec : {M : Type 1} → statement M
 give-spec =
     tie.close
     (tie.spec
-    add-notes
-    mul-notes
-    slice-write-notes
-    add-result
-    same-length
-    returns
-    mul-notes-2
-    slice-write-notes-2
-    same-length-2
-    returns-2)
+    (λ c. search needs) (λ c. search needs) (λ c. search needs) (λ c. search needs) (λ c. search needs) returns (λ c. search needs)
+    (λ c. search needs) (λ c. search needs) returns-2)

@@ -9,42 +9,14 @@ use Prim.Native.Nat.{_+_}
 use native.Mathlib.Omega.{arith}
 use Rattle.effect_columns.proofs.Settling.{elsewhere-set}
 
--- src/columns.rt:36:20
-mul-met : tie.Need-mul-met
-mul-met c = search needs
-
--- src/columns.rt:36:20
-slice-read-met : tie.Need-slice-read-met
-slice-read-met c = search needs
-
--- src/columns.rt:36:16
-met-requires : tie.Need-met-requires
-met-requires c κs = search needs
-
--- src/columns.rt:36:5
-mul-notes : tie.Need-mul-notes
-mul-notes c = search needs
-
--- src/columns.rt:36:5
-slice-write-notes : tie.Need-slice-write-notes
-slice-write-notes c = search needs
-
--- src/columns.rt:31:1
-same-length : tie.Need-same-length
-same-length c = search needs
-
 -- src/columns.rt:31:1
 returns : tie.Need-returns
-returns c = elsewhere-set (c .before .before .before .args .e + 1) (c .before .before .before .args .e) _ (c .before .before .before .args .notes .now) (omega arith)
+returns c =
+    let at-args = c .before .before .before in
+    elsewhere-set (at-args .args .e + 1) (at-args .args .e) _ (at-args .args .notes .now) (omega arith)
 
 pub meet-spec : {M : Type 1} → statement M
 meet-spec =
     tie.close
     (tie.spec
-    mul-met
-    slice-read-met
-    met-requires
-    mul-notes
-    slice-write-notes
-    same-length
-    returns)
+    (λ c. search needs) (λ c. search needs) (λ c κs. search needs) (λ c. search needs) (λ c. search needs) (λ c. search needs) returns)

@@ -21,9 +21,6 @@ loop-holds c = (refl, elsewhere-none (c .before .before .args .frame .effects) (
 effect-of-requires : tie.Need-effect-of-requires Inv-loop μ-loop
 effect-of-requires c κs = omega (arith, c .before .before .before .before .pre .words)
 
-cast-meet : tie.Need-cast-meet Inv-loop μ-loop
-cast-meet c = search needs
-
 add-meet : tie.Need-add-meet Inv-loop μ-loop
 add-meet c = omega (arith, c .before .before .before .before .before .pre .operators-limit)
 
@@ -32,24 +29,27 @@ cast-meet-2 c = omega (arith, c .before .before .before .before .before .pre .op
 
 meet-requires : tie.Need-meet-requires Inv-loop μ-loop
 meet-requires c κs =
-    let start = c .before .before .before .before .before .before in
+    let at-loop = c .before .before .before in
+    let at-entry = at-loop .before .before .before in
+    let start = at-entry in
     let a = start .args in
-    let at = c .before .before .before .loop in
-    meets-root (a .frame) (a .operators .now) (a .notes .now) (at .notes) (a .count) (at .k) (c .before .effect-of .result) (start .pre) (at .inv .0) (omega arith)
+    let at = at-loop .loop in
+    meets-root (a .frame) (a .operators .now) (a .notes .now) (at .notes) (a .count) (at .k) (c .before .effect-of .result) (start .pre) (at .inv .0)
+    (omega arith)
     (c .before .effect-of .ensures)
 
 add-k : tie.Need-add-k Inv-loop μ-loop
 add-k c = omega (arith, c .before .before .before .before .before .before .before .before .before .pre .operators-limit)
 
-loop-less : tie.Need-loop-less Inv-loop μ-loop
-loop-less c = omega arith
-
 loop-again : tie.Need-loop-again Inv-loop μ-loop
 loop-again c =
-    let start = c .before .before .before .before .before .before .before .before .before in
+    let at-effect-of = c .before .before .before .before in
+    let at-loop = at-effect-of .before .before in
+    let at-entry = at-loop .before .before .before in
+    let start = at-entry in
     let a = start .args in
-    let at = c .before .before .before .before .before .before .loop in
-    let e = c .before .before .before .before .effect-of in
+    let at = at-loop .loop in
+    let e = at-effect-of .effect-of in
     let m = c .before .before .meet in
     let root =
     meets-root (a .frame) (a .operators .now) (a .notes .now) (at .notes) (a .count) (at .k) (e .result) (start .pre) (at .inv .0) (omega arith) (e .ensures) in (
@@ -69,14 +69,4 @@ meet-roots-spec =
     (tie.spec
     Inv-loop
     μ-loop
-    loop-holds
-    effect-of-requires
-    cast-meet
-    add-meet
-    cast-meet-2
-    meet-requires
-    add-k
-    loop-less
-    loop-again
-    same-length
-    returns)
+    loop-holds effect-of-requires (λ c. search needs) add-meet cast-meet-2 meet-requires add-k (λ c. omega arith) loop-again same-length returns)

@@ -24,21 +24,18 @@ meet-roots-requires c κs = c .before .before .before .before .pre .roots
 loop-holds : tie.Need-loop-holds Inv-loop μ-loop
 loop-holds c = settling-none (c .before .before .before .before .before .before .before .args .frame) (c .before .before .meet-roots .last .1 .1 .1 .0)
 
--- src/columns.rt:109:9
-sub-i : tie.Need-sub-i Inv-loop μ-loop
-sub-i c = omega arith
-
 -- src/columns.rt:110:9
 settle-requires : tie.Need-settle-requires Inv-loop μ-loop
-settle-requires c κs = settling-asks (omega arith) (c .before .before .before .before .before .before .before .before .before .before .pre) (c .before .before .before .before .before .meet-roots .kept .1 .1 .1 .0) (c .before .before .loop .inv)
-
--- src/columns.rt:108:5
-loop-less : tie.Need-loop-less Inv-loop μ-loop
-loop-less c = omega arith
+settle-requires c κs =
+    let at-meet-roots = c .before .before .before .before .before in
+    let at-pre = at-meet-roots .before .before .before .before .before in
+    settling-asks (omega arith) (at-pre .pre) (at-meet-roots .meet-roots .kept .1 .1 .1 .0) (c .before .before .loop .inv)
 
 -- src/columns.rt:108:5
 loop-again : tie.Need-loop-again Inv-loop μ-loop
-loop-again c = settling-more (omega arith) (c .before .before .settle .kept .1 .1 .1 .1 .0) (c .before .before .before .before .before .loop .inv) (c .before .before .settle .ensures)
+loop-again c =
+    let at-loop = c .before .before .before .before .before in
+    settling-more (omega arith) (c .before .before .settle .kept .1 .1 .1 .1 .0) (at-loop .loop .inv) (c .before .before .settle .ensures)
 
 -- src/columns.rt:95:1
 same-length : tie.Need-same-length Inv-loop μ-loop
@@ -46,7 +43,11 @@ same-length c = c .before .loop .inv .long ∙ c .before .before .before .before
 
 -- src/columns.rt:95:1
 returns : tie.Need-returns Inv-loop μ-loop
-returns c = found-after (c .before .before .before .before .meet-roots .ensures) (settling-all (omega arith) (omega (arith, c .before .before .before .before .before .before .before .before .before .pre .sets, c .before .before .before .before .meet-roots .kept .1 .1 .1 .0)) (c .before .loop .inv))
+returns c =
+    let at-meet-roots = c .before .before .before .before in
+    let at-pre = at-meet-roots .before .before .before .before .before in
+    found-after (at-meet-roots .meet-roots .ensures)
+    (settling-all (omega arith) (omega (arith, at-pre .pre .sets, at-meet-roots .meet-roots .kept .1 .1 .1 .0)) (c .before .loop .inv))
 
 pub number-rows-spec : {M : Type 1} → statement M
 number-rows-spec =
@@ -54,11 +55,4 @@ number-rows-spec =
     (tie.spec
     Inv-loop
     μ-loop
-    meet-roots-requires
-    loop-holds
-    sub-i
-    settle-requires
-    loop-less
-    loop-again
-    same-length
-    returns)
+    meet-roots-requires loop-holds (λ c. omega arith) settle-requires (λ c. omega arith) loop-again same-length returns)

@@ -19,10 +19,6 @@ abbrev μ-loop : tie.MeasureT-loop
 loop-holds : tie.Need-loop-holds Inv-loop μ-loop
 loop-holds c = settling-none (c .before .args .frame) (c .before .args .notes .now)
 
--- src/columns.rt:150:9
-sub-i : tie.Need-sub-i Inv-loop μ-loop
-sub-i c = omega arith
-
 -- src/columns.rt:151:23
 mul-w : tie.Need-mul-w Inv-loop μ-loop
 mul-w c = omega (arith, c .before .before .before .pre .limit)
@@ -31,21 +27,20 @@ mul-w c = omega (arith, c .before .before .before .pre .limit)
 slice-read-w : tie.Need-slice-read-w Inv-loop μ-loop
 slice-read-w c = omega (arith, c .before .before .before .before .pre .room, c .before .before .loop .inv .few, c .before .before .loop .inv .long)
 
--- src/columns.rt:152:34
-is-column-requires : tie.Need-is-column-requires Inv-loop μ-loop
-is-column-requires c κs = search needs
-
 -- src/columns.rt:152:9
 give-requires : tie.Need-give-requires Inv-loop μ-loop
-give-requires c κs = (record { limit = c .before .before .before .before .before .before .pre .limit; room = omega (arith, c .before .before .before .before .before .before .pre .room, c .before .before .before .before .loop .inv .long); effect = omega (arith, c .before .before .before .before .loop .inv .few) }, omega (arith, c .before .before .before .before .before .before .pre .limit, c .before .before .before .before .loop .inv .few))
-
--- src/columns.rt:149:5
-loop-less : tie.Need-loop-less Inv-loop μ-loop
-loop-less c = omega arith
+give-requires c κs =
+    let at-loop = c .before .before .before .before in
+    let at-pre = at-loop .before .before in (
+      record { limit = at-pre .pre .limit; room = omega (arith, at-pre .pre .room, at-loop .loop .inv .long); effect = omega (arith, at-loop .loop .inv .few) },
+      omega (arith, at-pre .pre .limit, at-loop .loop .inv .few),
+    )
 
 -- src/columns.rt:149:5
 loop-again : tie.Need-loop-again Inv-loop μ-loop
-loop-again c = settling-more (omega arith) (c .before .before .give .kept .1 .1 .1 .1 .0) (c .before .before .before .before .before .before .before .loop .inv) (c .before .before .give .ensures)
+loop-again c =
+    let at-loop = c .before .before .before .before .before .before .before in
+    settling-more (omega arith) (c .before .before .give .kept .1 .1 .1 .1 .0) (at-loop .loop .inv) (c .before .before .give .ensures)
 
 -- src/columns.rt:143:1
 same-length : tie.Need-same-length Inv-loop μ-loop
@@ -61,13 +56,4 @@ renumber-spec =
     (tie.spec
     Inv-loop
     μ-loop
-    loop-holds
-    sub-i
-    mul-w
-    slice-read-w
-    is-column-requires
-    give-requires
-    loop-less
-    loop-again
-    same-length
-    returns)
+    loop-holds (λ c. omega arith) mul-w slice-read-w (λ c κs. search needs) give-requires (λ c. omega arith) loop-again same-length returns)

@@ -20,17 +20,18 @@ abbrev μ-loop : tie.MeasureT-loop
 loop-holds : tie.Need-loop-holds Inv-loop μ-loop
 loop-holds c = (refl, elsewhere-none (c .before .before .args .frame .effects) (c .before .before .args .notes .now), omega arith)
 
-sub-i : tie.Need-sub-i Inv-loop μ-loop
-sub-i c = omega arith
-
 spread-row-requires : tie.Need-spread-row-requires Inv-loop μ-loop
-spread-row-requires c κs = record { thins = thins-then (c .before .before .loop .inv .0) (c .before .before .before .before .before .pre); effect = omega (arith, c .before .before .loop .inv .2) }
-
-loop-less : tie.Need-loop-less Inv-loop μ-loop
-loop-less c = omega arith
+spread-row-requires c κs =
+    let at-pre = c .before .before .before .before .before in
+    record { thins = thins-then (c .before .before .loop .inv .0) (at-pre .pre); effect = omega (arith, c .before .before .loop .inv .2) }
 
 loop-again : tie.Need-loop-again Inv-loop μ-loop
-loop-again c = (c .before .before .spread-row .kept .1 .1 .1 .0 ∙ c .before .before .before .before .before .loop .inv .0, elsewhere-then (omega arith) (omega (arith, c .before .before .before .before .before .loop .inv .2)) (c .before .before .before .before .before .loop .inv .1) (c .before .before .spread-row .ensures), omega (arith, c .before .before .before .before .before .loop .inv .2))
+loop-again c =
+    let at-loop = c .before .before .before .before .before in (
+      c .before .before .spread-row .kept .1 .1 .1 .0 ∙ at-loop .loop .inv .0,
+      elsewhere-then (omega arith) (omega (arith, at-loop .loop .inv .2)) (at-loop .loop .inv .1) (c .before .before .spread-row .ensures),
+      omega (arith, at-loop .loop .inv .2),
+    )
 
 same-length : tie.Need-same-length Inv-loop μ-loop
 same-length c = c .before .loop .inv .0
@@ -44,10 +45,4 @@ spread-spec =
     (tie.spec
     Inv-loop
     μ-loop
-    loop-holds
-    sub-i
-    spread-row-requires
-    loop-less
-    loop-again
-    same-length
-    returns)
+    loop-holds (λ c. omega arith) spread-row-requires (λ c. omega arith) loop-again same-length returns)

@@ -9,35 +9,15 @@ use Rattle.effect_columns.proofs.columns.rank_below.Reads as rank-below
 use Rattle.formula_builder.proofs.read_row.Reads as read-row-reads
 use Rattle.effect_columns.proofs.Settling.{hands-on}
 
-read-row-requires : tie.Need-read-row-requires
-read-row-requires c κs = search needs
-
-mul-rank-below : tie.Need-mul-rank-below
-mul-rank-below c = search needs
-
-slice-read-rank-below : tie.Need-slice-read-rank-below
-slice-read-rank-below c = search needs
-
-rank-below-requires : tie.Need-rank-below-requires
-rank-below-requires c κs = search needs
-
 hand-on-requires : tie.Need-hand-on-requires
-hand-on-requires c κs = hands-on (c .before .before .before .before .before .before .args .frame) (c .before .before .before .before .before .before .args .effects .now) (c .before .before .before .before .before .before .args .notes .now) (c .before .before .before .before .before .before .args .i) (c .before .before .before .read-row .result) (c .before .before .before .before .before .before .pre) (c .before .before .before .read-row .ensures)
-
-same-length : tie.Need-same-length
-same-length c = search needs
-
-returns : tie.Need-returns
-returns c = search needs
+hand-on-requires c κs =
+    let at-read-row = c .before .before .before in
+    let at-args = at-read-row .before .before .before in
+    hands-on (at-args .args .frame) (at-args .args .effects .now) (at-args .args .notes .now) (at-args .args .i) (at-read-row .read-row .result) (at-args .pre)
+    (at-read-row .read-row .ensures)
 
 pub spread-row-spec : {M : Type 1} → statement M
 spread-row-spec =
     tie.close
     (tie.spec
-    read-row-requires
-    mul-rank-below
-    slice-read-rank-below
-    rank-below-requires
-    hand-on-requires
-    same-length
-    returns)
+    (λ c κs. search needs) (λ c. search needs) (λ c. search needs) (λ c κs. search needs) hand-on-requires (λ c. search needs) (λ c. search needs))

@@ -21,19 +21,27 @@ loop-holds : tie.Need-loop-holds Inv-loop μ-loop
 loop-holds c = (refl, elsewhere-none (c .before .before .args .frame .effects) (c .before .before .args .notes .now), omega arith)
 
 thin-row-requires : tie.Need-thin-row-requires Inv-loop μ-loop
-thin-row-requires c κs = record { thins = thins-then (c .before .before .before .loop .inv .0) (c .before .before .before .before .before .before .pre); effect = omega arith }
+thin-row-requires c κs =
+    let at-loop = c .before .before .before in
+    let at-pre = at-loop .before .before .before in
+    record { thins = thins-then (at-loop .loop .inv .0) (at-pre .pre); effect = omega arith }
 
 add-columns : tie.Need-add-columns Inv-loop μ-loop
-add-columns c = omega (arith, c .before .before .before .before .before .before .before .before .before .pre .rows .limit, c .before .before .before .before .before .before .loop .inv .2, c .before .before .thin-row .ensures .1)
+add-columns c =
+    let at-loop = c .before .before .before .before .before .before in
+    let at-pre = at-loop .before .before .before in
+    omega (arith, at-pre .pre .rows .limit, at-loop .loop .inv .2, c .before .before .thin-row .ensures .1)
 
 add-i : tie.Need-add-i Inv-loop μ-loop
 add-i c = omega (arith, c .before .before .before .before .before .before .before .before .before .pre .rows .limit)
 
-loop-less : tie.Need-loop-less Inv-loop μ-loop
-loop-less c = omega arith
-
 loop-again : tie.Need-loop-again Inv-loop μ-loop
-loop-again c = (c .before .before .thin-row .kept .1 .1 .1 .1 .1 .0 ∙ c .before .before .before .before .before .before .loop .inv .0, elsewhere-then {e = c .before .before .before .before .before .before .loop .i + 1} (omega arith) (omega arith) (c .before .before .before .before .before .before .loop .inv .1) (c .before .before .thin-row .ensures .0), omega (arith, c .before .before .before .before .before .before .loop .inv .2, c .before .before .thin-row .ensures .1))
+loop-again c =
+    let at-loop = c .before .before .before .before .before .before in (
+      c .before .before .thin-row .kept .1 .1 .1 .1 .1 .0 ∙ at-loop .loop .inv .0,
+      elsewhere-then {e = at-loop .loop .i + 1} (omega arith) (omega arith) (at-loop .loop .inv .1) (c .before .before .thin-row .ensures .0),
+      omega (arith, at-loop .loop .inv .2, c .before .before .thin-row .ensures .1),
+    )
 
 same-length : tie.Need-same-length Inv-loop μ-loop
 same-length c = c .before .before .loop .inv .0
@@ -47,11 +55,4 @@ thin-spec =
     (tie.spec
     Inv-loop
     μ-loop
-    loop-holds
-    thin-row-requires
-    add-columns
-    add-i
-    loop-less
-    loop-again
-    same-length
-    returns)
+    loop-holds thin-row-requires add-columns add-i (λ c. omega arith) loop-again same-length returns)

@@ -28,16 +28,28 @@ same-length : tie.Need-same-length Inv-loop μ-loop
 same-length c = c .before .before .before .thin .kept .1 .1 .1 .1 .0 ∙ c .before .before .before .before .before .before .loop .inv .0
 
 returns : tie.Need-returns Inv-loop μ-loop
-returns c = elsewhere-then (omega arith) (omega arith) (c .before .before .before .before .before .before .loop .inv .1) (c .before .before .before .thin .ensures)
+returns c =
+    let at-thin = c .before .before .before in
+    let at-loop = at-thin .before .before .before in
+    elsewhere-then (omega arith) (omega arith) (at-loop .loop .inv .1) (at-thin .thin .ensures)
 
 add-limit : tie.Need-add-limit Inv-loop μ-loop
 add-limit c = omega (arith, c .before .before .before .before .before .before .before .before .before .pre .2)
 
 loop-less : tie.Need-loop-less Inv-loop μ-loop
-loop-less c = omega (arith, c .before .before .before .before .before .before .before .before .before .pre .2, c .before .before .before .before .before .before .loop .inv .2)
+loop-less c =
+    let at-loop = c .before .before .before .before .before .before in
+    let at-pre = at-loop .before .before .before in
+    omega (arith, at-pre .pre .2, at-loop .loop .inv .2)
 
 loop-again : tie.Need-loop-again Inv-loop μ-loop
-loop-again c = (c .before .before .before .thin .kept .1 .1 .1 .1 .0 ∙ c .before .before .before .before .before .before .loop .inv .0, elsewhere-then (omega arith) (omega arith) (c .before .before .before .before .before .before .loop .inv .1) (c .before .before .before .thin .ensures), omega (arith, c .before .before .before .before .before .before .loop .inv .2))
+loop-again c =
+    let at-thin = c .before .before .before in
+    let at-loop = at-thin .before .before .before in (
+      at-thin .thin .kept .1 .1 .1 .1 .0 ∙ at-loop .loop .inv .0,
+      elsewhere-then (omega arith) (omega arith) (at-loop .loop .inv .1) (at-thin .thin .ensures),
+      omega (arith, at-loop .loop .inv .2),
+    )
 
 same-length-2 : tie.Need-same-length-2 Inv-loop μ-loop
 same-length-2 c = c .before .loop .inv .0
@@ -51,12 +63,4 @@ thin-between-spec =
     (tie.spec
     Inv-loop
     μ-loop
-    loop-holds
-    thin-requires
-    same-length
-    returns
-    add-limit
-    loop-less
-    loop-again
-    same-length-2
-    returns-2)
+    loop-holds thin-requires same-length returns add-limit loop-less loop-again same-length-2 returns-2)

@@ -12,55 +12,25 @@ use Prim.Native.Nat.{_+_}
 use native.Mathlib.Omega.{arith}
 use Rattle.effect_columns.proofs.Settling.{elsewhere-set, hands-on}
 
-read-row-requires : tie.Need-read-row-requires
-read-row-requires c κs = search needs
-
 cost-requires : tie.Need-cost-requires
-cost-requires c κs = hands-on (c .before .before .before .before .args .frame) (c .before .before .before .before .args .effects .now) (c .before .before .before .before .args .notes .now) (c .before .before .before .before .args .i) (c .before .read-row .result) (c .before .before .before .before .pre) (c .before .read-row .ensures)
-
-mul-thinned : tie.Need-mul-thinned
-mul-thinned c = search needs
-
-slice-read-thinned : tie.Need-slice-read-thinned
-slice-read-thinned c = search needs
-
-thinned-requires : tie.Need-thinned-requires
-thinned-requires c κs = search needs
-
-mul-notes : tie.Need-mul-notes
-mul-notes c = search needs
-
-slice-write-notes : tie.Need-slice-write-notes
-slice-write-notes c = search needs
-
-is-column-requires : tie.Need-is-column-requires
-is-column-requires c κs = search needs
-
-same-length : tie.Need-same-length
-same-length c = search needs
+cost-requires c κs =
+    let at-args = c .before .before .before .before in
+    hands-on (at-args .args .frame) (at-args .args .effects .now) (at-args .args .notes .now) (at-args .args .i) (c .before .read-row .result) (at-args .pre)
+    (c .before .read-row .ensures)
 
 returns : tie.Need-returns
-returns c = (elsewhere-set (c .before .before .before .before .before .before .before .before .before .args .i + 1) (c .before .before .before .before .before .before .before .before .before .args .i) _ (c .before .before .before .before .before .before .before .before .before .args .notes .now) (omega arith), omega arith)
-
-same-length-2 : tie.Need-same-length-2
-same-length-2 c = search needs
+returns c =
+    let at-args = c .before .before .before .before .before .before .before .before .before in
+    (elsewhere-set (at-args .args .i + 1) (at-args .args .i) _ (at-args .args .notes .now) (omega arith), omega arith)
 
 returns-2 : tie.Need-returns-2
-returns-2 c = (elsewhere-set (c .before .before .before .before .before .before .before .before .before .args .i + 1) (c .before .before .before .before .before .before .before .before .before .args .i) _ (c .before .before .before .before .before .before .before .before .before .args .notes .now) (omega arith), omega arith)
+returns-2 c =
+    let at-args = c .before .before .before .before .before .before .before .before .before in
+    (elsewhere-set (at-args .args .i + 1) (at-args .args .i) _ (at-args .args .notes .now) (omega arith), omega arith)
 
 pub thin-row-spec : {M : Type 1} → statement M
 thin-row-spec =
     tie.close
     (tie.spec
-    read-row-requires
-    cost-requires
-    mul-thinned
-    slice-read-thinned
-    thinned-requires
-    mul-notes
-    slice-write-notes
-    is-column-requires
-    same-length
-    returns
-    same-length-2
-    returns-2)
+    (λ c κs. search needs) cost-requires (λ c. search needs) (λ c. search needs) (λ c κs. search needs) (λ c. search needs) (λ c. search needs)
+    (λ c κs. search needs) (λ c. search needs) returns (λ c. search needs) returns-2)

@@ -21,14 +21,11 @@ value-of-requires c κs = row-ready (c .before .before .before .before .before .
 slice-write-scratch : tie.Need-slice-write-scratch Inv-loop μ-loop
 slice-write-scratch c = omega (arith, (c .before .before .before .before .before .before .before .pre .room), (c .before .before .before .loop .inv .same))
 
-add-i : tie.Need-add-i Inv-loop μ-loop
-add-i c = omega arith
-
-loop-less : tie.Need-loop-less Inv-loop μ-loop
-loop-less c = omega arith
-
 loop-again : tie.Need-loop-again Inv-loop μ-loop
-loop-again c = one-more (c .before .before .before .before .before .before .before .pre) (omega arith) (c .before .before .before .loop .inv) (c .value-of .ensures)
+loop-again c =
+    let at-loop = c .before .before .before in
+    let at-pre = at-loop .before .before .before .before in
+    one-more (at-pre .pre) (omega arith) (at-loop .loop .inv) (c .value-of .ensures)
 
 same-length : tie.Need-same-length Inv-loop μ-loop
 same-length c = (c .before .loop .inv .same)
@@ -43,11 +40,4 @@ evaluate-spec =
     (tie.spec
     Inv-loop
     μ-loop
-    loop-holds
-    value-of-requires
-    slice-write-scratch
-    add-i
-    loop-less
-    loop-again
-    same-length
-    returns)
+    loop-holds value-of-requires slice-write-scratch (λ c. omega arith) (λ c. omega arith) loop-again same-length returns)

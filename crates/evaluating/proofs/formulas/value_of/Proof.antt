@@ -8,41 +8,8 @@ use mathlib.Core.Path.{_∙_}
 use Rattle.task.specs.Table.{row-at}
 use Rattle.evaluating.proofs.Valuing.{false-row, true-row, variable-ref, variable-row, not-ref, not-row, join-refs, join-row}
 
-mul-kind : tie.Need-mul-kind
-mul-kind c = search needs
-
-mul-kind-2 : tie.Need-mul-kind-2
-mul-kind-2 c = search needs
-
-shared-slice-read-kind : tie.Need-shared-slice-read-kind
-shared-slice-read-kind c = search needs
-
-mul-a : tie.Need-mul-a
-mul-a c = search needs
-
-add-a : tie.Need-add-a
-add-a c = search needs
-
-mul-a-2 : tie.Need-mul-a-2
-mul-a-2 c = search needs
-
-shared-slice-read-a : tie.Need-shared-slice-read-a
-shared-slice-read-a c = search needs
-
 cast-a : tie.Need-cast-a
 cast-a c = omega (arith, c .shared-slice-known5 .given (3 * c .before .before .before .before .before .args .i + 1))
-
-mul-b : tie.Need-mul-b
-mul-b c = search needs
-
-add-b : tie.Need-add-b
-add-b c = search needs
-
-mul-b-2 : tie.Need-mul-b-2
-mul-b-2 c = search needs
-
-shared-slice-read-b : tie.Need-shared-slice-read-b
-shared-slice-read-b c = search needs
 
 cast-b : tie.Need-cast-b
 cast-b c = omega (arith, c .shared-slice-known6 .given (3 * c .before .before .before .before .before .before .args .i + 2))
@@ -57,20 +24,40 @@ shared-slice-read-result-2 c = omega (arith, not-ref (c .before .before .before 
 
 sub-result : tie.Need-sub-result
 unfolding row-at
-sub-result c = c .before .before .before .before .before .before .before .before .pre .value-bits (row-at (c .before .before .before .before .before .before .before .before .args .formulas .now) (c .before .before .before .before .before .before .before .before .args .i) .a) (not-ref (c .before .before .before .before .before .before .before .before .pre) (c .before .match .keys4))
+sub-result c =
+    let at-pre = c .before .before .before .before .before .before .before .before in
+    at-pre .pre .value-bits (row-at (at-pre .args .formulas .now) (at-pre .args .i) .a) (not-ref (at-pre .pre) (c .before .match .keys4))
 
 shared-slice-read-joined : tie.Need-shared-slice-read-joined
 unfolding row-at
-shared-slice-read-joined c = omega (arith, join-refs (c .before .before .before .before .before .before .before .before .pre) (c .before .match .rest .0 .0 .0 .1) (c .before .match .rest .0 .0 .1) (c .before .match .rest .0 .1) (c .before .match .rest .1))
+shared-slice-read-joined c =
+    let at-pre = c .before .before .before .before .before .before .before .before in
+    omega (
+      arith,
+      join-refs (at-pre .pre) (c .before .match .rest .0 .0 .0 .1) (c .before .match .rest .0 .0 .1) (c .before .match .rest .0 .1) (c .before .match .rest .1),
+    )
 
 shared-slice-read-joined-2 : tie.Need-shared-slice-read-joined-2
 unfolding row-at
-shared-slice-read-joined-2 c = omega (arith, join-refs (c .before .before .before .before .before .before .before .before .before .pre) (c .before .before .match .rest .0 .0 .0 .1) (c .before .before .match .rest .0 .0 .1) (c .before .before .match .rest .0 .1) (c .before .before .match .rest .1))
+shared-slice-read-joined-2 c =
+    let at-pre = c .before .before .before .before .before .before .before .before .before in
+    omega (
+      arith,
+      join-refs (at-pre .pre) (c .before .before .match .rest .0 .0 .0 .1) (c .before .before .match .rest .0 .0 .1) (c .before .before .match .rest .0 .1)
+          (c .before .before .match .rest .1),
+    )
 
 joined-requires : tie.Need-joined-requires
 unfolding row-at
-joined-requires c κs = let refs = join-refs (c .before .before .before .before .before .before .before .before .before .pre) (c .before .before .match .rest .0 .0 .0 .1) (c .before .before .match .rest .0 .0 .1) (c .before .before .match .rest .0 .1) (c .before .before .match .rest .1) in
-    (refs .0, refs .1, c .before .before .before .before .before .before .before .before .before .pre .value-bits (row-at (c .before .before .before .before .before .before .before .before .before .args .formulas .now) (c .before .before .before .before .before .before .before .before .before .args .i) .a) (refs .2), c .before .before .before .before .before .before .before .before .before .pre .value-bits (row-at (c .before .before .before .before .before .before .before .before .before .args .formulas .now) (c .before .before .before .before .before .before .before .before .before .args .i) .b) (refs .3))
+joined-requires c κs =
+    let at-pre = c .before .before .before .before .before .before .before .before .before in
+    let refs = join-refs (at-pre .pre) (c .before .before .match .rest .0 .0 .0 .1) (c .before .before .match .rest .0 .0 .1)
+    (c .before .before .match .rest .0 .1) (c .before .before .match .rest .1) in (
+      refs .0,
+      refs .1,
+      at-pre .pre .value-bits (row-at (at-pre .args .formulas .now) (at-pre .args .i) .a) (refs .2),
+      at-pre .pre .value-bits (row-at (at-pre .args .formulas .now) (at-pre .args .i) .b) (refs .3),
+    )
 
 returns : tie.Need-returns
 unfolding row-at
@@ -90,33 +77,16 @@ returns-4 c = not-row (c .before .before .before .before .before .before .before
 
 returns-5 : tie.Need-returns-5
 unfolding row-at
-returns-5 c = c .joined .ensures ∙ join-row (c .before .before .before .before .before .before .before .before .before .before .pre) (c .before .before .before .match .rest .0 .0 .0 .1) (c .before .before .before .match .rest .0 .0 .1) (c .before .before .before .match .rest .0 .1) (c .before .before .before .match .rest .1)
+returns-5 c =
+    let at-match = c .before .before .before in
+    let at-pre = at-match .before .before .before .before .before .before .before in
+    c .joined .ensures ∙ join-row (at-pre .pre) (at-match .match .rest .0 .0 .0 .1) (at-match .match .rest .0 .0 .1) (at-match .match .rest .0 .1)
+    (at-match .match .rest .1)
 
 pub value-of-spec : {M : Type 1} → statement M
 value-of-spec =
     tie.close
     (tie.spec
-    mul-kind
-    mul-kind-2
-    shared-slice-read-kind
-    mul-a
-    add-a
-    mul-a-2
-    shared-slice-read-a
-    cast-a
-    mul-b
-    add-b
-    mul-b-2
-    shared-slice-read-b
-    cast-b
-    shared-slice-read-result
-    shared-slice-read-result-2
-    sub-result
-    shared-slice-read-joined
-    shared-slice-read-joined-2
-    joined-requires
-    returns
-    returns-2
-    returns-3
-    returns-4
-    returns-5)
+    (λ c. search needs) (λ c. search needs) (λ c. search needs) (λ c. search needs) (λ c. search needs) (λ c. search needs) (λ c. search needs) cast-a
+    (λ c. search needs) (λ c. search needs) (λ c. search needs) (λ c. search needs) cast-b shared-slice-read-result shared-slice-read-result-2
+    sub-result shared-slice-read-joined shared-slice-read-joined-2 joined-requires returns returns-2 returns-3 returns-4 returns-5)

@@ -9,18 +9,6 @@ use mathlib.Core.Path.{refl}
 use Rattle.formula_builder.specs.Inner.Index.{head-of}
 use Rattle.formula_builder.proofs.Indexing.{hash-small}
 
--- src/index.rt:21:16
-mul-hash : tie.Need-mul-hash
-mul-hash c = search needs
-
--- src/index.rt:22:5
-mul-result : tie.Need-mul-result
-mul-result c = search needs
-
--- src/index.rt:22:24
-mul-result-2 : tie.Need-mul-result-2
-mul-result-2 c = search needs
-
 -- src/index.rt:22:16
 mul-result-3 : tie.Need-mul-result-3
 mul-result-3 c = omega (arith, hash-small (c .args .most) (c .args .key) (c .pre .0))
@@ -35,4 +23,4 @@ unfolding head-of
 returns c = (refl, omega (arith, hash-small (c .args .most) (c .args .key) (c .pre .0)))
 
 pub head-word-spec : {M : Type 1} → statement M
-head-word-spec = tie.close (tie.spec mul-hash mul-result mul-result-2 mul-result-3 add-result returns)
+head-word-spec = tie.close (tie.spec (λ c. search needs) (λ c. search needs) (λ c. search needs) mul-result-3 add-result returns)

@@ -15,57 +15,70 @@ use Prim.Native.Nat.{ℕ}
 use mathlib.Core.Path.{sym, ap, _∙_}
 use native.Mathlib.Omega.{arith}
 
--- src/joins.rt:36:9
-falsity-requires : tie.Need-falsity-requires
-falsity-requires c κs = search needs
-
--- src/joins.rt:37:9
-truth-requires : tie.Need-truth-requires
-truth-requires c κs = search needs
-
 -- src/joins.rt:39:9
 returns : tie.Need-returns
-returns c = λ frame w o same ready. rw (c .before .before .falsity .ensures) (builds-as (join-left-false (side (c .before .before .before .before .args .or)) (c .before .before .before .before .args .a) (c .before .before .before .before .args .b) (c .if1 .taken ∙ c .before .before .falsity .ensures)) (builds-stands (false-row (side (c .before .before .before .before .args .or))) ready (omega (arith, falsity-small (side (c .before .before .before .before .args .or)), ready .two))))
+returns c =
+    let at-args = c .before .before .before .before in
+    λ frame w o same ready. rw (c .before .before .falsity .ensures)
+    (builds-as (join-left-false (side (at-args .args .or)) (at-args .args .a) (at-args .args .b) (c .if1 .taken ∙ c .before .before .falsity .ensures))
+    (builds-stands (false-row (side (at-args .args .or))) ready (omega (arith, falsity-small (side (at-args .args .or)), ready .two))))
 
 -- src/joins.rt:42:9
 returns-2 : tie.Need-returns-2
-returns-2 c = λ frame w o same ready. rw (c .before .before .before .falsity .ensures) (builds-as (join-right-false (side (c .before .before .before .before .before .args .or)) (c .before .before .before .before .before .args .a) (c .before .before .before .before .before .args .b) (λ e. c .before .if1 .left (e ∙ sym (c .before .before .before .falsity .ensures))) (c .if2 .taken ∙ c .before .before .before .falsity .ensures)) (builds-stands (false-row (side (c .before .before .before .before .before .args .or))) ready (omega (arith, falsity-small (side (c .before .before .before .before .before .args .or)), ready .two))))
+returns-2 c =
+    let at-falsity = c .before .before .before in
+    let at-args = at-falsity .before .before in
+    λ frame w o same ready. rw (at-falsity .falsity .ensures)
+    (builds-as
+    (join-right-false (side (at-args .args .or)) (at-args .args .a) (at-args .args .b) (λ e. c .before .if1 .left (e ∙ sym (at-falsity .falsity .ensures)))
+    (c .if2 .taken ∙ at-falsity .falsity .ensures))
+    (builds-stands (false-row (side (at-args .args .or))) ready (omega (arith, falsity-small (side (at-args .args .or)), ready .two))))
 
 -- src/joins.rt:45:9
 returns-3 : tie.Need-returns-3
-returns-3 c = λ frame w o same ready. builds-as (join-left-true (side (c .before .before .before .before .before .before .args .or)) (c .before .before .before .before .before .before .args .a) (c .before .before .before .before .before .before .args .b) (λ e. c .before .before .if1 .left (e ∙ sym (c .before .before .before .before .falsity .ensures))) (λ e. c .before .if2 .left (e ∙ sym (c .before .before .before .before .falsity .ensures))) (c .if3 .taken ∙ c .before .before .before .truth .ensures)) (builds-stands (c .before .before .before .before .before .before .args .b) ready (c .before .before .before .before .before .before .pre .right))
+returns-3 c =
+    let at-truth = c .before .before .before in
+    let at-falsity = at-truth .before in
+    let at-args = at-falsity .before .before in
+    λ frame w o same ready. builds-as
+    (join-left-true (side (at-args .args .or)) (at-args .args .a) (at-args .args .b) (λ e. c .before .before .if1 .left (e ∙ sym (at-falsity .falsity .ensures)))
+    (λ e. c .before .if2 .left (e ∙ sym (at-falsity .falsity .ensures))) (c .if3 .taken ∙ at-truth .truth .ensures))
+    (builds-stands (at-args .args .b) ready (at-args .pre .right))
 
 -- src/joins.rt:48:9
 returns-4 : tie.Need-returns-4
-returns-4 c = λ frame w o same ready. builds-as (join-right-true (side (c .before .before .before .before .before .before .before .args .or)) (c .before .before .before .before .before .before .before .args .a) (c .before .before .before .before .before .before .before .args .b) (λ e. c .before .before .before .if1 .left (e ∙ sym (c .before .before .before .before .before .falsity .ensures))) (λ e. c .before .before .if2 .left (e ∙ sym (c .before .before .before .before .before .falsity .ensures))) (λ e. c .before .if3 .left (e ∙ sym (c .before .before .before .before .truth .ensures))) (c .if4 .taken ∙ c .before .before .before .before .truth .ensures)) (builds-stands (c .before .before .before .before .before .before .before .args .a) ready (c .before .before .before .before .before .before .before .pre .left))
-
--- src/joins.rt:50:9
-kind-requires : tie.Need-kind-requires
-kind-requires c κs = search needs
-
--- src/joins.rt:51:5
-row-requires : tie.Need-row-requires
-row-requires c κs = search needs
-
--- src/joins.rt:32:1
-same-length : tie.Need-same-length
-same-length c = search needs
+returns-4 c =
+    let at-if1 = c .before .before .before in
+    let at-truth = at-if1 .before in
+    let at-falsity = at-truth .before in
+    let at-args = at-falsity .before .before in
+    λ frame w o same ready. builds-as
+    (join-right-true (side (at-args .args .or)) (at-args .args .a) (at-args .args .b) (λ e. at-if1 .if1 .left (e ∙ sym (at-falsity .falsity .ensures)))
+    (λ e. c .before .before .if2 .left (e ∙ sym (at-falsity .falsity .ensures))) (λ e. c .before .if3 .left (e ∙ sym (at-truth .truth .ensures)))
+    (c .if4 .taken ∙ at-truth .truth .ensures))
+    (builds-stands (at-args .args .a) ready (at-args .pre .left))
 
 -- src/joins.rt:32:1
 returns-5 : tie.Need-returns-5
-returns-5 c = λ frame w o same ready. builds-as (join-fresh (side (c .before .before .before .before .before .before .before .before .before .before .before .before .before .args .or)) (c .before .before .before .before .before .before .before .before .before .before .before .before .before .args .a) (c .before .before .before .before .before .before .before .before .before .before .before .before .before .args .b) (λ e. c .before .before .before .before .before .before .before .before .before .if1 .left (e ∙ sym (c .before .before .before .before .before .before .before .before .before .before .before .falsity .ensures))) (λ e. c .before .before .before .before .before .before .before .before .if2 .left (e ∙ sym (c .before .before .before .before .before .before .before .before .before .before .before .falsity .ensures))) (λ e. c .before .before .before .before .before .before .before .if3 .left (e ∙ sym (c .before .before .before .before .before .before .before .before .before .before .truth .ensures))) (λ e. c .before .before .before .before .before .before .if4 .left (e ∙ sym (c .before .before .before .before .before .before .before .before .before .before .truth .ensures))) ∙ ap (λ (k : ℕ). row (record { kind = k; a = c .before .before .before .before .before .before .before .before .before .before .before .before .before .args .a; b = c .before .before .before .before .before .before .before .before .before .before .before .before .before .args .b })) (sym (c .before .before .before .before .before .kind .ensures))) (c .before .before .row .ensures frame w o same ready)
+returns-5 c =
+    let at-kind = c .before .before .before .before .before in
+    let at-if4 = at-kind .before in
+    let at-if3 = at-if4 .before in
+    let at-if2 = at-if3 .before in
+    let at-if1 = at-if2 .before in
+    let at-truth = at-if1 .before in
+    let at-falsity = at-truth .before in
+    let at-args = at-falsity .before .before in
+    λ frame w o same ready. builds-as
+    (join-fresh (side (at-args .args .or)) (at-args .args .a) (at-args .args .b) (λ e. at-if1 .if1 .left (e ∙ sym (at-falsity .falsity .ensures)))
+    (λ e. at-if2 .if2 .left (e ∙ sym (at-falsity .falsity .ensures))) (λ e. at-if3 .if3 .left (e ∙ sym (at-truth .truth .ensures)))
+    (λ e. at-if4 .if4 .left (e ∙ sym (at-truth .truth .ensures))) ∙ ap (λ (k : ℕ). row (record { kind = k; a = at-args .args .a; b = at-args .args .b }))
+    (sym (at-kind .kind .ensures)))
+    (c .before .before .row .ensures frame w o same ready)
 
 pub join-spec : {M : Type 1} → statement M
 join-spec =
     tie.close
     (tie.spec
-    falsity-requires
-    truth-requires
-    returns
-    returns-2
-    returns-3
-    returns-4
-    kind-requires
-    row-requires
-    same-length
-    returns-5)
+    (λ c κs. search needs) (λ c κs. search needs) returns returns-2 returns-3 returns-4 (λ c κs. search needs) (λ c κs. search needs)
+    (λ c. search needs) returns-5)

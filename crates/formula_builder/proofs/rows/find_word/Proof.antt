@@ -21,10 +21,6 @@ Inv-loop table most r bits₀ p₀ s₀ bits p s = Walks most table (row-of r) p
 abbrev μ-loop : tie.MeasureT-loop
 μ-loop table most r bits₀ p₀ s₀ bits p s = remaining most s
 
--- src/rows.rt:52:9
-key-requires : tie.Need-key-requires Inv-loop μ-loop
-key-requires c κs = search needs
-
 -- src/rows.rt:53:9
 head-word-requires : tie.Need-head-word-requires Inv-loop μ-loop
 head-word-requires c κs = (c .before .before .pre .some, c .before .before .pre .limit, c .key .ensures .1)
@@ -43,7 +39,10 @@ cast-s c = omega (arith, c .shared-slice-known2 .given (c .before .head-word .re
 
 -- src/rows.rt:55:5
 loop-holds : tie.Need-loop-holds Inv-loop μ-loop
-loop-holds c = rw (c .before .head-word .ensures .0, c .before .before .key .ensures .0) (walk-begins (c .before .before .before .before .args .most) (c .before .before .before .before .args .table .now) (row-of (c .before .before .before .before .args .r)) (c .before .before .before .before .pre))
+loop-holds c =
+    let at-args = c .before .before .before .before in
+    rw (c .before .head-word .ensures .0, c .before .before .key .ensures .0)
+    (walk-begins (at-args .args .most) (at-args .args .table .now) (row-of (at-args .args .r)) (at-args .pre))
 
 -- src/rows.rt:56:17
 sub-i : tie.Need-sub-i Inv-loop μ-loop
@@ -51,23 +50,52 @@ sub-i c = omega (arith, c .loop-test .taken)
 
 -- src/rows.rt:57:12
 same-requires : tie.Need-same-requires Inv-loop μ-loop
-same-requires c κs = let at : c .before .loop .s ≡ suc (c .before .loop .s - 1) = omega (arith, c .loop-test .taken) in omega (arith, c .before .before .before .before .before .before .pre .room, walk-below (c .before .before .before .before .before .before .args .most) (c .before .before .before .before .before .before .args .table .now) (row-of (c .before .before .before .before .before .before .args .r)) (c .before .before .before .before .before .before .pre) (c .before .loop .inv) at)
+same-requires c κs =
+    let at-pre = c .before .before .before .before .before .before in
+    let at : c .before .loop .s ≡ suc (c .before .loop .s - 1) = omega (arith, c .loop-test .taken) in omega
+    (arith, at-pre .pre .room, walk-below (at-pre .args .most) (at-pre .args .table .now) (row-of (at-pre .args .r)) (at-pre .pre) (c .before .loop .inv) at)
 
 -- src/rows.rt:58:13
 returns : tie.Need-returns Inv-loop μ-loop
-returns c = let at : c .before .before .before .loop .s ≡ suc (c .before .before .before .loop .s - 1) = omega (arith, c .before .before .loop-test .taken) in walk-finds (c .before .before .before .before .before .before .before .before .args .most) (c .before .before .before .before .before .before .before .before .args .table .now) (row-of (c .before .before .before .before .before .before .before .before .args .r)) (c .before .before .before .before .before .before .before .before .pre) (c .before .before .before .loop .inv) at (sym (c .before .same .ensures) ∙ c .if1 .taken)
+returns c =
+    let at-loop = c .before .before .before in
+    let at-args = at-loop .before .before .before .before .before in
+    let at : at-loop .loop .s ≡ suc (at-loop .loop .s - 1) = omega (arith, c .before .before .loop-test .taken) in walk-finds (at-args .args .most)
+    (at-args .args .table .now) (row-of (at-args .args .r)) (at-args .pre) (at-loop .loop .inv) at (sym (c .before .same .ensures) ∙ c .if1 .taken)
 
 -- src/rows.rt:60:9
 link-word-requires : tie.Need-link-word-requires Inv-loop μ-loop
-link-word-requires c κs = let at : c .before .before .before .loop .s ≡ suc (c .before .before .before .loop .s - 1) = omega (arith, c .before .before .loop-test .taken) in (c .before .before .before .before .before .before .before .before .pre .limit, walk-below (c .before .before .before .before .before .before .before .before .args .most) (c .before .before .before .before .before .before .before .before .args .table .now) (row-of (c .before .before .before .before .before .before .before .before .args .r)) (c .before .before .before .before .before .before .before .before .pre) (c .before .before .before .loop .inv) at)
+link-word-requires c κs =
+    let at-loop = c .before .before .before in
+    let at-pre = at-loop .before .before .before .before .before in
+    let at : at-loop .loop .s ≡ suc (at-loop .loop .s - 1) = omega (arith, c .before .before .loop-test .taken) in
+    (at-pre .pre .limit, walk-below (at-pre .args .most) (at-pre .args .table .now) (row-of (at-pre .args .r)) (at-pre .pre) (at-loop .loop .inv) at)
 
 -- src/rows.rt:62:13
 mul-s-2 : tie.Need-mul-s-2 Inv-loop μ-loop
-mul-s-2 c = let at : c .before .before .before .before .loop .s ≡ suc (c .before .before .before .before .loop .s - 1) = omega (arith, c .before .before .before .loop-test .taken) in omega (arith, c .before .before .before .before .before .before .before .before .before .pre .limit, c .link-word .ensures, walk-below (c .before .before .before .before .before .before .before .before .before .args .most) (c .before .before .before .before .before .before .before .before .before .args .table .now) (row-of (c .before .before .before .before .before .before .before .before .before .args .r)) (c .before .before .before .before .before .before .before .before .before .pre) (c .before .before .before .before .loop .inv) at)
+mul-s-2 c =
+    let at-loop-test = c .before .before .before in
+    let at-loop = at-loop-test .before in
+    let at-pre = at-loop .before .before .before .before .before in
+    let at : at-loop .loop .s ≡ suc (at-loop .loop .s - 1) = omega (arith, at-loop-test .loop-test .taken) in omega (
+      arith,
+      at-pre .pre .limit,
+      c .link-word .ensures,
+      walk-below (at-pre .args .most) (at-pre .args .table .now) (row-of (at-pre .args .r)) (at-pre .pre) (at-loop .loop .inv) at,
+    )
 
 -- src/rows.rt:62:13
 shared-slice-read-s-2 : tie.Need-shared-slice-read-s-2 Inv-loop μ-loop
-shared-slice-read-s-2 c = let at : c .before .before .before .before .before .loop .s ≡ suc (c .before .before .before .before .before .loop .s - 1) = omega (arith, c .before .before .before .before .loop-test .taken) in omega (arith, c .before .before .before .before .before .before .before .before .before .before .pre .room, c .before .link-word .ensures, walk-below (c .before .before .before .before .before .before .before .before .before .before .args .most) (c .before .before .before .before .before .before .before .before .before .before .args .table .now) (row-of (c .before .before .before .before .before .before .before .before .before .before .args .r)) (c .before .before .before .before .before .before .before .before .before .before .pre) (c .before .before .before .before .before .loop .inv) at)
+shared-slice-read-s-2 c =
+    let at-loop-test = c .before .before .before .before in
+    let at-loop = at-loop-test .before in
+    let at-pre = at-loop .before .before .before .before .before in
+    let at : at-loop .loop .s ≡ suc (at-loop .loop .s - 1) = omega (arith, at-loop-test .loop-test .taken) in omega (
+      arith,
+      at-pre .pre .room,
+      c .before .link-word .ensures,
+      walk-below (at-pre .args .most) (at-pre .args .table .now) (row-of (at-pre .args .r)) (at-pre .pre) (at-loop .loop .inv) at,
+    )
 
 -- src/rows.rt:62:13
 cast-s-2 : tie.Need-cast-s-2 Inv-loop μ-loop
@@ -75,15 +103,30 @@ cast-s-2 c = omega (arith, c .shared-slice-known3 .given (c .before .link-word .
 
 -- src/rows.rt:55:5
 loop-less : tie.Need-loop-less Inv-loop μ-loop
-loop-less c = let at : c .before .before .before .before .before .loop .s ≡ suc (c .before .before .before .before .before .loop .s - 1) = omega (arith, c .before .before .before .before .loop-test .taken) in rw (c .before .link-word .ensures) (walk-less (c .before .before .before .before .before .before .before .before .before .before .args .most) (c .before .before .before .before .before .before .before .before .before .before .args .table .now) (row-of (c .before .before .before .before .before .before .before .before .before .before .args .r)) (c .before .before .before .before .before .before .before .before .before .before .pre) (c .before .before .before .before .before .loop .inv) at)
+loop-less c =
+    let at-loop-test = c .before .before .before .before in
+    let at-loop = at-loop-test .before in
+    let at-args = at-loop .before .before .before .before .before in
+    let at : at-loop .loop .s ≡ suc (at-loop .loop .s - 1) = omega (arith, at-loop-test .loop-test .taken) in rw (c .before .link-word .ensures)
+    (walk-less (at-args .args .most) (at-args .args .table .now) (row-of (at-args .args .r)) (at-args .pre) (at-loop .loop .inv) at)
 
 -- src/rows.rt:55:5
 loop-again : tie.Need-loop-again Inv-loop μ-loop
-loop-again c = let at : c .before .before .before .before .before .loop .s ≡ suc (c .before .before .before .before .before .loop .s - 1) = omega (arith, c .before .before .before .before .loop-test .taken) in rw (c .before .link-word .ensures) (walk-goes-on (c .before .before .before .before .before .before .before .before .before .before .args .most) (c .before .before .before .before .before .before .before .before .before .before .args .table .now) (row-of (c .before .before .before .before .before .before .before .before .before .before .args .r)) (c .before .before .before .before .before .before .before .before .before .before .pre) (c .before .before .before .before .before .loop .inv) at (sym (c .before .before .before .same .ensures) ∙ c .before .before .if1 .left))
+loop-again c =
+    let at-same = c .before .before .before in
+    let at-loop-test = at-same .before in
+    let at-loop = at-loop-test .before in
+    let at-args = at-loop .before .before .before .before .before in
+    let at : at-loop .loop .s ≡ suc (at-loop .loop .s - 1) = omega (arith, at-loop-test .loop-test .taken) in rw (c .before .link-word .ensures)
+    (walk-goes-on (at-args .args .most) (at-args .args .table .now) (row-of (at-args .args .r)) (at-args .pre) (at-loop .loop .inv) at
+    (sym (at-same .same .ensures) ∙ c .before .before .if1 .left))
 
 -- src/rows.rt:48:1
 returns-2 : tie.Need-returns-2 Inv-loop μ-loop
-returns-2 c = walk-ends (c .before .before .before .before .before .before .args .most) (c .before .before .before .before .before .before .args .table .now) (row-of (c .before .before .before .before .before .before .args .r)) (c .before .before .before .before .before .before .pre) (c .before .loop .inv) (omega (arith, c .loop-test .left))
+returns-2 c =
+    let at-args = c .before .before .before .before .before .before in
+    walk-ends (at-args .args .most) (at-args .args .table .now) (row-of (at-args .args .r)) (at-args .pre) (c .before .loop .inv)
+    (omega (arith, c .loop-test .left))
 
 pub find-word-spec : {M : Type 1} → statement M
 find-word-spec =
@@ -91,19 +134,5 @@ find-word-spec =
     (tie.spec
     Inv-loop
     μ-loop
-    key-requires
-    head-word-requires
-    mul-s
-    shared-slice-read-s
-    cast-s
-    loop-holds
-    sub-i
-    same-requires
-    returns
-    link-word-requires
-    mul-s-2
-    shared-slice-read-s-2
-    cast-s-2
-    loop-less
-    loop-again
-    returns-2)
+    (λ c κs. search needs) head-word-requires mul-s shared-slice-read-s cast-s loop-holds sub-i same-requires returns link-word-requires mul-s-2
+    shared-slice-read-s-2 cast-s-2 loop-less loop-again returns-2)

@@ -12,33 +12,27 @@ use Rattle.formula_builder.proofs.Indexing.{first-searchable, second-se
 find-word-requires : tie.Need-find-word-requires
 find-word-requires c κs = first-searchable (c .before .before .pre)
 
--- src/rows.rt:98:5
-append-row-requires : tie.Need-append-row-requires
-append-row-requires c κs = search needs
-
 -- src/rows.rt:104:9
 find-word-requires-2 : tie.Need-find-word-requires-2
-find-word-requires-2 c κs = rw (c .before .before .before .append-row .ensures) (second-searchable (c .before .before .before .before .before .before .before .before .pre) (c .before .before .before .before .before .find-word .ensures))
-
--- src/rows.rt:105:5
-append-row-requires-2 : tie.Need-append-row-requires-2
-append-row-requires-2 c κs = search needs
-
--- src/rows.rt:88:1
-same-length : tie.Need-same-length
-same-length c = search needs
+find-word-requires-2 c κs =
+    let at-append-row = c .before .before .before in
+    let at-find-word = at-append-row .before .before in
+    let at-pre = at-find-word .before .before .before in
+    rw (at-append-row .append-row .ensures) (second-searchable (at-pre .pre) (at-find-word .find-word .ensures))
 
 -- src/rows.rt:88:1
 returns : tie.Need-returns
-returns c = rw (c .before .before .append-row2 .ensures) (rw (c .before .before .before .before .before .before .before .before .append-row .ensures) (first-two (c .before .before .before .before .before .before .before .before .before .before .before .before .before .pre) (c .before .before .before .before .before .before .before .before .before .before .find-word .ensures) (rw (c .before .before .before .before .before .before .before .before .append-row .ensures) at (c .before .before .before .before .find-word2 .ensures))))
+returns c =
+    let at-find-word2 = c .before .before .before .before in
+    let at-append-row = at-find-word2 .before .before .before .before in
+    let at-find-word = at-append-row .before .before in
+    let at-pre = at-find-word .before .before .before in
+    rw (c .before .before .append-row2 .ensures)
+    (rw (at-append-row .append-row .ensures)
+    (first-two (at-pre .pre) (at-find-word .find-word .ensures) (rw (at-append-row .append-row .ensures) at (at-find-word2 .find-word2 .ensures))))
 
 pub first-rows-spec : {M : Type 1} → statement M
 first-rows-spec =
     tie.close
     (tie.spec
-    find-word-requires
-    append-row-requires
-    find-word-requires-2
-    append-row-requires-2
-    same-length
-    returns)
+    find-word-requires (λ c κs. search needs) find-word-requires-2 (λ c κs. search needs) (λ c. search needs) returns)

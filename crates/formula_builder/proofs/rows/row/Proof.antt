@@ -12,17 +12,15 @@ use Rattle.formula_builder.proofs.Steps.{rows-searchable, row-put}
 put-requires : tie.Need-put-requires
 put-requires c κs = (rows-searchable (c .before .before .before .pre), c .before .before .before .pre .within)
 
--- src/rows.rt:148:13
-rows-after-requires : tie.Need-rows-after-requires
-rows-after-requires c κs = search needs
-
--- src/rows.rt:142:1
-same-length : tie.Need-same-length
-same-length c = search needs
-
 -- src/rows.rt:142:1
 returns : tie.Need-returns
-returns c = λ frame w o same ready. rw (c .rows-after .ensures) (row-put frame (c .before .before .before .before .before .before .before .args .rows .now) w (c .before .before .before .before .before .before .before .args .table .now) o ready (record { kind = c .before .before .before .before .before .before .before .args .kind; a = c .before .before .before .before .before .before .before .args .a; b = c .before .before .before .before .before .before .before .args .b }) (c .before .before .before .put .last .0) (c .before .before .before .put .result) (c .before .before .before .before .before .before .before .args .most) same (c .before .before .before .put .ensures))
+returns c =
+    let at-put = c .before .before .before in
+    let at-args = at-put .before .before .before .before in
+    λ frame w o same ready. rw (c .rows-after .ensures)
+    (row-put frame (at-args .args .rows .now) w (at-args .args .table .now) o ready
+    (record { kind = at-args .args .kind; a = at-args .args .a; b = at-args .args .b }) (at-put .put .last .0) (at-put .put .result) (at-args .args .most) same
+    (at-put .put .ensures))
 
 pub row-spec : {M : Type 1} → statement M
-row-spec = tie.close (tie.spec put-requires rows-after-requires same-length returns)
+row-spec = tie.close (tie.spec put-requires (λ c κs. search needs) (λ c. search needs) returns)

@@ -6,10 +6,6 @@ use Rattle.formula_builder.proofs.rows.rows_after.Reads as reads
 use Rattle.formula_builder.proofs.rows.rows_after.Lts as lts
 use borrow.Author.Tests.{eq-eqb, ne-eqb}
 
--- src/rows.rt:137:16
-add-result : tie.Need-add-result
-add-result c = search needs
-
 -- src/rows.rt:137:9
 returns : tie.Need-returns
 returns c = rw (eq-eqb (c .before .args .k) (c .before .args .n) (c .if1 .taken))
@@ -19,4 +15,4 @@ returns-2 : tie.Need-returns-2
 returns-2 c = rw (ne-eqb (c .before .args .k) (c .before .args .n) (c .if1 .left))
 
 pub rows-after-spec : {M : Type 1} → statement M
-rows-after-spec = tie.close (tie.spec add-result returns returns-2)
+rows-after-spec = tie.close (tie.spec (λ c. search needs) returns returns-2)

@@ -7,18 +7,10 @@ use Rattle.formula_builder.proofs.rows.variable_row.Lts as lts
 use Rattle.formula_builder.proofs.rows.row.Reads as row-reads
 use Rattle.normal_form.specs.Builder.{variable-row}
 
--- src/rows.rt:157:5
-row-requires : tie.Need-row-requires
-row-requires c κs = search needs
-
--- src/rows.rt:153:1
-same-length : tie.Need-same-length
-same-length c = search needs
-
 -- src/rows.rt:153:1
 returns : tie.Need-returns
 unfolding variable-row
 returns c = c .before .before .row .ensures
 
 pub variable-row-spec : {M : Type 1} → statement M
-variable-row-spec = tie.close (tie.spec row-requires same-length returns)
+variable-row-spec = tie.close (tie.spec (λ c κs. search needs) (λ c. search needs) returns)

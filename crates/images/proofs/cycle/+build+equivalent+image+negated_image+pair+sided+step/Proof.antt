@@ -106,28 +106,45 @@ step-below t = and 7 step-kinds.ps (falls 7 step-kinds.ps _<_ μ-step t) step.Pr
 
 build-mul-scratch : (t : ℕ) → build-lts.Need-mul-scratch (step-below t, step.Post, word-of-reads.Asked, word-of-reads.Learnt) (build-at t) build.Post
 build-mul-scratch t c =
-    let start = c .before .before .before .before .before .before .before .before .before .before .before .before .before .before .before .before .before .before in
-    omega (arith, c .word-of .ensures, place-within (framed (start .args .frame .now)) (side (start .args .not)) (start .args .i) (start .pre .1 .formula), start .pre .1 .source .limit)
+    let at-entry = c .before .before .before .before .before .before .before .before .before .before .before .before .before .before .before .before .before .before in
+    let start = at-entry in
+    omega (
+      arith,
+      c .word-of .ensures,
+      place-within (framed (start .args .frame .now)) (side (start .args .not)) (start .args .i) (start .pre .1 .formula),
+      start .pre .1 .source .limit,
+    )
 
 build-slice-write-scratch : (t : ℕ) → build-lts.Need-slice-write-scratch (step-below t, step.Post, word-of-reads.Asked, word-of-reads.Learnt) (build-at t) build.Post
 build-slice-write-scratch t c =
-    let made = c .before .before .before .before .before .before .before .before in
+    let at-entry = c .before .before .before .before .before .before .before .before in
+    let made = at-entry in
     let start = made .before .before .before .before .before .before .before .before .before .before in
-    omega (arith, c .word-of .ensures, place-within (framed (start .args .frame .now)) (side (start .args .not)) (start .args .i) (start .pre .1 .formula), start .pre .1 .source .memo, made .step .kept .1 .1 .1 .1 .1 .1 .1 .1 .0)
+    omega (
+      arith,
+      c .word-of .ensures,
+      place-within (framed (start .args .frame .now)) (side (start .args .not)) (start .args .i) (start .pre .1 .formula),
+      start .pre .1 .source .memo,
+      made .step .kept .1 .1 .1 .1 .1 .1 .1 .1 .0,
+    )
 
 build-returns-2 : (t : ℕ) → build-lts.Need-returns-2 (step-below t, step.Post, word-of-reads.Asked, word-of-reads.Learnt) (build-at t) build.Post
 build-returns-2 t c =
-    let made = c .before .before .before .before .before .before .before .before in
+    let at-entry = c .before .before .before .before .before .before .before .before in
+    let made = at-entry in
     let start = made .before .before .before .before .before .before .before .before .before .before in
     rw (c .word-of .ensures)
-    (images-noted (side (start .args .not)) (start .pre .1 .formula) (omega (arith, start .pre .1 .source .memo, made .step .kept .1 .1 .1 .1 .1 .1 .1 .1 .0)) (made .step .ensures)
+    (images-noted (side (start .args .not)) (start .pre .1 .formula) (omega (arith, start .pre .1 .source .memo, made .step .kept .1 .1 .1 .1 .1 .1 .1 .1 .0))
+    (made .step .ensures)
     (ne-eqb _ 65535 (c .before .if1 .left)))
 
 equivalent-returns : (t : ℕ) → equivalent-lts.Need-returns (pair-below t, pair.Post, join-reads.Asked, join-reads.Learnt) (equivalent-at t) equivalent.Post
 equivalent-returns t c =
-    let left = c .before .before .before .before .before .before .before in
+    let at-entry = c .before .before .before .before .before .before .before in
+    let left = at-entry in
     let start = left .before .before .before .before .before .before .before .before .before .before in
-    left-full (equivalent-joins (framed (start .args .frame .now)) (start .args .formulas .now) (start .args .i) (start .args .not)) (left .pair .ensures) (eq-eqb _ 65535 (c .if1 .taken))
+    left-full (equivalent-joins (framed (start .args .frame .now)) (start .args .formulas .now) (start .args .i) (start .args .not)) (left .pair .ensures)
+    (eq-eqb _ 65535 (c .if1 .taken))
 
 equivalent-pair-requires-2 : (t : ℕ) → equivalent-lts.Need-pair-requires-2 (pair-below t, pair.Post, join-reads.Asked, join-reads.Learnt) (equivalent-at t) equivalent.Post
 equivalent-pair-requires-2 t c κs =
@@ -140,11 +157,13 @@ equivalent-pair-requires-2 t c κs =
 
 equivalent-returns-2 : (t : ℕ) → equivalent-lts.Need-returns-2 (pair-below t, pair.Post, join-reads.Asked, join-reads.Learnt) (equivalent-at t) equivalent.Post
 equivalent-returns-2 t c =
-    let right = c .before .before .before .before .before .before .before in
+    let at-entry = c .before .before .before .before .before .before .before in
+    let right = at-entry in
     let one = right .before .before .before .before .before .before in
     let left = one .before .before .before .before .before .before .before in
     let start = left .before .before .before .before .before .before .before .before .before .before in
-    right-full (equivalent-joins (framed (start .args .frame .now)) (start .args .formulas .now) (start .args .i) (start .args .not)) (left .pair .ensures) (ne-eqb _ 65535 (one .if1 .left))
+    right-full (equivalent-joins (framed (start .args .frame .now)) (start .args .formulas .now) (start .args .i) (start .args .not)) (left .pair .ensures)
+    (ne-eqb _ 65535 (one .if1 .left))
     (right .pair2 .ensures) (eq-eqb _ 65535 (c .if2 .taken))
 
 equivalent-join-requires : (t : ℕ) → equivalent-lts.Need-join-requires (pair-below t, pair.Post, join-reads.Asked, join-reads.Learnt) (equivalent-at t) equivalent.Post
@@ -167,7 +186,8 @@ equivalent-returns-3 t c =
     let x = left .pair .ensures in
     let y = right .pair2 .ensures in
     let e = ne-eqb _ 65535 (two .if2 .left) in
-    joined (equivalent-joins (framed (start .args .frame .now)) (start .args .formulas .now) (start .args .i) (start .args .not)) x (ne-eqb _ 65535 (one .if1 .left)) y e (end .join .ensures _ _ _ refl (y .builds .done e .ready))
+    joined (equivalent-joins (framed (start .args .frame .now)) (start .args .formulas .now) (start .args .i) (start .args .not)) x
+    (ne-eqb _ 65535 (one .if1 .left)) y e (end .join .ensures _ _ _ refl (y .builds .done e .ready))
 
 image-returns : (t : ℕ) → image-lts.Need-returns (build-below t, build.Post) (image-at t) image.Post
 image-returns t c =
@@ -181,35 +201,44 @@ negated-image-returns t c =
 
 pair-sided-requires : (t : ℕ) → pair-lts.Need-sided-requires (read-row-reads.Asked, read-row-reads.Learnt, sided-below t, sided.Post, join-reads.Asked, join-reads.Learnt) (pair-at t) pair.Post
 pair-sided-requires t c κs =
-    let read = c .before .before .before .before .before .before in
-    let start = read .before .before .before .before .before in
-    (omega (arith, start .pre .0, left-lower (start .pre .1) (read .read-row .result) (read .read-row .ensures)), asks-left (start .pre .1) (read .read-row .result) (read .read-row .ensures))
+    let at-entry = c .before .before .before .before .before .before in
+    let read = at-entry in
+    let start = read .before .before .before .before .before in (
+      omega (arith, start .pre .0, left-lower (start .pre .1) (read .read-row .result) (read .read-row .ensures)),
+      asks-left (start .pre .1) (read .read-row .result) (read .read-row .ensures),
+    )
 
 pair-returns : (t : ℕ) → pair-lts.Need-returns (read-row-reads.Asked, read-row-reads.Learnt, sided-below t, sided.Post, join-reads.Asked, join-reads.Learnt) (pair-at t) pair.Post
 pair-returns t c =
-    let left = c .before .before .before .before .before .before .before in
+    let at-entry = c .before .before .before .before .before .before .before in
+    let left = at-entry in
     let read = left .before .before .before .before .before .before .before in
     let start = read .before .before .before .before .before in
-    left-full (pair-joins (start .pre .1) (read .read-row .result) (read .read-row .ensures) (start .args .left) (start .args .right) (start .args .or)) (left .sided .ensures) (eq-eqb _ 65535 (c .if1 .taken))
+    left-full (pair-joins (start .pre .1) (read .read-row .result) (read .read-row .ensures) (start .args .left) (start .args .right) (start .args .or))
+    (left .sided .ensures) (eq-eqb _ 65535 (c .if1 .taken))
 
 pair-sided-requires-2 : (t : ℕ) → pair-lts.Need-sided-requires-2 (read-row-reads.Asked, read-row-reads.Learnt, sided-below t, sided.Post, join-reads.Asked, join-reads.Learnt) (pair-at t) pair.Post
 pair-sided-requires-2 t c κs =
-    let one = c .before .before .before .before .before .before in
+    let at-entry = c .before .before .before .before .before .before in
+    let one = at-entry in
     let left = one .before .before .before .before .before .before .before in
     let read = left .before .before .before .before .before .before .before in
     let start = read .before .before .before .before .before in (
       omega (arith, start .pre .0, right-lower (start .pre .1) (read .read-row .result) (read .read-row .ensures)),
-      asks-right (start .pre .1) (read .read-row .result) (read .read-row .ensures) (left .sided .ensures) (ne-eqb _ 65535 (one .if1 .left)) (left .sided .kept .1 .1 .1 .1 .1 .1 .1 .1 .0),
+      asks-right (start .pre .1) (read .read-row .result) (read .read-row .ensures) (left .sided .ensures) (ne-eqb _ 65535 (one .if1 .left))
+          (left .sided .kept .1 .1 .1 .1 .1 .1 .1 .1 .0),
     )
 
 pair-returns-2 : (t : ℕ) → pair-lts.Need-returns-2 (read-row-reads.Asked, read-row-reads.Learnt, sided-below t, sided.Post, join-reads.Asked, join-reads.Learnt) (pair-at t) pair.Post
 pair-returns-2 t c =
-    let right = c .before .before .before .before .before .before .before in
+    let at-entry = c .before .before .before .before .before .before .before in
+    let right = at-entry in
     let one = right .before .before .before .before .before .before .before in
     let left = one .before .before .before .before .before .before .before in
     let read = left .before .before .before .before .before .before .before in
     let start = read .before .before .before .before .before in
-    right-full (pair-joins (start .pre .1) (read .read-row .result) (read .read-row .ensures) (start .args .left) (start .args .right) (start .args .or)) (left .sided .ensures) (ne-eqb _ 65535 (one .if1 .left))
+    right-full (pair-joins (start .pre .1) (read .read-row .result) (read .read-row .ensures) (start .args .left) (start .args .right) (start .args .or))
+    (left .sided .ensures) (ne-eqb _ 65535 (one .if1 .left))
     (right .sided2 .ensures) (eq-eqb _ 65535 (c .if2 .taken))
 
 pair-join-requires : (t : ℕ) → pair-lts.Need-join-requires (read-row-reads.Asked, read-row-reads.Learnt, sided-below t, sided.Post, join-reads.Asked, join-reads.Learnt) (pair-at t) pair.Post
@@ -233,7 +262,8 @@ pair-returns-3 t c =
     let x = left .sided .ensures in
     let y = right .sided2 .ensures in
     let e = ne-eqb _ 65535 (two .if2 .left) in
-    joined (pair-joins (start .pre .1) (read .read-row .result) (read .read-row .ensures) (start .args .left) (start .args .right) (start .args .or)) x (ne-eqb _ 65535 (one .if1 .left)) y e (end .join .ensures _ _ _ refl (y .builds .done e .ready))
+    joined (pair-joins (start .pre .1) (read .read-row .result) (read .read-row .ensures) (start .args .left) (start .args .right) (start .args .or)) x
+    (ne-eqb _ 65535 (one .if1 .left)) y e (end .join .ensures _ _ _ refl (y .builds .done e .ready))
 
 sided-returns : (t : ℕ) → sided-lts.Need-returns (negated-image-below t, negated-image.Post, image-below t, image.Post) (sided-at t) sided.Post
 sided-returns t c =
@@ -288,11 +318,13 @@ step-equivalent-requires t c κs =
 
 step-returns-3 : (t : ℕ) → step-lts.Need-returns-3 (read-row-reads.Asked, read-row-reads.Learnt, leaf-reads.Asked, leaf-reads.Learnt, sided-below t, sided.Post, equivalent-below t, equivalent.Post, pair-below t, pair.Post) (step-at t) step.Post
 step-returns-3 t c =
-    let made = c .before .before .before .before .before .before in
+    let at-entry = c .before .before .before .before .before .before in
+    let made = at-entry in
     let two = made .before .before .before .before .before .before in
     let read = two .before .before .before .before .before .before in
     let start = read .before .before .before .before .before in
-    images-as (of-equivalent (start .pre .1) (read .read-row .result) (read .read-row .ensures) (start .args .not) (two .if3 .taken)) (made .equivalent .ensures)
+    images-as (of-equivalent (start .pre .1) (read .read-row .result) (read .read-row .ensures) (start .args .not) (two .if3 .taken))
+    (made .equivalent .ensures)
 
 step-pair-requires : (t : ℕ) → step-lts.Need-pair-requires (read-row-reads.Asked, read-row-reads.Learnt, leaf-reads.Asked, leaf-reads.Learnt, sided-below t, sided.Post, equivalent-below t, equivalent.Post, pair-below t, pair.Post) (step-at t) step.Post
 step-pair-requires t c κs =
@@ -304,121 +336,43 @@ step-pair-requires t c κs =
 
 step-returns-4 : (t : ℕ) → step-lts.Need-returns-4 (read-row-reads.Asked, read-row-reads.Learnt, leaf-reads.Asked, leaf-reads.Learnt, sided-below t, sided.Post, equivalent-below t, equivalent.Post, pair-below t, pair.Post) (step-at t) step.Post
 step-returns-4 t c =
-    let made = c .before .before .before .before .before .before in
+    let at-entry = c .before .before .before .before .before .before in
+    let made = at-entry in
     let three = made .before .before .before .before .before .before .before .before in
     let two = three .before .before in
     let one = two .before .before in
     let read = one .before .before in
     let start = read .before .before .before .before .before in
-    images-as (of-pair (start .pre .1) (read .read-row .result) (read .read-row .ensures) (start .args .not) (omega (arith, two .if2 .left, one .if1 .left)) (three .if3 .left))
+    images-as
+    (of-pair (start .pre .1) (read .read-row .result) (read .read-row .ensures) (start .args .not) (omega (arith, two .if2 .left, one .if1 .left))
+    (three .if3 .left))
     (made .pair .ensures)
 
 pub +build+equivalent+image+negated-image+pair+sided+step-spec : {M : Type 1} → statement M
 +build+equivalent+image+negated-image+pair+sided+step-spec =
     close μ-build μ-equivalent μ-image μ-negated-image μ-pair μ-sided μ-step
     (λ t. build-lts.spec (step-below t, step.Post, word-of-reads.Asked, word-of-reads.Learnt) (build-at t) build.Post
-    (λ c κs. search needs)
-    (λ c. search needs)
-    (λ c. search needs)
-    (λ c. search needs)
-    (λ c. search needs)
-    (λ c κs. search needs)
-    (λ c. search needs)
-    (build-mul-scratch t)
-    (build-slice-write-scratch t)
-    (λ c. search needs)
-    (λ c. search needs)
-    (λ c. search needs)
-    (build-returns-2 t))
+    (λ c κs. search needs) (λ c. search needs) (λ c. search needs) (λ c. search needs) (λ c. search needs) (λ c κs. search needs) (λ c. search needs)
+    (build-mul-scratch t) (build-slice-write-scratch t) (λ c. search needs) (λ c. search needs) (λ c. search needs) (build-returns-2 t))
     (λ t. equivalent-lts.spec (pair-below t, pair.Post, join-reads.Asked, join-reads.Learnt) (equivalent-at t) equivalent.Post
-    (λ c κs. search needs)
-    (λ c. search needs)
-    (λ c. search needs)
-    (λ c. search needs)
-    (equivalent-returns t)
-    (equivalent-pair-requires-2 t)
-    (λ c. search needs)
-    (λ c. search needs)
-    (λ c. search needs)
-    (equivalent-returns-2 t)
-    (λ c. search needs)
-    (equivalent-join-requires t)
-    (λ c. search needs)
-    (λ c. search needs)
-    (λ c. search needs)
-    (equivalent-returns-3 t))
+    (λ c κs. search needs) (λ c. search needs) (λ c. search needs) (λ c. search needs) (equivalent-returns t) (equivalent-pair-requires-2 t)
+    (λ c. search needs) (λ c. search needs) (λ c. search needs) (equivalent-returns-2 t) (λ c. search needs) (equivalent-join-requires t)
+    (λ c. search needs) (λ c. search needs) (λ c. search needs) (equivalent-returns-3 t))
     (λ t. image-lts.spec (build-below t, build.Post) (image-at t) image.Post
-    (λ c. search needs)
-    (λ c. search needs)
-    (λ c. search needs)
-    (image-returns t)
-    (λ c κs. search needs)
-    (λ c. search needs)
-    (λ c. search needs)
-    (λ c. search needs)
-    (λ c. search needs))
+    (λ c. search needs) (λ c. search needs) (λ c. search needs) (image-returns t) (λ c κs. search needs) (λ c. search needs) (λ c. search needs)
+    (λ c. search needs) (λ c. search needs))
     (λ t. negated-image-lts.spec (build-below t, build.Post) (negated-image-at t) negated-image.Post
-    (λ c. search needs)
-    (λ c. search needs)
-    (λ c. search needs)
-    (λ c. search needs)
-    (λ c. search needs)
-    (negated-image-returns t)
-    (λ c κs. search needs)
-    (λ c. search needs)
-    (λ c. search needs)
-    (λ c. search needs)
-    (λ c. search needs))
+    (λ c. search needs) (λ c. search needs) (λ c. search needs) (λ c. search needs) (λ c. search needs) (negated-image-returns t)
+    (λ c κs. search needs) (λ c. search needs) (λ c. search needs) (λ c. search needs) (λ c. search needs))
     (λ t. pair-lts.spec (read-row-reads.Asked, read-row-reads.Learnt, sided-below t, sided.Post, join-reads.Asked, join-reads.Learnt) (pair-at t) pair.Post
-    (λ c κs. search needs)
-    (λ c. search needs)
-    (pair-sided-requires t)
-    (λ c. search needs)
-    (λ c. search needs)
-    (λ c. search needs)
-    (pair-returns t)
-    (λ c. search needs)
-    (pair-sided-requires-2 t)
-    (λ c. search needs)
-    (λ c. search needs)
-    (λ c. search needs)
-    (pair-returns-2 t)
-    (λ c. search needs)
-    (pair-join-requires t)
-    (λ c. search needs)
-    (λ c. search needs)
-    (λ c. search needs)
-    (pair-returns-3 t))
+    (λ c κs. search needs) (λ c. search needs) (pair-sided-requires t) (λ c. search needs) (λ c. search needs) (λ c. search needs) (pair-returns t)
+    (λ c. search needs) (pair-sided-requires-2 t) (λ c. search needs) (λ c. search needs) (λ c. search needs) (pair-returns-2 t) (λ c. search needs)
+    (pair-join-requires t) (λ c. search needs) (λ c. search needs) (λ c. search needs) (pair-returns-3 t))
     (λ t. sided-lts.spec (negated-image-below t, negated-image.Post, image-below t, image.Post) (sided-at t) sided.Post
-    (λ c κs. search needs)
-    (λ c. search needs)
-    (λ c. search needs)
-    (λ c. search needs)
-    (sided-returns t)
-    (λ c κs. search needs)
-    (λ c. search needs)
-    (λ c. search needs)
-    (λ c. search needs)
-    (sided-returns-2 t))
+    (λ c κs. search needs) (λ c. search needs) (λ c. search needs) (λ c. search needs) (sided-returns t) (λ c κs. search needs) (λ c. search needs)
+    (λ c. search needs) (λ c. search needs) (sided-returns-2 t))
     λ t. step-lts.spec (read-row-reads.Asked, read-row-reads.Learnt, leaf-reads.Asked, leaf-reads.Learnt, sided-below t, sided.Post, equivalent-below t, equivalent.Post, pair-below t, pair.Post) (step-at t) step.Post
-    (λ c κs. search needs)
-    (step-leaf-requires t)
-    (λ c. search needs)
-    (λ c. search needs)
-    (step-returns t)
-    (λ c. search needs)
-    (step-sided-requires t)
-    (λ c. search needs)
-    (λ c. search needs)
-    (λ c. search needs)
-    (step-returns-2 t)
-    (step-equivalent-requires t)
-    (λ c. search needs)
-    (λ c. search needs)
-    (λ c. search needs)
-    (step-returns-3 t)
-    (step-pair-requires t)
-    (λ c. search needs)
-    (λ c. search needs)
-    (λ c. search needs)
+    (λ c κs. search needs) (step-leaf-requires t) (λ c. search needs) (λ c. search needs) (step-returns t) (λ c. search needs) (step-sided-requires t)
+    (λ c. search needs) (λ c. search needs) (λ c. search needs) (step-returns-2 t) (step-equivalent-requires t) (λ c. search needs)
+    (λ c. search needs) (λ c. search needs) (step-returns-3 t) (step-pair-requires t) (λ c. search needs) (λ c. search needs) (λ c. search needs)
     (step-returns-4 t)

@@ -21,25 +21,14 @@ abbrev μ-loop : tie.MeasureT-loop
 loop-holds : tie.Need-loop-holds Inv-loop μ-loop
 loop-holds c = let a = c .before .before .args in bytes-begin (a .bytes .now) (a .count) (a .at) (a .out .now)
 
--- src/laying.rt:20:38
-shared-slice-read-put-byte : tie.Need-shared-slice-read-put-byte Inv-loop μ-loop
-shared-slice-read-put-byte c = omega arith
-
--- src/laying.rt:20:9
-put-byte-requires : tie.Need-put-byte-requires Inv-loop μ-loop
-put-byte-requires c κs = omega arith
-
--- src/laying.rt:21:9
-add-i : tie.Need-add-i Inv-loop μ-loop
-add-i c = omega arith
-
--- src/laying.rt:19:5
-loop-less : tie.Need-loop-less Inv-loop μ-loop
-loop-less c = omega arith
-
 -- src/laying.rt:19:5
 loop-again : tie.Need-loop-again Inv-loop μ-loop
-loop-again c = let a = c .before .before .before .before .before .before .before .before .before .args in bytes-more (a .bytes .now) (a .count) (a .at) (a .out .now) (c .before .before .before .before .before .before .loop .out) (c .before .before .before .before .before .before .loop .i) (c .before .before .before .before .before .before .loop .place) (c .before .before .before .before .before .before .loop .inv) (c .before .before .before .before .before .loop-test .taken) (c .before .before .before .before .before .before .before .before .before .pre .0) (c .before .before .put-byte .ensures)
+loop-again c =
+    let at-loop-test = c .before .before .before .before .before in
+    let at-loop = at-loop-test .before in
+    let at-args = at-loop .before .before .before in
+    let a = at-args .args in bytes-more (a .bytes .now) (a .count) (a .at) (a .out .now) (at-loop .loop .out) (at-loop .loop .i) (at-loop .loop .place)
+    (at-loop .loop .inv) (at-loop-test .loop-test .taken) (at-args .pre .0) (c .before .before .put-byte .ensures)
 
 -- src/laying.rt:13:1
 same-length : tie.Need-same-length Inv-loop μ-loop
@@ -47,7 +36,10 @@ same-length c = put-size (c .before .loop .inv .done)
 
 -- src/laying.rt:13:1
 returns : tie.Need-returns Inv-loop μ-loop
-returns c = let a = c .before .before .before .before .args in bytes-end (a .bytes .now) (a .count) (a .at) (a .out .now) (c .before .loop .out) (c .before .loop .i) (c .before .loop .place) (c .before .loop .inv) (c .loop-test .left)
+returns c =
+    let at-args = c .before .before .before .before in
+    let a = at-args .args in bytes-end (a .bytes .now) (a .count) (a .at) (a .out .now) (c .before .loop .out) (c .before .loop .i) (c .before .loop .place)
+    (c .before .loop .inv) (c .loop-test .left)
 
 pub put-bytes-spec : {M : Type 1} → statement M
 put-bytes-spec =
@@ -55,11 +47,4 @@ put-bytes-spec =
     (tie.spec
     Inv-loop
     μ-loop
-    loop-holds
-    shared-slice-read-put-byte
-    put-byte-requires
-    add-i
-    loop-less
-    loop-again
-    same-length
-    returns)
+    loop-holds (λ c. omega arith) (λ c κs. omega arith) (λ c. omega arith) (λ c. omega arith) loop-again same-length returns)

@@ -16,5 +16,4 @@ pub flag-spec : {M : Type 1} → statement M
 flag-spec =
     tie.close
     (tie.spec
-    returns
-    returns-2)
+    returns returns-2)

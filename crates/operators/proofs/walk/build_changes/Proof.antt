@@ -20,65 +20,145 @@ use Rattle.changes.proofs.Standing.{leaves-same, leaves-full}
 
 abbrev Inv-loop : tie.InvT-loop
 Inv-loop formulas effects notes₀ e frame table₀ originals₀ scratch₀ from records₀ n words rows₀ twins₀ k₀ v₀ notes table originals scratch records rows twins k v =
-    (length notes ≡ length notes₀) × (length table ≡ length table₀) × (length originals ≡ length originals₀) × (length scratch ≡ length scratch₀) × (length records ≡ length records₀) × Walking frame formulas effects e (record { rows = rows₀; twins = twins₀ }) (store table₀ originals₀) (store table originals) scratch from records₀ records (record { rows = rows; twins = twins }) k v × Noted frame formulas effects notes (held (record { rows = rows; twins = twins }) (store table originals))
+    (length notes ≡ length notes₀)
+    × (length table ≡ length table₀)
+    × (length originals ≡ length originals₀)
+    × (length scratch ≡ length scratch₀)
+    × (length records ≡ length records₀)
+    × Walking frame formulas effects e (record { rows = rows₀; twins = twins₀ }) (store table₀ originals₀) (store table originals) scratch from records₀ records (record { rows = rows; twins = twins }) k v
+    × Noted frame formulas effects notes (held (record { rows = rows; twins = twins }) (store table originals))
 
 abbrev μ-loop : tie.MeasureT-loop
 μ-loop formulas effects notes₀ e frame table₀ originals₀ scratch₀ from records₀ n words rows₀ twins₀ k₀ v₀ notes table originals scratch records rows twins k v =
     n - v
 
-words-of-requires : tie.Need-words-of-requires Inv-loop μ-loop
-words-of-requires c κs = search needs
-
 next-touched-requires : tie.Need-next-touched-requires Inv-loop μ-loop
-next-touched-requires c κs = looks-on (c .before .before .before .before .before .before .before .before .before .pre .0) (c .before .before .before .before .before .before .before .before .before .pre .0 .noted) (omega arith)
+next-touched-requires c κs =
+    let at-pre = c .before .before .before .before .before .before .before .before .before in
+    looks-on (at-pre .pre .0) (at-pre .pre .0 .noted) (omega arith)
 
 loop-holds : tie.Need-loop-holds Inv-loop μ-loop
-loop-holds c = (refl, refl, refl, refl, refl, walking-begins (c .before .before .before .before .before .before .before .before .before .before .pre .0) (c .next-touched .ensures), c .before .before .before .before .before .before .before .before .before .before .pre .0 .noted)
+loop-holds c =
+    let at-pre = c .before .before .before .before .before .before .before .before .before .before in
+    (refl, refl, refl, refl, refl, walking-begins (at-pre .pre .0) (c .next-touched .ensures), at-pre .pre .0 .noted)
 
 cast-variable : tie.Need-cast-variable Inv-loop μ-loop
-cast-variable c = omega (arith, c .loop-test .taken, c .before .before .before .before .before .before .before .before .before .before .before .before .pre .0 .stands .ready .variables)
+cast-variable c =
+    let at-pre = c .before .before .before .before .before .before .before .before .before .before .before .before in
+    omega (arith, c .loop-test .taken, at-pre .pre .0 .stands .ready .variables)
 
 lacks-requires : tie.Need-lacks-requires Inv-loop μ-loop
-lacks-requires c κs = (looks-at (looks-on {from = 0} (c .before .before .before .before .before .before .before .before .before .before .before .before .before .pre .0) (c .before .before .loop .inv .6) (omega arith)) (c .before .loop-test .taken), c .before .before .loop .inv .6 .sets .words)
+lacks-requires c κs =
+    let at-pre = c .before .before .before .before .before .before .before .before .before .before .before .before .before in (
+      looks-at (looks-on {from = 0} (at-pre .pre .0) (c .before .before .loop .inv .6) (omega arith)) (c .before .loop-test .taken),
+      c .before .before .loop .inv .6 .sets .words,
+    )
 
 lacks-requires-2 : tie.Need-lacks-requires-2 Inv-loop μ-loop
-lacks-requires-2 c κs = (looks-at (looks-on {from = 0} (c .before .before .before .before .before .before .before .before .before .before .before .before .before .before .before .pre .0) (c .before .before .before .before .loop .inv .6) (omega arith)) (c .before .before .before .loop-test .taken), c .before .before .before .before .loop .inv .6 .sets .words)
+lacks-requires-2 c κs =
+    let at-loop-test = c .before .before .before in
+    let at-loop = at-loop-test .before in
+    let at-pre = at-loop .before .before .before .before .before .before .before .before .before .before .before in
+    (looks-at (looks-on {from = 0} (at-pre .pre .0) (at-loop .loop .inv .6) (omega arith)) (at-loop-test .loop-test .taken), at-loop .loop .inv .6 .sets .words)
 
 change-of-requires : tie.Need-change-of-requires Inv-loop μ-loop
-change-of-requires c κs = change-asks (c .before .before .before .before .before .before .before .before .before .before .before .before .before .before .before .words-of .ensures) _ _ (walking-asks (c .before .before .before .before .before .before .before .before .before .before .before .before .before .before .before .before .before .before .before .before .before .before .before .pre .0) (c .before .before .before .before .before .before .before .before .before .before .before .before .loop .inv .5) (c .before .before .before .before .before .before .before .before .before .before .before .before .loop .inv .6) (c .before .before .before .before .before .before .before .before .before .before .before .before .loop .inv .3) (c .before .before .before .before .before .before .before .before .before .before .before .loop-test .taken) (c .before .before .before .before .before .before .before .before .before .lacks .ensures) (c .before .before .before .before .before .before .before .lacks2 .ensures))
+change-of-requires c κs =
+    let at-lacks2 = c .before .before .before .before .before .before .before in
+    let at-lacks = at-lacks2 .before .before in
+    let at-loop-test = at-lacks .before .before in
+    let at-loop = at-loop-test .before in
+    let at-words-of = at-loop .before .before .before in
+    let at-pre = at-words-of .before .before .before .before .before .before .before .before in
+    change-asks (at-words-of .words-of .ensures) _ _
+    (walking-asks (at-pre .pre .0) (at-loop .loop .inv .5) (at-loop .loop .inv .6) (at-loop .loop .inv .3) (at-loop-test .loop-test .taken)
+    (at-lacks .lacks .ensures) (at-lacks2 .lacks2 .ensures))
 
 same-length : tie.Need-same-length Inv-loop μ-loop
-same-length c = c .before .before .before .before .before .before .before .before .before .change-of .kept .1 .1 .0 ∙ c .before .before .before .before .before .before .before .before .before .before .before .before .before .before .before .before .before .before .before .before .before .before .loop .inv .0
+same-length c =
+    let at-change-of = c .before .before .before .before .before .before .before .before .before in
+    let at-loop = at-change-of .before .before .before .before .before .before .before .before .before .before .before .before .before in
+    at-change-of .change-of .kept .1 .1 .0 ∙ at-loop .loop .inv .0
 
 same-length-2 : tie.Need-same-length-2 Inv-loop μ-loop
-same-length-2 c = c .before .before .before .before .before .before .before .before .before .change-of .kept .1 .1 .1 .1 .1 .1 .1 .1 .1 .1 .0 ∙ c .before .before .before .before .before .before .before .before .before .before .before .before .before .before .before .before .before .before .before .before .before .before .loop .inv .1
+same-length-2 c =
+    let at-change-of = c .before .before .before .before .before .before .before .before .before in
+    let at-loop = at-change-of .before .before .before .before .before .before .before .before .before .before .before .before .before in
+    at-change-of .change-of .kept .1 .1 .1 .1 .1 .1 .1 .1 .1 .1 .0 ∙ at-loop .loop .inv .1
 
 same-length-3 : tie.Need-same-length-3 Inv-loop μ-loop
-same-length-3 c = c .before .before .before .before .before .before .before .before .before .change-of .kept .1 .1 .1 .1 .1 .1 .1 .1 .1 .1 .1 .0 ∙ c .before .before .before .before .before .before .before .before .before .before .before .before .before .before .before .before .before .before .before .before .before .before .loop .inv .2
+same-length-3 c =
+    let at-change-of = c .before .before .before .before .before .before .before .before .before in
+    let at-loop = at-change-of .before .before .before .before .before .before .before .before .before .before .before .before .before in
+    at-change-of .change-of .kept .1 .1 .1 .1 .1 .1 .1 .1 .1 .1 .1 .0 ∙ at-loop .loop .inv .2
 
 same-length-4 : tie.Need-same-length-4 Inv-loop μ-loop
-same-length-4 c = c .before .before .before .before .before .before .before .before .before .change-of .kept .1 .1 .1 .1 .1 .1 .1 .1 .1 .1 .1 .1 .0 ∙ c .before .before .before .before .before .before .before .before .before .before .before .before .before .before .before .before .before .before .before .before .before .before .loop .inv .3
+same-length-4 c =
+    let at-change-of = c .before .before .before .before .before .before .before .before .before in
+    let at-loop = at-change-of .before .before .before .before .before .before .before .before .before .before .before .before .before in
+    at-change-of .change-of .kept .1 .1 .1 .1 .1 .1 .1 .1 .1 .1 .1 .1 .0 ∙ at-loop .loop .inv .3
 
 same-length-5 : tie.Need-same-length-5 Inv-loop μ-loop
-same-length-5 c = c .before .before .before .before .before .before .before .before .before .before .before .before .before .before .before .before .before .before .before .before .before .before .loop .inv .4
+same-length-5 c =
+    let at-loop = c .before .before .before .before .before .before .before .before .before .before .before .before .before .before .before .before .before .before .before .before .before .before in
+    at-loop .loop .inv .4
 
 returns : tie.Need-returns Inv-loop μ-loop
-returns c = (walking-stops (c .before .before .before .before .before .before .before .before .before .before .before .before .before .before .before .before .before .before .before .before .before .before .before .before .before .before .before .before .before .before .before .before .before .pre .0) (c .before .before .before .before .before .before .before .before .before .before .before .before .before .before .before .before .before .before .before .before .before .before .loop .inv .5) (c .before .before .before .before .before .before .before .before .before .change-of .result) ((change-made (c .before .before .before .before .before .before .before .before .before .before .before .before .before .before .before .before .before .before .before .before .before .before .before .before .before .words-of .ensures) _ _ (c .before .before .before .before .before .before .before .before .before .change-of .ensures)) .0) (c .before .before .before .before .before .before .before .before .before .before .before .before .before .before .before .before .before .before .before .before .before .loop-test .taken) (c .if1 .taken) refl, leaves-full)
+returns c =
+    let at-change-of = c .before .before .before .before .before .before .before .before .before in
+    let at-loop-test = at-change-of .before .before .before .before .before .before .before .before .before .before .before .before in
+    let at-loop = at-loop-test .before in
+    let at-words-of = at-loop .before .before .before in
+    let at-pre = at-words-of .before .before .before .before .before .before .before .before in (
+      walking-stops (at-pre .pre .0) (at-loop .loop .inv .5) (at-change-of .change-of .result)
+          ((change-made (at-words-of .words-of .ensures) _ _ (at-change-of .change-of .ensures)) .0) (at-loop-test .loop-test .taken) (c .if1 .taken) refl,
+      leaves-full,
+    )
 
 keep-change-requires : tie.Need-keep-change-requires Inv-loop μ-loop
-keep-change-requires c κs = walking-keeps (c .before .before .before .before .before .before .before .before .before .before .before .before .before .before .before .before .before .before .before .before .before .before .before .before .before .before .before .before .before .before .before .before .before .before .pre .0) (c .before .before .before .before .before .before .before .before .before .before .before .before .before .before .before .before .before .before .before .before .before .before .before .loop .inv .5) (c .before .before .before .before .before .before .before .before .before .before .before .before .before .before .before .before .before .before .before .before .before .before .before .before .before .before .before .before .before .before .before .before .before .before .pre .1) (c .before .before .before .before .before .before .before .before .before .before .before .before .before .before .before .before .before .before .before .before .before .before .before .loop .inv .4)
+keep-change-requires c κs =
+    let at-loop = c .before .before .before .before .before .before .before .before .before .before .before .before .before .before .before .before .before .before .before .before .before .before .before in
+    let at-pre = at-loop .before .before .before .before .before .before .before .before .before .before .before in
+    walking-keeps (at-pre .pre .0) (at-loop .loop .inv .5) (at-pre .pre .1) (at-loop .loop .inv .4)
 
 add-next-touched : tie.Need-add-next-touched Inv-loop μ-loop
-add-next-touched c = omega (arith, c .before .before .before .before .before .before .before .before .before .before .before .before .before .before .before .before .before .before .before .before .before .before .before .before .before .before .loop-test .taken, c .before .before .before .before .before .before .before .before .before .before .before .before .before .before .before .before .before .before .before .before .before .before .before .before .before .before .before .before .before .before .before .before .before .before .before .before .before .before .pre .0 .stands .ready .variables)
+add-next-touched c =
+    let at-loop-test = c .before .before .before .before .before .before .before .before .before .before .before .before .before .before .before .before .before .before .before .before .before .before .before .before .before .before in
+    let at-pre = at-loop-test .before .before .before .before .before .before .before .before .before .before .before .before in
+    omega (arith, at-loop-test .loop-test .taken, at-pre .pre .0 .stands .ready .variables)
 
 next-touched-requires-2 : tie.Need-next-touched-requires-2 Inv-loop μ-loop
-next-touched-requires-2 c κs = looks-on (c .before .before .before .before .before .before .before .before .before .before .before .before .before .before .before .before .before .before .before .before .before .before .before .before .before .before .before .before .before .before .before .before .before .before .before .before .before .before .pre .0) ((change-made (c .before .before .before .before .before .before .before .before .before .before .before .before .before .before .before .before .before .before .before .before .before .before .before .before .before .before .before .before .before .before .words-of .ensures) _ _ (c .before .before .before .before .before .before .before .before .before .before .before .before .before .before .change-of .ensures)) .1 .noted (c .before .before .before .before .before .if1 .left)) (omega (arith, c .before .before .before .before .before .before .before .before .before .before .before .before .before .before .before .before .before .before .before .before .before .before .before .before .before .before .loop-test .taken))
+next-touched-requires-2 c κs =
+    let at-if1 = c .before .before .before .before .before in
+    let at-change-of = at-if1 .before .before .before .before .before .before .before .before .before in
+    let at-loop-test = at-change-of .before .before .before .before .before .before .before .before .before .before .before .before in
+    let at-words-of = at-loop-test .before .before .before .before in
+    let at-pre = at-words-of .before .before .before .before .before .before .before .before in
+    looks-on (at-pre .pre .0) ((change-made (at-words-of .words-of .ensures) _ _ (at-change-of .change-of .ensures)) .1 .noted (at-if1 .if1 .left))
+    (omega (arith, at-loop-test .loop-test .taken))
 
 loop-less : tie.Need-loop-less Inv-loop μ-loop
-loop-less c = omega (arith, c .before .before .before .before .before .before .before .before .before .before .before .before .before .before .before .before .before .before .before .before .before .before .before .before .before .before .before .loop-test .taken, c .next-touched2 .ensures .above)
+loop-less c =
+    let at-loop-test = c .before .before .before .before .before .before .before .before .before .before .before .before .before .before .before .before .before .before .before .before .before .before .before .before .before .before .before in
+    omega (arith, at-loop-test .loop-test .taken, c .next-touched2 .ensures .above)
 
 loop-again : tie.Need-loop-again Inv-loop μ-loop
-loop-again c = (c .before .before .before .before .before .before .before .before .before .before .before .before .before .before .before .change-of .kept .1 .1 .0 ∙ c .before .before .before .before .before .before .before .before .before .before .before .before .before .before .before .before .before .before .before .before .before .before .before .before .before .before .before .before .loop .inv .0, c .before .before .before .before .before .before .before .before .before .before .before .before .before .before .before .change-of .kept .1 .1 .1 .1 .1 .1 .1 .1 .1 .1 .0 ∙ c .before .before .before .before .before .before .before .before .before .before .before .before .before .before .before .before .before .before .before .before .before .before .before .before .before .before .before .before .loop .inv .1, c .before .before .before .before .before .before .before .before .before .before .before .before .before .before .before .change-of .kept .1 .1 .1 .1 .1 .1 .1 .1 .1 .1 .1 .0 ∙ c .before .before .before .before .before .before .before .before .before .before .before .before .before .before .before .before .before .before .before .before .before .before .before .before .before .before .before .before .loop .inv .2, c .before .before .before .before .before .before .before .before .before .before .before .before .before .before .before .change-of .kept .1 .1 .1 .1 .1 .1 .1 .1 .1 .1 .1 .1 .0 ∙ c .before .before .before .before .before .before .before .before .before .before .before .before .before .before .before .before .before .before .before .before .before .before .before .before .before .before .before .before .loop .inv .3, c .before .before .before .before .keep-change .kept .0 ∙ c .before .before .before .before .before .before .before .before .before .before .before .before .before .before .before .before .before .before .before .before .before .before .before .before .before .before .before .before .loop .inv .4, walking-more (c .before .before .before .before .before .before .before .before .before .before .before .before .before .before .before .before .before .before .before .before .before .before .before .before .before .before .before .before .before .before .before .before .before .before .before .before .before .before .before .pre .0) (c .before .before .before .before .before .before .before .before .before .before .before .before .before .before .before .before .before .before .before .before .before .before .before .before .before .before .before .before .loop .inv .5) (c .before .before .before .before .before .before .before .before .before .before .before .before .before .before .before .change-of .result) ((change-made (c .before .before .before .before .before .before .before .before .before .before .before .before .before .before .before .before .before .before .before .before .before .before .before .before .before .before .before .before .before .before .before .words-of .ensures) _ _ (c .before .before .before .before .before .before .before .before .before .before .before .before .before .before .before .change-of .ensures)) .0) (c .before .before .before .before .before .before .if1 .left) (c .before .before .before .before .keep-change .ensures) ((change-made (c .before .before .before .before .before .before .before .before .before .before .before .before .before .before .before .before .before .before .before .before .before .before .before .before .before .before .before .before .before .before .before .words-of .ensures) _ _ (c .before .before .before .before .before .before .before .before .before .before .before .before .before .before .before .change-of .ensures)) .1 .noted (c .before .before .before .before .before .before .if1 .left)) (c .next-touched2 .ensures), (change-made (c .before .before .before .before .before .before .before .before .before .before .before .before .before .before .before .before .before .before .before .before .before .before .before .before .before .before .before .before .before .before .before .words-of .ensures) _ _ (c .before .before .before .before .before .before .before .before .before .before .before .before .before .before .before .change-of .ensures)) .1 .noted (c .before .before .before .before .before .before .if1 .left))
+loop-again c =
+    let at-keep-change = c .before .before .before .before in
+    let at-if1 = at-keep-change .before .before in
+    let at-change-of = at-if1 .before .before .before .before .before .before .before .before .before in
+    let at-loop = at-change-of .before .before .before .before .before .before .before .before .before .before .before .before .before in
+    let at-words-of = at-loop .before .before .before in
+    let at-pre = at-words-of .before .before .before .before .before .before .before .before in (
+      at-change-of .change-of .kept .1 .1 .0 ∙ at-loop .loop .inv .0,
+      at-change-of .change-of .kept .1 .1 .1 .1 .1 .1 .1 .1 .1 .1 .0 ∙ at-loop .loop .inv .1,
+      at-change-of .change-of .kept .1 .1 .1 .1 .1 .1 .1 .1 .1 .1 .1 .0 ∙ at-loop .loop .inv .2,
+      at-change-of .change-of .kept .1 .1 .1 .1 .1 .1 .1 .1 .1 .1 .1 .1 .0 ∙ at-loop .loop .inv .3,
+      at-keep-change .keep-change .kept .0 ∙ at-loop .loop .inv .4,
+      walking-more (at-pre .pre .0) (at-loop .loop .inv .5) (at-change-of .change-of .result)
+          ((change-made (at-words-of .words-of .ensures) _ _ (at-change-of .change-of .ensures)) .0) (at-if1 .if1 .left) (at-keep-change .keep-change .ensures)
+          ((change-made (at-words-of .words-of .ensures) _ _ (at-change-of .change-of .ensures)) .1 .noted (at-if1 .if1 .left)) (c .next-touched2 .ensures),
+      (change-made (at-words-of .words-of .ensures) _ _ (at-change-of .change-of .ensures)) .1 .noted (at-if1 .if1 .left),
+    )
 
 same-length-6 : tie.Need-same-length-6 Inv-loop μ-loop
 same-length-6 c = c .before .loop .inv .0
@@ -96,7 +176,9 @@ same-length-10 : tie.Need-same-length-10 Inv-loop μ-loop
 same-length-10 c = c .before .loop .inv .4
 
 returns-2 : tie.Need-returns-2 Inv-loop μ-loop
-returns-2 c = (walking-ends (c .before .before .before .before .before .before .before .before .before .before .before .before .pre .0) (c .before .loop .inv .5) (omega (arith, c .loop-test .left)) refl, leaves-same (c .before .loop .inv .6))
+returns-2 c =
+    let at-pre = c .before .before .before .before .before .before .before .before .before .before .before .before in
+    (walking-ends (at-pre .pre .0) (c .before .loop .inv .5) (omega (arith, c .loop-test .left)) refl, leaves-same (c .before .loop .inv .6))
 
 pub build-changes-spec : {M : Type 1} → statement M
 build-changes-spec =
@@ -104,27 +186,6 @@ build-changes-spec =
     (tie.spec
     Inv-loop
     μ-loop
-    words-of-requires
-    next-touched-requires
-    loop-holds
-    cast-variable
-    lacks-requires
-    lacks-requires-2
-    change-of-requires
-    same-length
-    same-length-2
-    same-length-3
-    same-length-4
-    same-length-5
-    returns
-    keep-change-requires
-    add-next-touched
-    next-touched-requires-2
-    loop-less
-    loop-again
-    same-length-6
-    same-length-7
-    same-length-8
-    same-length-9
-    same-length-10
-    returns-2)
+    (λ c κs. search needs) next-touched-requires loop-holds cast-variable lacks-requires lacks-requires-2 change-of-requires same-length same-length-2
+    same-length-3 same-length-4 same-length-5 returns keep-change-requires add-next-touched next-touched-requires-2 loop-less loop-again same-length-6
+    same-length-7 same-length-8 same-length-9 same-length-10 returns-2)

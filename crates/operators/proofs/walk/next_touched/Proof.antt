@@ -42,10 +42,4 @@ next-touched-spec =
     (tie.spec
     Inv-loop
     μ-loop
-    loop-holds
-    passed-at-requires
-    returns
-    add-v
-    loop-less
-    loop-again
-    returns-2)
+    loop-holds passed-at-requires returns add-v loop-less loop-again returns-2)

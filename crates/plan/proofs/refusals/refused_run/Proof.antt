@@ -4,9 +4,6 @@ use Rattle.plan.proofs.refusals.refused_run.Statement.{statement}
 use Rattle.plan.proofs.refusals.refused_run.Tie as tie
 use Rattle.plan.proofs.Refusing.{run-refused-early, run-refused-long, run-not-refused}
 
-refused-early-requires : tie.Need-refused-early-requires
-refused-early-requires c κs = search needs
-
 returns : tie.Need-returns
 returns c = run-refused-early _ _ _ _ _ (c .before .refused-early .ensures) (c .if1 .taken)
 
@@ -17,4 +14,4 @@ returns-3 : tie.Need-returns-3
 returns-3 c = run-not-refused _ _ _ _ _ (c .before .before .refused-early .ensures) (c .before .if1 .left) (c .if2 .left)
 
 pub refused-run-spec : {M : Type 1} → statement M
-refused-run-spec = tie.close (tie.spec refused-early-requires returns returns-2 returns-3)
+refused-run-spec = tie.close (tie.spec (λ c κs. search needs) returns returns-2 returns-3)

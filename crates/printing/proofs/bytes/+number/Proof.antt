@@ -23,22 +23,6 @@ number-at t = and 1 number-kinds.ps (is 1 number-kinds.ps μ-number t) number.Pr
 abbrev number-below : ℕ → In 1 number-kinds.ps
 number-below t = and 1 number-kinds.ps (falls 1 number-kinds.ps _<_ μ-number t) number.Pre
 
-number-cast-put : (t : ℕ) → number-lts.Need-cast-put (
-  put-reads.Asked,
-  put-reads.Learnt,
-  number-below t,
-  number.Post,
-) (number-at t) number.Post
-number-cast-put t c = search needs
-
-number-add-put : (t : ℕ) → number-lts.Need-add-put (
-  put-reads.Asked,
-  put-reads.Learnt,
-  number-below t,
-  number.Post,
-) (number-at t) number.Post
-number-add-put t c = search needs
-
 number-put-requires : (t : ℕ) → number-lts.Need-put-requires (
   put-reads.Asked,
   put-reads.Learnt,
@@ -47,21 +31,16 @@ number-put-requires : (t : ℕ) → number-lts.Need-put-requires (
 ) (number-at t) number.Post
 number-put-requires t c κs = omega (arith, c .before .before .before .pre)
 
-number-same-length : (t : ℕ) → number-lts.Need-same-length (
-  put-reads.Asked,
-  put-reads.Learnt,
-  number-below t,
-  number.Post,
-) (number-at t) number.Post
-number-same-length t c = search needs
-
 number-returns : (t : ℕ) → number-lts.Need-returns (
   put-reads.Asked,
   put-reads.Learnt,
   number-below t,
   number.Post,
 ) (number-at t) number.Post
-number-returns t c = put-as (c .before .before .put .ensures) (sym (decimal-digit (c .before .before .before .before .before .before .args .n) (c .before .before .before .before .if1 .taken))) (omega arith)
+number-returns t c =
+    let at-if1 = c .before .before .before .before in
+    let at-args = at-if1 .before .before in
+    put-as (c .before .before .put .ensures) (sym (decimal-digit (at-args .args .n) (at-if1 .if1 .taken))) (omega arith)
 
 number-number-requires : (t : ℕ) → number-lts.Need-number-requires (
   put-reads.Asked,
@@ -71,37 +50,16 @@ number-number-requires : (t : ℕ) → number-lts.Need-number-requires (
 ) (number-at t) number.Post
 number-number-requires t c κs = (omega (arith, c .before .before .before .pre .0, c .before .if1 .left), omega (arith, c .before .before .before .pre .1))
 
-number-cast-put-2 : (t : ℕ) → number-lts.Need-cast-put-2 (
-  put-reads.Asked,
-  put-reads.Learnt,
-  number-below t,
-  number.Post,
-) (number-at t) number.Post
-number-cast-put-2 t c = omega arith
-
-number-add-put-2 : (t : ℕ) → number-lts.Need-add-put-2 (
-  put-reads.Asked,
-  put-reads.Learnt,
-  number-below t,
-  number.Post,
-) (number-at t) number.Post
-number-add-put-2 t c = omega arith
-
 number-put-requires-2 : (t : ℕ) → number-lts.Need-put-requires-2 (
   put-reads.Asked,
   put-reads.Learnt,
   number-below t,
   number.Post,
 ) (number-at t) number.Post
-number-put-requires-2 t c κs = omega (arith, c .before .before .before .before .before .before .before .pre .1, c .before .before .before .number .ensures .counted, c .before .before .before .number .ensures .short)
-
-number-same-length-2 : (t : ℕ) → number-lts.Need-same-length-2 (
-  put-reads.Asked,
-  put-reads.Learnt,
-  number-below t,
-  number.Post,
-) (number-at t) number.Post
-number-same-length-2 t c = search needs
+number-put-requires-2 t c κs =
+    let at-number = c .before .before .before in
+    let at-pre = at-number .before .before .before .before in
+    omega (arith, at-pre .pre .1, at-number .number .ensures .counted, at-number .number .ensures .short)
 
 number-returns-2 : (t : ℕ) → number-lts.Need-returns-2 (
   put-reads.Asked,
@@ -109,7 +67,12 @@ number-returns-2 : (t : ℕ) → number-lts.Need-returns-2 (
   number-below t,
   number.Post,
 ) (number-at t) number.Post
-number-returns-2 t c = put-short (then-put (c .before .before .before .before .before .before .number .ensures) (c .before .before .put2 .ensures)) (sym (decimal-more (c .before .before .before .before .before .before .before .before .before .before .args .n) (c .before .before .before .before .before .before .before .before .if1 .left))) (decimal-short 4 (c .before .before .before .before .before .before .before .before .before .before .args .n) (omega (arith, c .before .before .before .before .before .before .before .before .before .before .fits .n)))
+number-returns-2 t c =
+    let at-number = c .before .before .before .before .before .before in
+    let at-if1 = at-number .before .before in
+    let at-args = at-if1 .before .before in
+    put-short (then-put (at-number .number .ensures) (c .before .before .put2 .ensures)) (sym (decimal-more (at-args .args .n) (at-if1 .if1 .left)))
+    (decimal-short 4 (at-args .args .n) (omega (arith, at-args .fits .n)))
 
 pub +number-spec : {M : Type 1} → statement M
 +number-spec = close μ-number λ t. number-lts.spec (
@@ -120,14 +83,5 @@ pub +number-spec : {M : Type 1} → statement M
 )
     (number-at t)
     number.Post
-    (number-cast-put t)
-    (number-add-put t)
-    (number-put-requires t)
-    (number-same-length t)
-    (number-returns t)
-    (number-number-requires t)
-    (number-cast-put-2 t)
-    (number-add-put-2 t)
-    (number-put-requires-2 t)
-    (number-same-length-2 t)
-    (number-returns-2 t)
+    (λ c. search needs) (λ c. search needs) (number-put-requires t) (λ c. search needs) (number-returns t) (number-number-requires t)
+    (λ c. omega arith) (λ c. omega arith) (number-put-requires-2 t) (λ c. search needs) (number-returns-2 t)

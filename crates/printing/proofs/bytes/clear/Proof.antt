@@ -18,25 +18,31 @@ abbrev μ-loop : tie.MeasureT-loop
 loop-holds : tie.Need-loop-holds Inv-loop μ-loop
 loop-holds c = (omega arith, fill-none (c .args .out .now) 0)
 
-slice-write-out : tie.Need-slice-write-out Inv-loop μ-loop
-slice-write-out c = omega arith
-
 add-i : tie.Need-add-i Inv-loop μ-loop
-add-i c = omega (arith, c .before .before .good, zeros-length (c .before .loop .i) (c .before .before .args .out .now) (c .before .loop .inv .0), ap length (c .before .loop .inv .1))
+add-i c =
+    omega (
+      arith,
+      c .before .before .good,
+      zeros-length (c .before .loop .i) (c .before .before .args .out .now) (c .before .loop .inv .0),
+      ap length (c .before .loop .inv .1),
+    )
 
 loop-less : tie.Need-loop-less Inv-loop μ-loop
-loop-less c = omega (arith, zeros-length (c .before .loop .i) (c .before .before .args .out .now) (c .before .loop .inv .0), ap length (c .before .loop .inv .1))
+loop-less c =
+    omega (arith, zeros-length (c .before .loop .i) (c .before .before .args .out .now) (c .before .loop .inv .0), ap length (c .before .loop .inv .1))
 
 loop-again : tie.Need-loop-again Inv-loop μ-loop
 loop-again c =
-    zeros-more (c .before .loop .i) (c .before .before .args .out .now) (c .before .loop .out) (c .before .loop .inv .0) (c .before .loop .inv .1) (c .loop-test .taken)
+    zeros-more (c .before .loop .i) (c .before .before .args .out .now) (c .before .loop .out) (c .before .loop .inv .0) (c .before .loop .inv .1)
+    (c .loop-test .taken)
 
 same-length : tie.Need-same-length Inv-loop μ-loop
 same-length c = ap length (c .before .loop .inv .1) ∙ zeros-length (c .before .loop .i) (c .before .before .args .out .now) (c .before .loop .inv .0)
 
 returns : tie.Need-returns Inv-loop μ-loop
 returns c =
-    zeros-end (c .before .loop .i) (c .before .before .args .out .now) (c .before .loop .out) (c .before .loop .inv .0) (c .before .loop .inv .1) (c .loop-test .left)
+    zeros-end (c .before .loop .i) (c .before .before .args .out .now) (c .before .loop .out) (c .before .loop .inv .0) (c .before .loop .inv .1)
+    (c .loop-test .left)
 
 pub clear-spec : {M : Type 1} → statement M
 clear-spec =
@@ -44,10 +50,4 @@ clear-spec =
     (tie.spec
     Inv-loop
     μ-loop
-    loop-holds
-    slice-write-out
-    add-i
-    loop-less
-    loop-again
-    same-length
-    returns)
+    loop-holds (λ c. omega arith) add-i loop-less loop-again same-length returns)

@@ -10,10 +10,10 @@ put-requires : tie.Need-put-requires
 put-requires c κs = omega (arith, c .before .before .pre)
 
 number-requires : tie.Need-number-requires
-number-requires c κs = omega (arith, c .before .before .before .before .before .before .pre, c .before .before .before .put .ensures .counted, c .before .before .before .put .ensures .short)
-
-same-length : tie.Need-same-length
-same-length c = search needs
+number-requires c κs =
+    let at-put = c .before .before .before in
+    let at-pre = at-put .before .before .before in
+    omega (arith, at-pre .pre, at-put .put .ensures .counted, at-put .put .ensures .short)
 
 returns : tie.Need-returns
 unfolding word
@@ -23,7 +23,4 @@ pub word-spec : {M : Type 1} → statement M
 word-spec =
     tie.close
     (tie.spec
-    put-requires
-    number-requires
-    same-length
-    returns)
+    put-requires number-requires (λ c. search needs) returns)

@@ -9,28 +9,17 @@ use Rattle.printing.proofs.Puts.{put-on}
 use Rattle.printing.proofs.calls.print_refusal.Statement.{statement}
 use Rattle.printing.proofs.calls.print_refusal.Tie as tie
 
-clear-requires : tie.Need-clear-requires
-clear-requires c κs = search needs
-
-line-of-one-requires : tie.Need-line-of-one-requires
-line-of-one-requires c κs = omega arith
-
-settled-requires : tie.Need-settled-requires
-settled-requires c κs = search needs
-
-same-length : tie.Need-same-length
-same-length c = search needs
-
 returns : tie.Need-returns
 unfolding printing-refusal refusal-line
-returns c = c .before .before .settled .ensures (line 114 ((c .before .before .before .before .before .before .before .before .before .before .before .before .before .args .number) ∷ [])) (length (c .before .before .before .before .before .before .before .before .before .before .before .before .before .args .out .now)) 8 (put-on (c .before .before .before .before .before .before .before .before .before .before .clear .ensures) (c .before .before .before .before .before .before .line-of-one .ensures))
+returns c =
+    let at-line-of-one = c .before .before .before .before .before .before in
+    let at-clear = at-line-of-one .before .before .before .before in
+    let at-args = at-clear .before .before .before in
+    c .before .before .settled .ensures (line 114 ((at-args .args .number) ∷ [])) (length (at-args .args .out .now)) 8
+    (put-on (at-clear .clear .ensures) (at-line-of-one .line-of-one .ensures))
 
 pub print-refusal-spec : {M : Type 1} → statement M
 print-refusal-spec =
     tie.close
     (tie.spec
-    clear-requires
-    line-of-one-requires
-    settled-requires
-    same-length
-    returns)
+    (λ c κs. search needs) (λ c κs. omega arith) (λ c κs. search needs) (λ c. search needs) returns)

@@ -5,12 +5,6 @@ use Rattle.printing.proofs.Settled.{settled-whole, settled-over}
 use Rattle.printing.proofs.calls.settled.Statement.{statement}
 use Rattle.printing.proofs.calls.settled.Tie as tie
 
-clear-requires : tie.Need-clear-requires
-clear-requires c κs = search needs
-
-same-length : tie.Need-same-length
-same-length c = search needs
-
 returns : tie.Need-returns
 returns c = λ text n most p. settled-over text n p (c .before .before .before .before .if1 .taken) (c .before .before .clear .ensures)
 
@@ -21,7 +15,4 @@ pub settled-spec : {M : Type 1} → statement M
 settled-spec =
     tie.close
     (tie.spec
-    clear-requires
-    same-length
-    returns
-    returns-2)
+    (λ c κs. search needs) (λ c. search needs) returns returns-2)

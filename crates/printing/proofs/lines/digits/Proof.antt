@@ -23,27 +23,40 @@ shared-slice-read-put : tie.Need-shared-slice-read-put Inv-loop μ-loop
 shared-slice-read-put c = omega (arith, c .before .before .before .before .before .before .pre .long)
 
 add-put : tie.Need-add-put Inv-loop μ-loop
-add-put c = omega (arith, c .before .before .before .before .before .before .pre .bits (c .before .before .before .loop .v) (c .before .before .loop-test .taken))
+add-put c =
+    let at-loop = c .before .before .before in
+    let at-pre = at-loop .before .before .before in
+    omega (arith, at-pre .pre .bits (at-loop .loop .v) (c .before .before .loop-test .taken))
 
 put-requires : tie.Need-put-requires Inv-loop μ-loop
-put-requires c κs = omega (arith, c .before .before .before .loop .inv .1 .counted, c .before .before .before .loop .inv .1 .short, c .before .before .before .before .before .before .pre .room)
+put-requires c κs =
+    let at-loop = c .before .before .before in
+    let at-pre = at-loop .before .before .before in
+    omega (arith, at-loop .loop .inv .1 .counted, at-loop .loop .inv .1 .short, at-pre .pre .room)
 
 add-v : tie.Need-add-v Inv-loop μ-loop
-add-v c = omega (arith, c .before .before .before .before .before .loop-test .taken, c .before .before .before .before .before .before .before .before .before .fits .count)
-
-loop-less : tie.Need-loop-less Inv-loop μ-loop
-loop-less c = omega arith
+add-v c =
+    let at-loop-test = c .before .before .before .before .before in
+    let at-fits = at-loop-test .before .before .before .before in
+    omega (arith, at-loop-test .loop-test .taken, at-fits .fits .count)
 
 loop-again : tie.Need-loop-again Inv-loop μ-loop
 loop-again c =
-    (omega (arith, c .before .before .before .before .before .loop-test .taken), put-as (then-put (c .before .before .before .before .before .before .loop .inv .1) (c .before .before .put .ensures)) (digits-more (c .before .before .before .before .before .before .before .before .before .args .initial .now) (c .before .before .before .before .before .before .loop .v) (omega (arith, c .before .before .before .before .before .loop-test .taken, c .before .before .before .before .before .before .before .before .before .pre .long))) (omega arith))
+    let at-loop-test = c .before .before .before .before .before in
+    let at-loop = at-loop-test .before in
+    let at-args = at-loop .before .before .before in (
+      omega (arith, at-loop-test .loop-test .taken),
+      put-as (then-put (at-loop .loop .inv .1) (c .before .before .put .ensures))
+          (digits-more (at-args .args .initial .now) (at-loop .loop .v) (omega (arith, at-loop-test .loop-test .taken, at-args .pre .long))) (omega arith),
+    )
 
 same-length : tie.Need-same-length Inv-loop μ-loop
 same-length c = put-length (c .before .loop .inv .1)
 
 returns : tie.Need-returns Inv-loop μ-loop
 returns c =
-    put-ends (λ n. map digit (take n (c .before .before .before .before .args .initial .now))) (λ n. n) (c .before .loop .inv .1) (c .before .loop .inv .0) (c .loop-test .left)
+    let at-args = c .before .before .before .before in
+    put-ends (λ n. map digit (take n (at-args .args .initial .now))) (λ n. n) (c .before .loop .inv .1) (c .before .loop .inv .0) (c .loop-test .left)
 
 pub digits-spec : {M : Type 1} → statement M
 digits-spec =
@@ -51,12 +64,4 @@ digits-spec =
     (tie.spec
     Inv-loop
     μ-loop
-    loop-holds
-    shared-slice-read-put
-    add-put
-    put-requires
-    add-v
-    loop-less
-    loop-again
-    same-length
-    returns)
+    loop-holds shared-slice-read-put add-put put-requires add-v (λ c. omega arith) loop-again same-length returns)

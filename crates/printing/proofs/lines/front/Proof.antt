@@ -6,39 +6,52 @@ use Rattle.printing.proofs.Texts.{front-joined}
 use Rattle.printing.proofs.lines.front.Statement.{statement}
 use Rattle.printing.proofs.lines.front.Tie as tie
 
-head-line-requires : tie.Need-head-line-requires
-head-line-requires c κs = omega arith
-
-cast-state-line : tie.Need-cast-state-line
-cast-state-line c = search needs
-
 state-line-requires : tie.Need-state-line-requires
-state-line-requires c κs = record { room = omega (arith, c .before .before .before .before .head-line .ensures .counted, c .before .before .before .before .head-line .ensures .short, c .before .before .before .before .before .before .before .before .before .pre .variables); long = c .before .before .before .before .before .before .before .before .before .pre .initial-long; bits = c .before .before .before .before .before .before .before .before .before .pre .bits }
+state-line-requires c κs =
+    let at-head-line = c .before .before .before .before in
+    let at-pre = at-head-line .before .before .before .before .before in
+    record {
+      room = omega (arith, at-head-line .head-line .ensures .counted, at-head-line .head-line .ensures .short, at-pre .pre .variables);
+      long = at-pre .pre .initial-long;
+      bits = at-pre .pre .bits;
+    }
 
 sub-twin-lines : tie.Need-sub-twin-lines
-sub-twin-lines c = omega (arith, c .before .before .before .before .before .before .before .before .before .before .before .before .before .before .pre .twin-count)
-
-cast-twin-lines : tie.Need-cast-twin-lines
-cast-twin-lines c = search needs
+sub-twin-lines c =
+    let at-pre = c .before .before .before .before .before .before .before .before .before .before .before .before .before .before in
+    omega (arith, at-pre .pre .twin-count)
 
 twin-lines-requires : tie.Need-twin-lines-requires
-twin-lines-requires c κs = record { room = omega (arith, c .before .before .before .before .before .before .before .before .before .before .head-line .ensures .counted, c .before .before .before .before .before .before .before .before .before .before .head-line .ensures .short, c .before .before .before .before .before .state-line .ensures .counted, c .before .before .before .before .before .state-line .ensures .short, c .before .before .before .before .before .before .before .before .before .before .before .before .before .before .before .pre .variables, c .before .before .before .before .before .before .before .before .before .before .before .before .before .before .before .pre .twin-count); long = c .before .before .before .before .before .before .before .before .before .before .before .before .before .before .before .pre .twins-long; below = omega (arith, c .before .before .before .before .before .before .before .before .before .before .before .before .before .before .before .pre .variables, c .before .before .before .before .before .before .before .before .before .before .before .before .before .before .before .pre .twin-count) }
-
-same-length : tie.Need-same-length
-same-length c = search needs
+twin-lines-requires c κs =
+    let at-state-line = c .before .before .before .before .before in
+    let at-head-line = at-state-line .before .before .before .before .before in
+    let at-pre = at-head-line .before .before .before .before .before in
+    record {
+      room =
+          omega (
+            arith,
+            at-head-line .head-line .ensures .counted,
+            at-head-line .head-line .ensures .short,
+            at-state-line .state-line .ensures .counted,
+            at-state-line .state-line .ensures .short,
+            at-pre .pre .variables,
+            at-pre .pre .twin-count,
+          );
+      long = at-pre .pre .twins-long;
+      below = omega (arith, at-pre .pre .variables, at-pre .pre .twin-count);
+    }
 
 returns : tie.Need-returns
-returns c = put-as (then-put (then-put (c .before .before .before .before .before .before .before .before .before .before .before .before .before .head-line .ensures) (c .before .before .before .before .before .before .before .before .state-line .ensures)) (c .before .before .twin-lines .ensures)) (front-joined (c .before .before .before .before .before .before .before .before .before .before .before .before .before .before .before .before .before .before .args .head) (c .before .before .before .before .before .before .before .before .before .before .before .before .before .before .before .before .before .before .args .initial .now) (c .before .before .before .before .before .before .before .before .before .before .before .before .before .before .before .before .before .before .args .twins .now)) (omega (arith, c .before .before .before .before .before .before .before .before .before .before .before .before .before .before .before .before .before .before .pre .variables, c .before .before .before .before .before .before .before .before .before .before .before .before .before .before .before .before .before .before .pre .twin-count))
+returns c =
+    let at-state-line = c .before .before .before .before .before .before .before .before in
+    let at-head-line = at-state-line .before .before .before .before .before in
+    let at-args = at-head-line .before .before .before .before .before in
+    put-as (then-put (then-put (at-head-line .head-line .ensures) (at-state-line .state-line .ensures)) (c .before .before .twin-lines .ensures))
+    (front-joined (at-args .args .head) (at-args .args .initial .now) (at-args .args .twins .now))
+    (omega (arith, at-args .pre .variables, at-args .pre .twin-count))
 
 pub front-spec : {M : Type 1} → statement M
 front-spec =
     tie.close
     (tie.spec
-    head-line-requires
-    cast-state-line
-    state-line-requires
-    sub-twin-lines
-    cast-twin-lines
-    twin-lines-requires
-    same-length
-    returns)
+    (λ c κs. omega arith) (λ c. search needs) state-line-requires sub-twin-lines (λ c. search needs) twin-lines-requires (λ c. search needs) returns)

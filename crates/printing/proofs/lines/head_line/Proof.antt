@@ -11,23 +11,29 @@ put-requires : tie.Need-put-requires
 put-requires c κs = omega (arith, c .before .before .pre)
 
 counts-requires : tie.Need-counts-requires
-counts-requires c κs = omega (arith, c .before .before .before .before .before .before .pre, c .before .before .before .put .ensures .counted, c .before .before .before .put .ensures .short)
+counts-requires c κs =
+    let at-put = c .before .before .before in
+    let at-pre = at-put .before .before .before in
+    omega (arith, at-pre .pre, at-put .put .ensures .counted, at-put .put .ensures .short)
 
 put-requires-2 : tie.Need-put-requires-2
-put-requires-2 c κs = omega (arith, c .before .before .before .before .before .before .before .before .before .before .pre, c .before .before .before .before .before .before .before .put .ensures .counted, c .before .before .before .before .before .before .before .put .ensures .short, c .before .before .before .counts .ensures .counted, c .before .before .before .counts .ensures .short)
-
-same-length : tie.Need-same-length
-same-length c = search needs
+put-requires-2 c κs =
+    let at-counts = c .before .before .before in
+    let at-put = at-counts .before .before .before .before in
+    let at-pre = at-put .before .before .before in
+    omega
+    (arith, at-pre .pre, at-put .put .ensures .counted, at-put .put .ensures .short, at-counts .counts .ensures .counted, at-counts .counts .ensures .short)
 
 returns : tie.Need-returns
-returns c = put-as (then-put (then-put (c .before .before .before .before .before .before .before .before .before .before .put .ensures) (c .before .before .before .before .before .before .counts .ensures)) (c .before .before .put2 .ensures)) (line-counts 116 (counts-of (c .before .before .before .before .before .before .before .before .before .before .before .before .before .args .head))) (omega arith)
+returns c =
+    let at-counts = c .before .before .before .before .before .before in
+    let at-put = at-counts .before .before .before .before in
+    let at-args = at-put .before .before .before in
+    put-as (then-put (then-put (at-put .put .ensures) (at-counts .counts .ensures)) (c .before .before .put2 .ensures))
+    (line-counts 116 (counts-of (at-args .args .head))) (omega arith)
 
 pub head-line-spec : {M : Type 1} → statement M
 head-line-spec =
     tie.close
     (tie.spec
-    put-requires
-    counts-requires
-    put-requires-2
-    same-length
-    returns)
+    put-requires counts-requires put-requires-2 (λ c. search needs) returns)

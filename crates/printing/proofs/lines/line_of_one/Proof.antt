@@ -10,19 +10,19 @@ opening-requires : tie.Need-opening-requires
 opening-requires c κs = omega (arith, c .before .before .pre)
 
 put-requires : tie.Need-put-requires
-put-requires c κs = omega (arith, c .before .before .before .before .before .before .pre, c .before .before .before .opening .ensures .counted, c .before .before .before .opening .ensures .short)
-
-same-length : tie.Need-same-length
-same-length c = search needs
+put-requires c κs =
+    let at-opening = c .before .before .before in
+    let at-pre = at-opening .before .before .before in
+    omega (arith, at-pre .pre, at-opening .opening .ensures .counted, at-opening .opening .ensures .short)
 
 returns : tie.Need-returns
-returns c = put-as (then-put (c .before .before .before .before .before .before .opening .ensures) (c .before .before .put .ensures)) (line-one (c .before .before .before .before .before .before .before .before .before .args .letter) (c .before .before .before .before .before .before .before .before .before .args .n)) (omega arith)
+returns c =
+    let at-opening = c .before .before .before .before .before .before in
+    let at-args = at-opening .before .before .before in
+    put-as (then-put (at-opening .opening .ensures) (c .before .before .put .ensures)) (line-one (at-args .args .letter) (at-args .args .n)) (omega arith)
 
 pub line-of-one-spec : {M : Type 1} → statement M
 line-of-one-spec =
     tie.close
     (tie.spec
-    opening-requires
-    put-requires
-    same-length
-    returns)
+    opening-requires put-requires (λ c. search needs) returns)

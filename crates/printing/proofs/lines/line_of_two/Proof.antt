@@ -11,23 +11,35 @@ opening-requires : tie.Need-opening-requires
 opening-requires c κs = omega (arith, c .before .before .pre)
 
 word-requires : tie.Need-word-requires
-word-requires c κs = omega (arith, c .before .before .before .before .before .before .pre, c .before .before .before .opening .ensures .counted, c .before .before .before .opening .ensures .short)
+word-requires c κs =
+    let at-opening = c .before .before .before in
+    let at-pre = at-opening .before .before .before in
+    omega (arith, at-pre .pre, at-opening .opening .ensures .counted, at-opening .opening .ensures .short)
 
 put-requires : tie.Need-put-requires
-put-requires c κs = omega (arith, c .before .before .before .before .before .before .before .before .before .before .pre, c .before .before .before .before .before .before .before .opening .ensures .counted, c .before .before .before .before .before .before .before .opening .ensures .short, c .before .before .before .word .ensures .counted, c .before .before .before .word .ensures .short)
-
-same-length : tie.Need-same-length
-same-length c = search needs
+put-requires c κs =
+    let at-word = c .before .before .before in
+    let at-opening = at-word .before .before .before .before in
+    let at-pre = at-opening .before .before .before in
+    omega (
+      arith,
+      at-pre .pre,
+      at-opening .opening .ensures .counted,
+      at-opening .opening .ensures .short,
+      at-word .word .ensures .counted,
+      at-word .word .ensures .short,
+    )
 
 returns : tie.Need-returns
-returns c = put-as (then-put (then-put (c .before .before .before .before .before .before .before .before .before .before .opening .ensures) (c .before .before .before .before .before .before .word .ensures)) (c .before .before .put .ensures)) (line-two (c .before .before .before .before .before .before .before .before .before .before .before .before .before .args .letter) (c .before .before .before .before .before .before .before .before .before .before .before .before .before .args .n) (c .before .before .before .before .before .before .before .before .before .before .before .before .before .args .a)) (omega arith)
+returns c =
+    let at-word = c .before .before .before .before .before .before in
+    let at-opening = at-word .before .before .before .before in
+    let at-args = at-opening .before .before .before in
+    put-as (then-put (then-put (at-opening .opening .ensures) (at-word .word .ensures)) (c .before .before .put .ensures))
+    (line-two (at-args .args .letter) (at-args .args .n) (at-args .args .a)) (omega arith)
 
 pub line-of-two-spec : {M : Type 1} → statement M
 line-of-two-spec =
     tie.close
     (tie.spec
-    opening-requires
-    word-requires
-    put-requires
-    same-length
-    returns)
+    opening-requires word-requires put-requires (λ c. search needs) returns)

@@ -10,10 +10,10 @@ put-requires : tie.Need-put-requires
 put-requires c κs = omega (arith, c .before .before .pre)
 
 word-requires : tie.Need-word-requires
-word-requires c κs = omega (arith, c .before .before .before .before .before .before .pre, c .before .before .before .put .ensures .counted, c .before .before .before .put .ensures .short)
-
-same-length : tie.Need-same-length
-same-length c = search needs
+word-requires c κs =
+    let at-put = c .before .before .before in
+    let at-pre = at-put .before .before .before in
+    omega (arith, at-pre .pre, at-put .put .ensures .counted, at-put .put .ensures .short)
 
 returns : tie.Need-returns
 returns c = then-put (c .before .before .before .before .before .before .put .ensures) (c .before .before .word .ensures)
@@ -22,7 +22,4 @@ pub opening-spec : {M : Type 1} → statement M
 opening-spec =
     tie.close
     (tie.spec
-    put-requires
-    word-requires
-    same-length
-    returns)
+    put-requires word-requires (λ c. search needs) returns)

@@ -31,21 +31,31 @@ cast-line-of-four : tie.Need-cast-line-of-four Inv-loop μ-loop
 cast-line-of-four c = omega (arith, c .before .before .loop-test .taken, c .before .before .before .before .before .before .pre .few)
 
 line-of-four-requires : tie.Need-line-of-four-requires Inv-loop μ-loop
-line-of-four-requires c κs = omega (arith, c .before .before .loop-test .taken, c .before .before .before .loop .inv .1 .counted, c .before .before .before .loop .inv .1 .short, c .before .before .before .before .before .before .pre .room)
+line-of-four-requires c κs =
+    let at-loop = c .before .before .before in
+    let at-pre = at-loop .before .before .before in
+    omega (arith, c .before .before .loop-test .taken, at-loop .loop .inv .1 .counted, at-loop .loop .inv .1 .short, at-pre .pre .room)
 
 add-i : tie.Need-add-i Inv-loop μ-loop
-add-i c = omega (arith, c .before .before .before .before .before .loop-test .taken, c .before .before .before .before .before .before .before .before .before .pre .few)
+add-i c =
+    let at-loop-test = c .before .before .before .before .before in
+    let at-pre = at-loop-test .before .before .before .before in
+    omega (arith, at-loop-test .loop-test .taken, at-pre .pre .few)
 
 loop-less : tie.Need-loop-less Inv-loop μ-loop
 loop-less c = omega (arith, c .before .before .before .before .before .loop-test .taken)
 
 loop-again : tie.Need-loop-again Inv-loop μ-loop
 loop-again c =
-    let a = c .before .before .before .before .before .before .before .before .before .args in
-    let i = c .before .before .before .before .before .before .loop .i in
-    let line = row-put (a .letter) i (a .table) (a .words .now) (c .before .before .before .before .row-at .ensures) (c .before .before .line-of-four .ensures) in (
-      omega (arith, c .before .before .before .before .before .loop-test .taken),
-      rows-more (a .letter) 0 i i (listed (a .table) (a .words .now)) (c .before .before .before .before .before .before .loop .inv .1) line (sym (zero-add i)) (omega arith),
+    let at-row-at = c .before .before .before .before in
+    let at-loop-test = at-row-at .before in
+    let at-loop = at-loop-test .before in
+    let at-args = at-loop .before .before .before in
+    let a = at-args .args in
+    let i = at-loop .loop .i in
+    let line = row-put (a .letter) i (a .table) (a .words .now) (at-row-at .row-at .ensures) (c .before .before .line-of-four .ensures) in (
+      omega (arith, at-loop-test .loop-test .taken),
+      rows-more (a .letter) 0 i i (listed (a .table) (a .words .now)) (at-loop .loop .inv .1) line (sym (zero-add i)) (omega arith),
     )
 
 same-length : tie.Need-same-length Inv-loop μ-loop
@@ -63,12 +73,4 @@ row-lines-spec =
     (tie.spec
     Inv-loop
     μ-loop
-    loop-holds
-    row-at-requires
-    cast-line-of-four
-    line-of-four-requires
-    add-i
-    loop-less
-    loop-again
-    same-length
-    returns)
+    loop-holds row-at-requires cast-line-of-four line-of-four-requires add-i loop-less loop-again same-length returns)

@@ -11,23 +11,28 @@ put-requires : tie.Need-put-requires
 put-requires c κs = omega (arith, c .before .before .before .pre .room)
 
 values-requires : tie.Need-values-requires
-values-requires c κs = record { room = omega (arith, c .before .before .before .before .before .before .before .pre .room, c .before .before .before .put .ensures .counted); long = c .before .before .before .before .before .before .before .pre .long; bits = c .before .before .before .before .before .before .before .pre .bits }
+values-requires c κs =
+    let at-put = c .before .before .before in
+    let at-pre = at-put .before .before .before .before in
+    record { room = omega (arith, at-pre .pre .room, at-put .put .ensures .counted); long = at-pre .pre .long; bits = at-pre .pre .bits }
 
 put-requires-2 : tie.Need-put-requires-2
-put-requires-2 c κs = omega (arith, c .before .before .before .before .before .before .before .before .before .before .before .pre .room, c .before .before .before .before .before .before .before .put .ensures .counted, c .before .before .before .values .ensures .counted, c .before .before .before .values .ensures .short)
-
-same-length : tie.Need-same-length
-same-length c = search needs
+put-requires-2 c κs =
+    let at-values = c .before .before .before in
+    let at-put = at-values .before .before .before .before in
+    let at-pre = at-put .before .before .before .before in
+    omega (arith, at-pre .pre .room, at-put .put .ensures .counted, at-values .values .ensures .counted, at-values .values .ensures .short)
 
 returns : tie.Need-returns
-returns c = put-as (then-put (then-put (c .before .before .before .before .before .before .before .before .before .before .put .ensures) (c .before .before .before .before .before .before .values .ensures)) (c .before .before .put2 .ensures)) (state-text (take (c .before .before .before .before .before .before .before .before .before .before .before .before .before .before .args .count) (c .before .before .before .before .before .before .before .before .before .before .before .before .before .before .args .initial .now))) (omega arith)
+returns c =
+    let at-values = c .before .before .before .before .before .before in
+    let at-put = at-values .before .before .before .before in
+    let at-args = at-put .before .before .before .before in
+    put-as (then-put (then-put (at-put .put .ensures) (at-values .values .ensures)) (c .before .before .put2 .ensures))
+    (state-text (take (at-args .args .count) (at-args .args .initial .now))) (omega arith)
 
 pub state-line-spec : {M : Type 1} → statement M
 state-line-spec =
     tie.close
     (tie.spec
-    put-requires
-    values-requires
-    put-requires-2
-    same-length
-    returns)
+    put-requires values-requires put-requires-2 (λ c. search needs) returns)

@@ -6,39 +6,63 @@ use Rattle.printing.proofs.Texts.{tables-joined}
 use Rattle.printing.proofs.lines.tables.Statement.{statement}
 use Rattle.printing.proofs.lines.tables.Tie as tie
 
-cast-row-lines : tie.Need-cast-row-lines
-cast-row-lines c = search needs
-
 row-lines-requires : tie.Need-row-lines-requires
-row-lines-requires c κs = record { room = omega (arith, c .before .before .before .before .before .before .pre .place, c .before .before .before .before .before .before .pre .formula-count); long = c .before .before .before .before .before .before .pre .formulas-long; few = c .before .before .before .before .before .before .pre .formula-count }
-
-cast-row-lines-2 : tie.Need-cast-row-lines-2
-cast-row-lines-2 c = search needs
+row-lines-requires c κs =
+    let at-pre = c .before .before .before .before .before .before in
+    record { room = omega (arith, at-pre .pre .place, at-pre .pre .formula-count); long = at-pre .pre .formulas-long; few = at-pre .pre .formula-count }
 
 row-lines-requires-2 : tie.Need-row-lines-requires-2
-row-lines-requires-2 c κs = record { room = omega (arith, c .before .before .before .before .before .before .before .before .before .before .before .pre .place, c .before .before .before .before .before .before .before .before .before .before .before .pre .formula-count, c .before .before .before .before .before .before .before .before .before .before .before .pre .effect-count, c .before .before .before .before .row-lines .ensures .counted, c .before .before .before .before .row-lines .ensures .short); long = c .before .before .before .before .before .before .before .before .before .before .before .pre .effects-long; few = c .before .before .before .before .before .before .before .before .before .before .before .pre .effect-count }
-
-cast-row-lines-3 : tie.Need-cast-row-lines-3
-cast-row-lines-3 c = search needs
+row-lines-requires-2 c κs =
+    let at-row-lines = c .before .before .before .before in
+    let at-pre = at-row-lines .before .before .before .before .before .before .before in
+    record {
+      room =
+          omega (
+            arith,
+            at-pre .pre .place,
+            at-pre .pre .formula-count,
+            at-pre .pre .effect-count,
+            at-row-lines .row-lines .ensures .counted,
+            at-row-lines .row-lines .ensures .short,
+          );
+      long = at-pre .pre .effects-long;
+      few = at-pre .pre .effect-count;
+    }
 
 row-lines-requires-3 : tie.Need-row-lines-requires-3
-row-lines-requires-3 c κs = record { room = omega (arith, c .before .before .before .before .before .before .before .before .before .before .before .before .before .before .before .before .pre .place, c .before .before .before .before .before .before .before .before .before .before .before .before .before .before .before .before .pre .formula-count, c .before .before .before .before .before .before .before .before .before .before .before .before .before .before .before .before .pre .effect-count, c .before .before .before .before .before .before .before .before .before .before .before .before .before .before .before .before .pre .operator-count, c .before .before .before .before .before .before .before .before .before .row-lines .ensures .counted, c .before .before .before .before .before .before .before .before .before .row-lines .ensures .short, c .before .before .before .before .row-lines2 .ensures .counted, c .before .before .before .before .row-lines2 .ensures .short); long = c .before .before .before .before .before .before .before .before .before .before .before .before .before .before .before .before .pre .operators-long; few = omega (arith, c .before .before .before .before .before .before .before .before .before .before .before .before .before .before .before .before .pre .operator-count) }
-
-same-length : tie.Need-same-length
-same-length c = search needs
+row-lines-requires-3 c κs =
+    let at-row-lines2 = c .before .before .before .before in
+    let at-row-lines = at-row-lines2 .before .before .before .before .before in
+    let at-pre = at-row-lines .before .before .before .before .before .before .before in
+    record {
+      room =
+          omega (
+            arith,
+            at-pre .pre .place,
+            at-pre .pre .formula-count,
+            at-pre .pre .effect-count,
+            at-pre .pre .operator-count,
+            at-row-lines .row-lines .ensures .counted,
+            at-row-lines .row-lines .ensures .short,
+            at-row-lines2 .row-lines2 .ensures .counted,
+            at-row-lines2 .row-lines2 .ensures .short,
+          );
+      long = at-pre .pre .operators-long;
+      few = omega (arith, at-pre .pre .operator-count);
+    }
 
 returns : tie.Need-returns
-returns c = put-as (then-put (then-put (c .before .before .before .before .before .before .before .before .before .before .before .before .row-lines .ensures) (c .before .before .before .before .before .before .before .row-lines2 .ensures)) (c .before .before .row-lines3 .ensures)) (tables-joined (c .before .before .before .before .before .before .before .before .before .before .before .before .before .before .before .before .before .before .before .args .head) (c .before .before .before .before .before .before .before .before .before .before .before .before .before .before .before .before .before .before .before .args .formulas .now) (c .before .before .before .before .before .before .before .before .before .before .before .before .before .before .before .before .before .before .before .args .effects .now) (c .before .before .before .before .before .before .before .before .before .before .before .before .before .before .before .before .before .before .before .args .operators .now)) (omega (arith, c .before .before .before .before .before .before .before .before .before .before .before .before .before .before .before .before .before .before .before .pre .formula-count, c .before .before .before .before .before .before .before .before .before .before .before .before .before .before .before .before .before .before .before .pre .effect-count, c .before .before .before .before .before .before .before .before .before .before .before .before .before .before .before .before .before .before .before .pre .operator-count))
+returns c =
+    let at-row-lines2 = c .before .before .before .before .before .before .before in
+    let at-row-lines = at-row-lines2 .before .before .before .before .before in
+    let at-args = at-row-lines .before .before .before .before .before .before .before in
+    put-as (then-put (then-put (at-row-lines .row-lines .ensures) (at-row-lines2 .row-lines2 .ensures)) (c .before .before .row-lines3 .ensures))
+    (tables-joined (at-args .args .head) (at-args .args .formulas .now) (at-args .args .effects .now) (at-args .args .operators .now))
+    (omega (arith, at-args .pre .formula-count, at-args .pre .effect-count, at-args .pre .operator-count))
 
 pub tables-spec : {M : Type 1} → statement M
 tables-spec =
     tie.close
     (tie.spec
-    cast-row-lines
-    row-lines-requires
-    cast-row-lines-2
-    row-lines-requires-2
-    cast-row-lines-3
-    row-lines-requires-3
-    same-length
+    (λ c. search needs) row-lines-requires (λ c. search needs) row-lines-requires-2 (λ c. search needs) row-lines-requires-3 (λ c. search needs)
     returns)

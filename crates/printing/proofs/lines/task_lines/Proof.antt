@@ -9,22 +9,38 @@ use Rattle.printing.proofs.lines.task_lines.Statement.{statement}
 use Rattle.printing.proofs.lines.task_lines.Tie as tie
 
 front-requires : tie.Need-front-requires
-front-requires c κs = front-ready (lent (c .before .before .before .before .before .before .before .args .head) (c .before .before .before .before .before .before .before .args .initial .now) (c .before .before .before .before .before .before .before .args .twins .now) (c .before .before .before .before .before .before .before .args .formulas .now) (c .before .before .before .before .before .before .before .args .effects .now) (c .before .before .before .before .before .before .before .args .operators .now)) (c .before .before .before .before .before .before .before .pre)
+front-requires c κs =
+    let at-args = c .before .before .before .before .before .before .before in
+    front-ready
+    (lent (at-args .args .head) (at-args .args .initial .now) (at-args .args .twins .now) (at-args .args .formulas .now) (at-args .args .effects .now)
+    (at-args .args .operators .now))
+    (at-args .pre)
 
 tables-requires : tie.Need-tables-requires
-tables-requires c κs = tables-ready (lent (c .before .before .before .before .before .before .before .before .before .before .before .args .head) (c .before .before .before .before .before .before .before .before .before .before .before .args .initial .now) (c .before .before .before .before .before .before .before .before .before .before .before .args .twins .now) (c .before .before .before .before .before .before .before .before .before .before .before .args .formulas .now) (c .before .before .before .before .before .before .before .before .before .before .before .args .effects .now) (c .before .before .before .before .before .before .before .before .before .before .before .args .operators .now)) (c .before .before .before .before .before .before .before .before .before .before .before .pre) (c .before .before .before .front .result) (omega (arith, c .before .before .before .front .ensures .counted, c .before .before .before .front .ensures .short))
-
-same-length : tie.Need-same-length
-same-length c = search needs
+tables-requires c κs =
+    let at-front = c .before .before .before in
+    let at-args = at-front .before .before .before .before .before .before .before .before in
+    tables-ready
+    (lent (at-args .args .head) (at-args .args .initial .now) (at-args .args .twins .now) (at-args .args .formulas .now) (at-args .args .effects .now)
+    (at-args .args .operators .now))
+    (at-args .pre) (at-front .front .result) (omega (arith, at-front .front .ensures .counted, at-front .front .ensures .short))
 
 returns : tie.Need-returns
-returns c = put-as (then-put (c .before .before .before .before .before .before .front .ensures) (c .before .before .tables .ensures)) (lines-of-lent (lent (c .before .before .before .before .before .before .before .before .before .before .before .before .before .before .args .head) (c .before .before .before .before .before .before .before .before .before .before .before .before .before .before .args .initial .now) (c .before .before .before .before .before .before .before .before .before .before .before .before .before .before .args .twins .now) (c .before .before .before .before .before .before .before .before .before .before .before .before .before .before .args .formulas .now) (c .before .before .before .before .before .before .before .before .before .before .before .before .before .before .args .effects .now) (c .before .before .before .before .before .before .before .before .before .before .before .before .before .before .args .operators .now)) (long-tables (lent (c .before .before .before .before .before .before .before .before .before .before .before .before .before .before .args .head) (c .before .before .before .before .before .before .before .before .before .before .before .before .before .before .args .initial .now) (c .before .before .before .before .before .before .before .before .before .before .before .before .before .before .args .twins .now) (c .before .before .before .before .before .before .before .before .before .before .before .before .before .before .args .formulas .now) (c .before .before .before .before .before .before .before .before .before .before .before .before .before .before .args .effects .now) (c .before .before .before .before .before .before .before .before .before .before .before .before .before .before .args .operators .now)) (c .before .before .before .before .before .before .before .before .before .before .before .before .before .before .pre))) (omega arith)
+returns c =
+    let at-front = c .before .before .before .before .before .before in
+    let at-args = at-front .before .before .before .before .before .before .before .before in
+    put-as (then-put (at-front .front .ensures) (c .before .before .tables .ensures))
+    (lines-of-lent
+    (lent (at-args .args .head) (at-args .args .initial .now) (at-args .args .twins .now) (at-args .args .formulas .now) (at-args .args .effects .now)
+    (at-args .args .operators .now))
+    (long-tables
+    (lent (at-args .args .head) (at-args .args .initial .now) (at-args .args .twins .now) (at-args .args .formulas .now) (at-args .args .effects .now)
+    (at-args .args .operators .now))
+    (at-args .pre)))
+    (omega arith)
 
 pub task-lines-spec : {M : Type 1} → statement M
 task-lines-spec =
     tie.close
     (tie.spec
-    front-requires
-    tables-requires
-    same-length
-    returns)
+    front-requires tables-requires (λ c. search needs) returns)

@@ -17,7 +17,11 @@ abbrev μ-loop : tie.MeasureT-loop
 μ-loop out₀ at first twins count next₀ k₀ out next k = count - k
 
 loop-holds : tie.Need-loop-holds Inv-loop μ-loop
-loop-holds c = (omega arith, rows-none 119 (c .before .before .args .first) (original-at (c .before .before .args .twins .now)) (c .before .before .args .out .now) (c .before .before .args .at))
+loop-holds c = (
+  omega arith,
+  rows-none 119 (c .before .before .args .first) (original-at (c .before .before .args .twins .now)) (c .before .before .args .out .now)
+      (c .before .before .args .at),
+)
 
 cast-line-of-two : tie.Need-cast-line-of-two Inv-loop μ-loop
 cast-line-of-two c = omega (arith, c .before .loop-test .taken, c .before .before .before .before .before .pre .below)
@@ -32,22 +36,38 @@ shared-slice-read-line-of-two : tie.Need-shared-slice-read-line-of-two Inv-loop 
 shared-slice-read-line-of-two c = omega (arith, c .before .before .loop-test .taken, c .before .before .before .before .before .before .pre .long)
 
 line-of-two-requires : tie.Need-line-of-two-requires Inv-loop μ-loop
-line-of-two-requires c κs = omega (arith, c .before .before .loop-test .taken, c .before .before .before .loop .inv .1 .counted, c .before .before .before .loop .inv .1 .short, c .before .before .before .before .before .before .pre .room)
+line-of-two-requires c κs =
+    let at-loop = c .before .before .before in
+    let at-pre = at-loop .before .before .before in
+    omega (arith, c .before .before .loop-test .taken, at-loop .loop .inv .1 .counted, at-loop .loop .inv .1 .short, at-pre .pre .room)
 
 add-k : tie.Need-add-k Inv-loop μ-loop
-add-k c = omega (arith, c .before .before .before .before .before .loop-test .taken, c .before .before .before .before .before .before .before .before .before .pre .below)
+add-k c =
+    let at-loop-test = c .before .before .before .before .before in
+    let at-pre = at-loop-test .before .before .before .before in
+    omega (arith, at-loop-test .loop-test .taken, at-pre .pre .below)
 
 loop-less : tie.Need-loop-less Inv-loop μ-loop
 loop-less c = omega (arith, c .before .before .before .before .before .loop-test .taken)
 
 loop-again : tie.Need-loop-again Inv-loop μ-loop
-loop-again c = (omega (arith, c .before .before .before .before .before .loop-test .taken), rows-more 119 (c .before .before .before .before .before .before .before .before .before .args .first) (c .before .before .before .before .before .before .before .before .before .args .first + c .before .before .before .before .before .before .loop .k) (c .before .before .before .before .before .before .loop .k) (original-at (c .before .before .before .before .before .before .before .before .before .args .twins .now)) (c .before .before .before .before .before .before .loop .inv .1) (c .before .before .line-of-two .ensures) refl (omega arith))
+loop-again c =
+    let at-loop-test = c .before .before .before .before .before in
+    let at-loop = at-loop-test .before in
+    let at-args = at-loop .before .before .before in (
+      omega (arith, at-loop-test .loop-test .taken),
+      rows-more 119 (at-args .args .first) (at-args .args .first + at-loop .loop .k) (at-loop .loop .k) (original-at (at-args .args .twins .now))
+          (at-loop .loop .inv .1) (c .before .before .line-of-two .ensures) refl (omega arith),
+    )
 
 same-length : tie.Need-same-length Inv-loop μ-loop
 same-length c = put-length (c .before .loop .inv .1)
 
 returns : tie.Need-returns Inv-loop μ-loop
-returns c = put-ends (λ n. numbered 119 (c .before .before .before .before .args .first) (upto n (original-at (c .before .before .before .before .args .twins .now)))) (λ n. 14 * n) (c .before .loop .inv .1) (c .before .loop .inv .0) (c .loop-test .left)
+returns c =
+    let at-args = c .before .before .before .before in
+    put-ends (λ n. numbered 119 (at-args .args .first) (upto n (original-at (at-args .args .twins .now)))) (λ n. 14 * n) (c .before .loop .inv .1)
+    (c .before .loop .inv .0) (c .loop-test .left)
 
 pub twin-lines-spec : {M : Type 1} → statement M
 twin-lines-spec =
@@ -55,14 +75,5 @@ twin-lines-spec =
     (tie.spec
     Inv-loop
     μ-loop
-    loop-holds
-    cast-line-of-two
-    add-line-of-two
-    mul-line-of-two
-    shared-slice-read-line-of-two
-    line-of-two-requires
-    add-k
-    loop-less
-    loop-again
-    same-length
-    returns)
+    loop-holds cast-line-of-two add-line-of-two mul-line-of-two shared-slice-read-line-of-two line-of-two-requires add-k loop-less loop-again
+    same-length returns)

@@ -5,27 +5,6 @@ use borrow.Author.Needs.{needs}
 use Rattle.read_entry.proofs.call.read_full.Statement.{statement}
 use Rattle.read_entry.proofs.call.read_full.Tie as tie
 
-slice-aggregate-read-through : tie.Need-slice-aggregate-read-through
-slice-aggregate-read-through c = search needs
-
-slice-aggregate-read-through-2 : tie.Need-slice-aggregate-read-through-2
-slice-aggregate-read-through-2 c = search needs
-
-slice-aggregate-read-through-3 : tie.Need-slice-aggregate-read-through-3
-slice-aggregate-read-through-3 c = search needs
-
-slice-aggregate-read-through-4 : tie.Need-slice-aggregate-read-through-4
-slice-aggregate-read-through-4 c = search needs
-
-slice-aggregate-read-through-5 : tie.Need-slice-aggregate-read-through-5
-slice-aggregate-read-through-5 c = search needs
-
-read-through-requires : tie.Need-read-through-requires
-read-through-requires c κs = search needs
-
-same-length : tie.Need-same-length
-same-length c = search needs
-
 returns : tie.Need-returns
 unfolding own read-entry read-entry-by
 returns c = c .before .before .before .before .before .before .before .read-through .ensures
@@ -34,11 +13,5 @@ pub read-full-spec : {M : Type 1} → statement M
 read-full-spec =
     tie.close
     (tie.spec
-    slice-aggregate-read-through
-    slice-aggregate-read-through-2
-    slice-aggregate-read-through-3
-    slice-aggregate-read-through-4
-    slice-aggregate-read-through-5
-    read-through-requires
-    same-length
+    (λ c. search needs) (λ c. search needs) (λ c. search needs) (λ c. search needs) (λ c. search needs) (λ c κs. search needs) (λ c. search needs)
     returns)

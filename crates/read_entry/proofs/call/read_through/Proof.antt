@@ -10,91 +10,44 @@ use borrow.Author.Needs.{needs}
 use Rattle.read_entry.proofs.call.read_through.Statement.{statement}
 use Rattle.read_entry.proofs.call.read_through.Tie as tie
 
-read-requires : tie.Need-read-requires
-read-requires c κs = search needs
-
-enum-known-r : tie.Need-enum-known-r
-enum-known-r c = search needs
-
-enum-told : tie.Need-enum-told
-enum-told c = search needs
-
-clear-bytes-requires : tie.Need-clear-bytes-requires
-clear-bytes-requires c κs = search needs
-
-not-read-requires : tie.Need-not-read-requires
-not-read-requires c κs = search needs
-
-cast-result : tie.Need-cast-result
-cast-result c = search needs
-
-same-length : tie.Need-same-length
-same-length c = search needs
-
-same-length-2 : tie.Need-same-length-2
-same-length-2 c = search needs
-
-same-length-3 : tie.Need-same-length-3
-same-length-3 c = search needs
-
-same-length-4 : tie.Need-same-length-4
-same-length-4 c = search needs
-
-same-length-5 : tie.Need-same-length-5
-same-length-5 c = search needs
-
-same-length-6 : tie.Need-same-length-6
-same-length-6 c = search needs
-
 returns : tie.Need-returns
-returns c = let a = c .before .before .before .before .before .before .before .before .before .before .before .before .before .before .before .before .before .before .before .before .before .before .before .before .before .before .before .before .before .before .args in let m = lengths (length (a .initial .now)) (length (a .twins .now)) (length (a .formulas .now)) (length (a .effects .now)) (length (a .operators .now)) in read-refused m (a .file .now) (length (a .tables .now)) (refused-as m (a .file .now) (c .before .before .before .before .before .before .before .before .before .before .before .before .before .before .before .before .before .read .ensures) (c .before .before .before .before .before .enum-told .given .1)) (c .not-read .ensures ∙ ap refused-number (c .before .before .before .before .before .enum-told .given .1)) (c .before .before .before .clear-bytes .ensures)
+returns c =
+    let at-clear-bytes = c .before .before .before in
+    let at-enum-told = at-clear-bytes .before .before in
+    let at-read = at-enum-told .before .before .before .before .before .before .before .before .before .before .before .before in
+    let at-args = at-read .before .before .before .before .before .before .before .before .before .before .before .before .before in
+    let a = at-args .args in let m = lengths (length (a .initial .now)) (length (a .twins .now)) (length (a .formulas .now)) (length (a .effects .now))
+    (length (a .operators .now)) in read-refused m (a .file .now) (length (a .tables .now))
+    (refused-as m (a .file .now) (at-read .read .ensures) (at-enum-told .enum-told .given .1))
+    (c .not-read .ensures ∙ ap refused-number (at-enum-told .enum-told .given .1)) (at-clear-bytes .clear-bytes .ensures)
 
 lay-requires : tie.Need-lay-requires
-lay-requires c κs = let a = c .before .before .before .before .before .before .before .before .before .before .before .before .before .before .before .before .before .before .before .before .before .before .before .before .before .before .before .before .before .before .before .before .args in let m = lengths (length (a .initial .now)) (length (a .twins .now)) (length (a .formulas .now)) (length (a .effects .now)) (length (a .operators .now)) in lay-in {m = m} (read-as m (a .file .now) (c .before .before .before .before .before .before .before .before .before .before .before .before .before .before .before .before .before .before .before .read .ensures) (c .before .before .before .before .before .before .before .r .given .1) (bytes-from (a .file .now) (λ i. c .before .before .before .before .before .before .before .before .before .before .before .before .before .before .before .before .before .before .before .before .before .before .before .before .before .before .before .before .before .before .before .shared-slice-known .given i .fits)))
-
-same-length-7 : tie.Need-same-length-7
-same-length-7 c = search needs
-
-same-length-8 : tie.Need-same-length-8
-same-length-8 c = search needs
-
-same-length-9 : tie.Need-same-length-9
-same-length-9 c = search needs
-
-same-length-10 : tie.Need-same-length-10
-same-length-10 c = search needs
-
-same-length-11 : tie.Need-same-length-11
-same-length-11 c = search needs
-
-same-length-12 : tie.Need-same-length-12
-same-length-12 c = search needs
+lay-requires c κs =
+    let at-r = c .before .before .before .before .before .before .before in
+    let at-read = at-r .before .before .before .before .before .before .before .before .before .before .before .before in
+    let at-shared-slice-known = at-read .before .before .before .before .before .before .before .before .before .before .before .before in
+    let at-args = at-shared-slice-known .before in
+    let a = at-args .args in let m = lengths (length (a .initial .now)) (length (a .twins .now)) (length (a .formulas .now)) (length (a .effects .now))
+    (length (a .operators .now)) in lay-in {m = m}
+    (read-as m (a .file .now) (at-read .read .ensures) (at-r .r .given .1)
+    (bytes-from (a .file .now) (λ i. at-shared-slice-known .shared-slice-known .given i .fits)))
 
 returns-2 : tie.Need-returns-2
-returns-2 c = let a = c .before .before .before .before .before .before .before .before .before .before .before .before .before .before .before .before .before .before .before .before .before .before .before .before .before .before .before .before .before .before .before .before .before .before .before .args in let m = lengths (length (a .initial .now)) (length (a .twins .now)) (length (a .formulas .now)) (length (a .effects .now)) (length (a .operators .now)) in read-laid {m = m} (length (a .tables .now)) (read-as m (a .file .now) (c .before .before .before .before .before .before .before .before .before .before .before .before .before .before .before .before .before .before .before .before .before .before .read .ensures) (c .before .before .before .before .before .before .before .before .before .before .r .given .1) (bytes-from (a .file .now) (λ i. c .before .before .before .before .before .before .before .before .before .before .before .before .before .before .before .before .before .before .before .before .before .before .before .before .before .before .before .before .before .before .before .before .before .before .shared-slice-known .given i .fits))) (c .before .before .lay .ensures)
+returns-2 c =
+    let at-r = c .before .before .before .before .before .before .before .before .before .before in
+    let at-read = at-r .before .before .before .before .before .before .before .before .before .before .before .before in
+    let at-shared-slice-known = at-read .before .before .before .before .before .before .before .before .before .before .before .before in
+    let at-args = at-shared-slice-known .before in
+    let a = at-args .args in let m = lengths (length (a .initial .now)) (length (a .twins .now)) (length (a .formulas .now)) (length (a .effects .now))
+    (length (a .operators .now)) in read-laid {m = m} (length (a .tables .now))
+    (read-as m (a .file .now) (at-read .read .ensures) (at-r .r .given .1)
+    (bytes-from (a .file .now) (λ i. at-shared-slice-known .shared-slice-known .given i .fits)))
+    (c .before .before .lay .ensures)
 
 pub read-through-spec : {M : Type 1} → statement M
 read-through-spec =
     tie.close
     (tie.spec
-    read-requires
-    enum-known-r
-    enum-told
-    clear-bytes-requires
-    not-read-requires
-    cast-result
-    same-length
-    same-length-2
-    same-length-3
-    same-length-4
-    same-length-5
-    same-length-6
-    returns
-    lay-requires
-    same-length-7
-    same-length-8
-    same-length-9
-    same-length-10
-    same-length-11
-    same-length-12
-    returns-2)
+    (λ c κs. search needs) (λ c. search needs) (λ c. search needs) (λ c κs. search needs) (λ c κs. search needs) (λ c. search needs)
+    (λ c. search needs) (λ c. search needs) (λ c. search needs) (λ c. search needs) (λ c. search needs) (λ c. search needs) returns lay-requires
+    (λ c. search needs) (λ c. search needs) (λ c. search needs) (λ c. search needs) (λ c. search needs) (λ c. search needs) returns-2)

@@ -20,16 +20,12 @@ shared-slice-read-out c = omega (arith, c .before .before .before .pre)
 slice-write-out : tie.Need-slice-write-out Inv-loop μ-loop
 slice-write-out c = omega (arith, c .before .before .before .pre, c .before .before .loop .inv)
 
-add-i : tie.Need-add-i Inv-loop μ-loop
-add-i c = omega arith
-
-loop-less : tie.Need-loop-less Inv-loop μ-loop
-loop-less c = omega arith
-
 loop-again : tie.Need-loop-again Inv-loop μ-loop
 loop-again c =
-    let s = c .before .before .before in
-    copied-more (s .args .source .now) (s .args .out .now) (s .args .v) (s .pre .0) (s .pre .1) (c .before .before .loop .out) (c .before .before .loop .i) (c .before .before .loop .inv) (c .before .loop-test .taken)
+    let at-entry = c .before .before .before in
+    let s = at-entry in
+    copied-more (s .args .source .now) (s .args .out .now) (s .args .v) (s .pre .0) (s .pre .1) (c .before .before .loop .out) (c .before .before .loop .i)
+    (c .before .before .loop .inv) (c .before .loop-test .taken)
 
 same-length : tie.Need-same-length Inv-loop μ-loop
 same-length c = c .before .loop .inv .same
@@ -37,7 +33,8 @@ same-length c = c .before .loop .inv .same
 returns : tie.Need-returns Inv-loop μ-loop
 returns c =
     let s = c .before .before in
-    copied-all (s .args .source .now) (s .args .out .now) (s .args .v) (s .pre .0) (s .pre .1) (c .before .loop .out) (c .before .loop .i) (c .before .loop .inv) (c .loop-test .left)
+    copied-all (s .args .source .now) (s .args .out .now) (s .args .v) (s .pre .0) (s .pre .1) (c .before .loop .out) (c .before .loop .i)
+    (c .before .loop .inv) (c .loop-test .left)
 
 pub copy-spec : {M : Type 1} → statement M
 copy-spec =
@@ -45,11 +42,4 @@ copy-spec =
     (tie.spec
     Inv-loop
     μ-loop
-    loop-holds
-    shared-slice-read-out
-    slice-write-out
-    add-i
-    loop-less
-    loop-again
-    same-length
-    returns)
+    loop-holds shared-slice-read-out slice-write-out (λ c. omega arith) (λ c. omega arith) loop-again same-length returns)

@@ -53,13 +53,13 @@ add-k c =
     let s = c .before .before .before .before in
     omega (arith, s .good, s .pre .space)
 
-loop-less : tie.Need-loop-less Inv-loop μ-loop
-loop-less c = omega arith
-
 loop-again : tie.Need-loop-again Inv-loop μ-loop
 loop-again c =
-    let s = c .before .before .before .before in
-    opposed-more (s .args .source .now) (s .args .originals .now) (s .args .out .now) (s .args .v) (s .args .w) (s .pre) (c .before .before .before .loop .out) (c .before .before .before .loop .k) (c .before .before .before .loop .inv) (c .before .before .loop-test .taken)
+    let at-loop = c .before .before .before in
+    let at-entry = at-loop .before in
+    let s = at-entry in
+    opposed-more (s .args .source .now) (s .args .originals .now) (s .args .out .now) (s .args .v) (s .args .w) (s .pre) (at-loop .loop .out) (at-loop .loop .k)
+    (at-loop .loop .inv) (c .before .before .loop-test .taken)
 
 same-length : tie.Need-same-length Inv-loop μ-loop
 same-length c = c .before .loop .inv .same
@@ -67,7 +67,8 @@ same-length c = c .before .loop .inv .same
 returns : tie.Need-returns Inv-loop μ-loop
 returns c =
     let s = c .before .before in
-    opposed-all (s .args .source .now) (s .args .originals .now) (s .args .out .now) (s .args .v) (s .args .w) (s .pre) (c .before .loop .out) (c .before .loop .k) (c .before .loop .inv) (c .loop-test .left)
+    opposed-all (s .args .source .now) (s .args .originals .now) (s .args .out .now) (s .args .v) (s .args .w) (s .pre) (c .before .loop .out)
+    (c .before .loop .k) (c .before .loop .inv) (c .loop-test .left)
 
 pub oppose-spec : {M : Type 1} → statement M
 oppose-spec =
@@ -75,16 +76,5 @@ oppose-spec =
     (tie.spec
     Inv-loop
     μ-loop
-    loop-holds
-    mul-original
-    shared-slice-read-original
-    cast-original
-    shared-slice-read-out
-    sub-out
-    add-out
-    slice-write-out
-    add-k
-    loop-less
-    loop-again
-    same-length
-    returns)
+    loop-holds mul-original shared-slice-read-original cast-original shared-slice-read-out sub-out add-out slice-write-out add-k (λ c. omega arith)
+    loop-again same-length returns)

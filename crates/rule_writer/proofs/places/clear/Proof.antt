@@ -29,13 +29,17 @@ loop-less : tie.Need-loop-less Inv-loop μ-loop
 loop-less c = omega (arith, c .loop-test .taken)
 
 loop-again : tie.Need-loop-again Inv-loop μ-loop
-loop-again c = cleared-more (c .before .before .args .places .now) (c .before .before .args .v) (c .before .before .args .past) (c .before .before .pre) (c .before .loop .places) (c .before .loop .i) (c .before .loop .inv) (c .loop-test .taken)
+loop-again c =
+    cleared-more (c .before .before .args .places .now) (c .before .before .args .v) (c .before .before .args .past) (c .before .before .pre)
+    (c .before .loop .places) (c .before .loop .i) (c .before .loop .inv) (c .loop-test .taken)
 
 same-length : tie.Need-same-length Inv-loop μ-loop
 same-length c = c .before .loop .inv .same
 
 returns : tie.Need-returns Inv-loop μ-loop
-returns c = cleared-all (c .before .before .args .places .now) (c .before .before .args .v) (c .before .before .args .past) (c .before .before .pre) (c .before .loop .places) (c .before .loop .i) (c .before .loop .inv) (c .loop-test .left)
+returns c =
+    cleared-all (c .before .before .args .places .now) (c .before .before .args .v) (c .before .before .args .past) (c .before .before .pre)
+    (c .before .loop .places) (c .before .loop .i) (c .before .loop .inv) (c .loop-test .left)
 
 pub clear-spec : {M : Type 1} → statement M
 clear-spec =
@@ -43,11 +47,4 @@ clear-spec =
     (tie.spec
     Inv-loop
     μ-loop
-    loop-holds
-    mul-places
-    slice-write-places
-    add-i
-    loop-less
-    loop-again
-    same-length
-    returns)
+    loop-holds mul-places slice-write-places add-i loop-less loop-again same-length returns)

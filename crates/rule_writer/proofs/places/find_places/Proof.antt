@@ -4,18 +4,6 @@ use Rattle.rule_writer.proofs.places.find_places.Statement.{statement}
 use Rattle.rule_writer.proofs.places.find_places.Tie as tie
 use mathlib.Core.Path.{_∙_}
 
-cast-clear : tie.Need-cast-clear
-cast-clear c = search needs
-
-clear-requires : tie.Need-clear-requires
-clear-requires c κs = search needs
-
-number-requires : tie.Need-number-requires
-number-requires c κs = search needs
-
-same-length : tie.Need-same-length
-same-length c = search needs
-
 returns : tie.Need-returns
 returns c =
     let n = c .before .before .number .ensures in
@@ -23,4 +11,4 @@ returns c =
 
 pub find-places-spec : {M : Type 1} → statement M
 find-places-spec =
-    tie.close (tie.spec cast-clear clear-requires number-requires same-length returns)
+    tie.close (tie.spec (λ c. search needs) (λ c κs. search needs) (λ c κs. search needs) (λ c. search needs) returns)

@@ -32,22 +32,41 @@ cast-places : tie.Need-cast-places Inv-loop μ-loop
 cast-places c = omega (arith, c .before .before .before .pre .0 .limit, c .before .before .loop .inv .bound)
 
 mul-places : tie.Need-mul-places Inv-loop μ-loop
-mul-places c = omega (arith, c .before .before .before .good, c .before .before .before .pre .0 .space, c .before .before .before .pre .0 .below (c .before .before .loop .k - 1) (omega (arith, c .before .before .loop .inv .bound, c .before .loop-test .taken)))
+mul-places c =
+    let at-good = c .before .before .before in
+    omega (
+      arith,
+      at-good .good,
+      at-good .pre .0 .space,
+      at-good .pre .0 .below (c .before .before .loop .k - 1) (omega (arith, c .before .before .loop .inv .bound, c .before .loop-test .taken)),
+    )
 
 slice-write-places : tie.Need-slice-write-places Inv-loop μ-loop
-slice-write-places c = omega (arith, c .before .before .loop .inv .same, c .before .before .before .pre .0 .space, c .before .before .before .pre .0 .below (c .before .before .loop .k - 1) (omega (arith, c .before .before .loop .inv .bound, c .before .loop-test .taken)))
+slice-write-places c =
+    let at-pre = c .before .before .before in
+    omega (
+      arith,
+      c .before .before .loop .inv .same,
+      at-pre .pre .0 .space,
+      at-pre .pre .0 .below (c .before .before .loop .k - 1) (omega (arith, c .before .before .loop .inv .bound, c .before .loop-test .taken)),
+    )
 
 loop-less : tie.Need-loop-less Inv-loop μ-loop
 loop-less c = omega (arith, c .before .loop-test .taken)
 
 loop-again : tie.Need-loop-again Inv-loop μ-loop
-loop-again c = numbered-more (c .before .before .before .args .originals .now) (c .before .before .before .args .places .now) (c .before .before .before .args .v) (c .before .before .before .args .w) (c .before .before .before .pre .0) (c .before .before .loop .places) (c .before .before .loop .k) (c .before .before .loop .inv) (c .before .loop-test .taken)
+loop-again c =
+    let at-args = c .before .before .before in
+    numbered-more (at-args .args .originals .now) (at-args .args .places .now) (at-args .args .v) (at-args .args .w) (at-args .pre .0)
+    (c .before .before .loop .places) (c .before .before .loop .k) (c .before .before .loop .inv) (c .before .loop-test .taken)
 
 same-length : tie.Need-same-length Inv-loop μ-loop
 same-length c = c .before .loop .inv .same
 
 returns : tie.Need-returns Inv-loop μ-loop
-returns c = numbered-all (c .before .before .args .originals .now) (c .before .before .args .places .now) (c .before .before .args .v) (c .before .before .args .w) (c .before .before .pre .0) (c .before .loop .places) (c .before .loop .k) (c .before .loop .inv) (c .loop-test .left)
+returns c =
+    numbered-all (c .before .before .args .originals .now) (c .before .before .args .places .now) (c .before .before .args .v) (c .before .before .args .w)
+    (c .before .before .pre .0) (c .before .loop .places) (c .before .loop .k) (c .before .loop .inv) (c .loop-test .left)
 
 pub number-spec : {M : Type 1} → statement M
 number-spec =
@@ -55,15 +74,5 @@ number-spec =
     (tie.spec
     Inv-loop
     μ-loop
-    loop-holds
-    sub-k
-    mul-original
-    shared-slice-read-original
-    cast-original
-    cast-places
-    mul-places
-    slice-write-places
-    loop-less
-    loop-again
-    same-length
+    loop-holds sub-k mul-original shared-slice-read-original cast-original cast-places mul-places slice-write-places loop-less loop-again same-length
     returns)

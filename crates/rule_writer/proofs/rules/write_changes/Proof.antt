@@ -9,26 +9,8 @@ use Rattle.rule_writer.proofs.rules.opposed.Reads as opposed-reads
 use native.Mathlib.Omega.{arith}
 use Rattle.rule_writer.proofs.Writing.{writes-both}
 
-cast-k : tie.Need-cast-k
-cast-k c = search needs
-
-mul-k : tie.Need-mul-k
-mul-k c = search needs
-
-shared-slice-read-k : tie.Need-shared-slice-read-k
-shared-slice-read-k c = search needs
-
 cast-k-2 : tie.Need-cast-k-2
 cast-k-2 c = omega (arith, c .shared-slice-known2 .given (c .before .before .before .before .args .c .variable))
-
-opposed-requires : tie.Need-opposed-requires
-opposed-requires c κs = search needs
-
-opposed-requires-2 : tie.Need-opposed-requires-2
-opposed-requires-2 c κs = search needs
-
-same-length : tie.Need-same-length
-same-length c = search needs
 
 returns : tie.Need-returns
 returns c = writes-both (c .before .before .before .before .before .before .opposed .ensures) (c .before .before .opposed2 .ensures)
@@ -37,11 +19,4 @@ pub write-changes-spec : {M : Type 1} → statement M
 write-changes-spec =
     tie.close
     (tie.spec
-    cast-k
-    mul-k
-    shared-slice-read-k
-    cast-k-2
-    opposed-requires
-    opposed-requires-2
-    same-length
-    returns)
+    (λ c. search needs) (λ c. search needs) (λ c. search needs) cast-k-2 (λ c κs. search needs) (λ c κs. search needs) (λ c. search needs) returns)

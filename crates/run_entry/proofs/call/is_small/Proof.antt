@@ -10,18 +10,9 @@ returns : tie.Need-returns
 unfolding small-run
 returns c = simp (lt-leb _ _ (c .if1 .taken))
 
-cast-result : tie.Need-cast-result
-cast-result c = search needs
-
-cast-result-2 : tie.Need-cast-result-2
-cast-result-2 c = search needs
-
-add-result : tie.Need-add-result
-add-result c = search needs
-
 returns-2 : tie.Need-returns-2
 unfolding small-run
 returns-2 c = simp (le-leb (c .before .before .before .args .bytes) 512 (omega (arith, c .before .before .if1 .left)))
 
 pub is-small-spec : {M : Type 1} → statement M
-is-small-spec = tie.close (tie.spec returns cast-result cast-result-2 add-result returns-2)
+is-small-spec = tie.close (tie.spec returns (λ c. search needs) (λ c. search needs) (λ c. search needs) returns-2)

@@ -4,31 +4,13 @@ use borrow.Author.Needs.{needs}
 use Rattle.run_entry.proofs.call.run_small.Statement.{statement}
 use Rattle.run_entry.proofs.call.run_small.Tie as tie
 
-slice-aggregate-run-lent : tie.Need-slice-aggregate-run-lent
-slice-aggregate-run-lent c = search needs
-
-slice-aggregate-run-lent-2 : tie.Need-slice-aggregate-run-lent-2
-slice-aggregate-run-lent-2 c = search needs
-
 run-lent-requires : tie.Need-run-lent-requires
-run-lent-requires c κs = small-room (c .before .before .before .before .before .before .before .before .before .before .before .before .pre) (search needs) (search needs)
-
-same-length : tie.Need-same-length
-same-length c = search needs
-
-same-length-2 : tie.Need-same-length-2
-same-length-2 c = search needs
-
-returns : tie.Need-returns
-returns c = search needs
+run-lent-requires c κs =
+    let at-pre = c .before .before .before .before .before .before .before .before .before .before .before .before in
+    small-room (at-pre .pre) (search needs) (search needs)
 
 pub run-small-spec : {M : Type 1} → statement M
 run-small-spec =
     tie.close
     (tie.spec
-    slice-aggregate-run-lent
-    slice-aggregate-run-lent-2
-    run-lent-requires
-    same-length
-    same-length-2
-    returns)
+    (λ c. search needs) (λ c. search needs) run-lent-requires (λ c. search needs) (λ c. search needs) (λ c. search needs))

@@ -8,16 +8,10 @@ use Rattle.steps.proofs.operator.asked.Tie as tie
 returns : tie.Need-returns
 returns c = none-asked _ _ _ (c .if1 .taken)
 
-precondition-of-requires : tie.Need-precondition-of-requires
-precondition-of-requires c κs = search needs
-
-cast-result : tie.Need-cast-result
-cast-result c = search needs
-
 returns-2 : tie.Need-returns-2
 returns-2 c =
     let a = c .before .before .before .args in
     c .precondition-of .ensures ∙ one-asked (a .operators .now) (a .count) (a .number) (c .before .if1 .left)
 
 pub asked-spec : {M : Type 1} → statement M
-asked-spec = tie.close (tie.spec returns precondition-of-requires cast-result returns-2)
+asked-spec = tie.close (tie.spec returns (λ c κs. search needs) (λ c. search needs) returns-2)

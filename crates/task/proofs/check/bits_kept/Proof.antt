@@ -7,20 +7,10 @@ use Rattle.task.proofs.Bounded.{every-first}
 use Rattle.task.proofs.check.bits_kept.Statement.{statement}
 use Rattle.task.proofs.check.bits_kept.Tie as tie
 
-sub-bits : tie.Need-sub-bits
-sub-bits c = search needs
-
-part-bits-start : tie.Need-part-bits-start
-part-bits-start c = search needs
-
-part-bits-end : tie.Need-part-bits-end
-part-bits-end c = search needs
-
-bits-requires : tie.Need-bits-requires
-bits-requires c κs = search needs
-
 returns : tie.Need-returns
-returns c = (c .bits .ensures) ∙ every-first (λ (b : ℕ). leb b 1) (c .before .before .before .args .count) (c .before .before .before .args .initial .now) (c .before .before .before .pre)
+returns c =
+    let at-args = c .before .before .before in
+    (c .bits .ensures) ∙ every-first (λ (b : ℕ). leb b 1) (at-args .args .count) (at-args .args .initial .now) (at-args .pre)
 
 pub bits-kept-spec : {M : Type 1} → statement M
-bits-kept-spec = tie.close (tie.spec sub-bits part-bits-start part-bits-end bits-requires returns)
+bits-kept-spec = tie.close (tie.spec (λ c. search needs) (λ c. search needs) (λ c. search needs) (λ c κs. search needs) returns)

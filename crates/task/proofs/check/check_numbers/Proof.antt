@@ -7,29 +7,22 @@ use borrow.Author.Needs.{needs}
 use Rattle.task.proofs.check.check_numbers.Statement.{statement}
 use Rattle.task.proofs.check.check_numbers.Tie as tie
 
-counts-kept-requires : tie.Need-counts-kept-requires
-counts-kept-requires c κs = search needs
-
 returns : tie.Need-returns
 returns c =
     refused-6 _ (failed (c .before .counts-kept .ensures) (c .if1 .taken))
 
-goal-kept-requires : tie.Need-goal-kept-requires
-goal-kept-requires c κs = search needs
-
 returns-2 : tie.Need-returns-2
 returns-2 c =
-    refused-7 _ (tested (c .before .before .before .counts-kept .ensures) (c .before .before .if1 .left)) (failed (c .before .goal-kept .ensures) (c .if2 .taken))
-
-long-enough-requires : tie.Need-long-enough-requires
-long-enough-requires c κs = search needs
+    let at-counts-kept = c .before .before .before in
+    refused-7 _ (tested (at-counts-kept .counts-kept .ensures) (c .before .before .if1 .left)) (failed (c .before .goal-kept .ensures) (c .if2 .taken))
 
 returns-3 : tie.Need-returns-3
 returns-3 c =
-    refused-5 _ (tested (c .before .before .before .before .before .counts-kept .ensures) (c .before .before .before .before .if1 .left)) (tested (c .before .before .before .goal-kept .ensures) (c .before .before .if2 .left)) (failed (c .before .long-enough .ensures) (c .if3 .taken))
-
-cast-bits-kept : tie.Need-cast-bits-kept
-cast-bits-kept c = search needs
+    let at-goal-kept = c .before .before .before in
+    let at-if1 = at-goal-kept .before in
+    let at-counts-kept = at-if1 .before in
+    refused-5 _ (tested (at-counts-kept .counts-kept .ensures) (at-if1 .if1 .left)) (tested (at-goal-kept .goal-kept .ensures) (c .before .before .if2 .left))
+    (failed (c .before .long-enough .ensures) (c .if3 .taken))
 
 bits-kept-requires : tie.Need-bits-kept-requires
 bits-kept-requires c κs = (lengths-tested _ .0 (tested (c .before .before .long-enough .ensures) (c .before .if3 .left))) .initial
@@ -37,92 +30,149 @@ bits-kept-requires c κs = (lengths-tested _ .0 (tested (c .before .before .long
 returns-4 : tie.Need-returns-4
 unfolding initial-kept twins-kept formulas-kept effects-kept operators-kept
 returns-4 c =
-    refused-8 _ (tested (c .before .before .before .before .before .before .before .before .counts-kept .ensures) (c .before .before .before .before .before .before .before .if1 .left)) (tested (c .before .before .before .before .before .before .goal-kept .ensures) (c .before .before .before .before .before .if2 .left)) (tested (c .before .before .before .before .long-enough .ensures) (c .before .before .before .if3 .left)) (failed (c .before .bits-kept .ensures) (c .if4 .taken))
-
-cast-twins-kept : tie.Need-cast-twins-kept
-cast-twins-kept c = search needs
-
-cast-twins-kept-2 : tie.Need-cast-twins-kept-2
-cast-twins-kept-2 c = search needs
-
-cast-twins-kept-3 : tie.Need-cast-twins-kept-3
-cast-twins-kept-3 c = search needs
+    let at-if3 = c .before .before .before in
+    let at-long-enough = at-if3 .before in
+    let at-if2 = at-long-enough .before in
+    let at-goal-kept = at-if2 .before in
+    let at-if1 = at-goal-kept .before in
+    let at-counts-kept = at-if1 .before in
+    refused-8 _ (tested (at-counts-kept .counts-kept .ensures) (at-if1 .if1 .left)) (tested (at-goal-kept .goal-kept .ensures) (at-if2 .if2 .left))
+    (tested (at-long-enough .long-enough .ensures) (at-if3 .if3 .left)) (failed (c .before .bits-kept .ensures) (c .if4 .taken))
 
 sub-twins-kept : tie.Need-sub-twins-kept
-sub-twins-kept c = omega (arith, (counts-tested _ .0 (tested (c .before .before .before .before .before .before .before .before .before .before .before .counts-kept .ensures) (c .before .before .before .before .before .before .before .before .before .before .if1 .left))) .twins)
+sub-twins-kept c =
+    let at-if1 = c .before .before .before .before .before .before .before .before .before .before in
+    let at-counts-kept = at-if1 .before in
+    omega (arith, (counts-tested _ .0 (tested (at-counts-kept .counts-kept .ensures) (at-if1 .if1 .left))) .twins)
 
 twins-kept-requires : tie.Need-twins-kept-requires
-twins-kept-requires c κs = ((lengths-tested _ .0 (tested (c .before .before .before .before .before .before .before .long-enough .ensures) (c .before .before .before .before .before .before .if3 .left))) .twins, omega (arith, (counts-tested _ .0 (tested (c .before .before .before .before .before .before .before .before .before .before .before .counts-kept .ensures) (c .before .before .before .before .before .before .before .before .before .before .if1 .left))) .variables))
+twins-kept-requires c κs =
+    let at-if3 = c .before .before .before .before .before .before in
+    let at-long-enough = at-if3 .before in
+    let at-if1 = at-long-enough .before .before .before in
+    let at-counts-kept = at-if1 .before in (
+      (lengths-tested _ .0 (tested (at-long-enough .long-enough .ensures) (at-if3 .if3 .left))) .twins,
+      omega (arith, (counts-tested _ .0 (tested (at-counts-kept .counts-kept .ensures) (at-if1 .if1 .left))) .variables),
+    )
 
 returns-5 : tie.Need-returns-5
 unfolding initial-kept twins-kept formulas-kept effects-kept operators-kept
 returns-5 c =
-    refused-9 _ (tested (c .before .before .before .before .before .before .before .before .before .before .before .before .before .counts-kept .ensures) (c .before .before .before .before .before .before .before .before .before .before .before .before .if1 .left)) (tested (c .before .before .before .before .before .before .before .before .before .before .before .goal-kept .ensures) (c .before .before .before .before .before .before .before .before .before .before .if2 .left)) (tested (c .before .before .before .before .before .before .before .before .before .long-enough .ensures) (c .before .before .before .before .before .before .before .before .if3 .left)) (tested (c .before .before .before .before .before .before .bits-kept .ensures) (c .before .before .before .before .before .if4 .left)) (failed (c .before .twins-kept .ensures) (c .if5 .taken))
-
-cast-rows-kept : tie.Need-cast-rows-kept
-cast-rows-kept c = search needs
+    let at-if4 = c .before .before .before .before .before in
+    let at-bits-kept = at-if4 .before in
+    let at-if3 = at-bits-kept .before .before in
+    let at-long-enough = at-if3 .before in
+    let at-if2 = at-long-enough .before in
+    let at-goal-kept = at-if2 .before in
+    let at-if1 = at-goal-kept .before in
+    let at-counts-kept = at-if1 .before in
+    refused-9 _ (tested (at-counts-kept .counts-kept .ensures) (at-if1 .if1 .left)) (tested (at-goal-kept .goal-kept .ensures) (at-if2 .if2 .left))
+    (tested (at-long-enough .long-enough .ensures) (at-if3 .if3 .left)) (tested (at-bits-kept .bits-kept .ensures) (at-if4 .if4 .left))
+    (failed (c .before .twins-kept .ensures) (c .if5 .taken))
 
 rows-kept-requires : tie.Need-rows-kept-requires
-rows-kept-requires c κs = (lengths-tested _ .0 (tested (c .before .before .before .before .before .before .before .before .before .before .long-enough .ensures) (c .before .before .before .before .before .before .before .before .before .if3 .left))) .formulas
+rows-kept-requires c κs =
+    let at-if3 = c .before .before .before .before .before .before .before .before .before in
+    let at-long-enough = at-if3 .before in
+    (lengths-tested _ .0 (tested (at-long-enough .long-enough .ensures) (at-if3 .if3 .left))) .formulas
 
 returns-6 : tie.Need-returns-6
 unfolding initial-kept twins-kept formulas-kept effects-kept operators-kept
 returns-6 c =
-    refused-10 _ (tested (c .before .before .before .before .before .before .before .before .before .before .before .before .before .before .before .before .counts-kept .ensures) (c .before .before .before .before .before .before .before .before .before .before .before .before .before .before .before .if1 .left)) (tested (c .before .before .before .before .before .before .before .before .before .before .before .before .before .before .goal-kept .ensures) (c .before .before .before .before .before .before .before .before .before .before .before .before .before .if2 .left)) (tested (c .before .before .before .before .before .before .before .before .before .before .before .before .long-enough .ensures) (c .before .before .before .before .before .before .before .before .before .before .before .if3 .left)) (tested (c .before .before .before .before .before .before .before .before .before .bits-kept .ensures) (c .before .before .before .before .before .before .before .before .if4 .left)) (tested (c .before .before .before .before .twins-kept .ensures) (c .before .before .before .if5 .left)) (failed (c .before .rows-kept .ensures) (c .if6 .taken))
-
-cast-rows-kept-2 : tie.Need-cast-rows-kept-2
-cast-rows-kept-2 c = search needs
+    let at-if5 = c .before .before .before in
+    let at-twins-kept = at-if5 .before in
+    let at-if4 = at-twins-kept .before .before .before .before in
+    let at-bits-kept = at-if4 .before in
+    let at-if3 = at-bits-kept .before .before in
+    let at-long-enough = at-if3 .before in
+    let at-if2 = at-long-enough .before in
+    let at-goal-kept = at-if2 .before in
+    let at-if1 = at-goal-kept .before in
+    let at-counts-kept = at-if1 .before in
+    refused-10 _ (tested (at-counts-kept .counts-kept .ensures) (at-if1 .if1 .left)) (tested (at-goal-kept .goal-kept .ensures) (at-if2 .if2 .left))
+    (tested (at-long-enough .long-enough .ensures) (at-if3 .if3 .left)) (tested (at-bits-kept .bits-kept .ensures) (at-if4 .if4 .left))
+    (tested (at-twins-kept .twins-kept .ensures) (at-if5 .if5 .left)) (failed (c .before .rows-kept .ensures) (c .if6 .taken))
 
 rows-kept-requires-2 : tie.Need-rows-kept-requires-2
-rows-kept-requires-2 c κs = (lengths-tested _ .0 (tested (c .before .before .before .before .before .before .before .before .before .before .before .before .before .long-enough .ensures) (c .before .before .before .before .before .before .before .before .before .before .before .before .if3 .left))) .effects
+rows-kept-requires-2 c κs =
+    let at-if3 = c .before .before .before .before .before .before .before .before .before .before .before .before in
+    let at-long-enough = at-if3 .before in
+    (lengths-tested _ .0 (tested (at-long-enough .long-enough .ensures) (at-if3 .if3 .left))) .effects
 
 returns-7 : tie.Need-returns-7
 unfolding initial-kept twins-kept formulas-kept effects-kept operators-kept
 returns-7 c =
-    refused-11 _ (tested (c .before .before .before .before .before .before .before .before .before .before .before .before .before .before .before .before .before .before .before .counts-kept .ensures) (c .before .before .before .before .before .before .before .before .before .before .before .before .before .before .before .before .before .before .if1 .left)) (tested (c .before .before .before .before .before .before .before .before .before .before .before .before .before .before .before .before .before .goal-kept .ensures) (c .before .before .before .before .before .before .before .before .before .before .before .before .before .before .before .before .if2 .left)) (tested (c .before .before .before .before .before .before .before .before .before .before .before .before .before .before .before .long-enough .ensures) (c .before .before .before .before .before .before .before .before .before .before .before .before .before .before .if3 .left)) (tested (c .before .before .before .before .before .before .before .before .before .before .before .before .bits-kept .ensures) (c .before .before .before .before .before .before .before .before .before .before .before .if4 .left)) (tested (c .before .before .before .before .before .before .before .twins-kept .ensures) (c .before .before .before .before .before .before .if5 .left)) (tested (c .before .before .before .before .rows-kept .ensures) (c .before .before .before .if6 .left)) (failed (c .before .rows-kept2 .ensures) (c .if7 .taken))
-
-cast-rows-kept-3 : tie.Need-cast-rows-kept-3
-cast-rows-kept-3 c = search needs
+    let at-if6 = c .before .before .before in
+    let at-rows-kept = at-if6 .before in
+    let at-if5 = at-rows-kept .before .before in
+    let at-twins-kept = at-if5 .before in
+    let at-if4 = at-twins-kept .before .before .before .before in
+    let at-bits-kept = at-if4 .before in
+    let at-if3 = at-bits-kept .before .before in
+    let at-long-enough = at-if3 .before in
+    let at-if2 = at-long-enough .before in
+    let at-goal-kept = at-if2 .before in
+    let at-if1 = at-goal-kept .before in
+    let at-counts-kept = at-if1 .before in
+    refused-11 _ (tested (at-counts-kept .counts-kept .ensures) (at-if1 .if1 .left)) (tested (at-goal-kept .goal-kept .ensures) (at-if2 .if2 .left))
+    (tested (at-long-enough .long-enough .ensures) (at-if3 .if3 .left)) (tested (at-bits-kept .bits-kept .ensures) (at-if4 .if4 .left))
+    (tested (at-twins-kept .twins-kept .ensures) (at-if5 .if5 .left)) (tested (at-rows-kept .rows-kept .ensures) (at-if6 .if6 .left))
+    (failed (c .before .rows-kept2 .ensures) (c .if7 .taken))
 
 rows-kept-requires-3 : tie.Need-rows-kept-requires-3
-rows-kept-requires-3 c κs = (lengths-tested _ .0 (tested (c .before .before .before .before .before .before .before .before .before .before .before .before .before .before .before .before .long-enough .ensures) (c .before .before .before .before .before .before .before .before .before .before .before .before .before .before .before .if3 .left))) .operators
+rows-kept-requires-3 c κs =
+    let at-if3 = c .before .before .before .before .before .before .before .before .before .before .before .before .before .before .before in
+    let at-long-enough = at-if3 .before in
+    (lengths-tested _ .0 (tested (at-long-enough .long-enough .ensures) (at-if3 .if3 .left))) .operators
 
 returns-8 : tie.Need-returns-8
 unfolding initial-kept twins-kept formulas-kept effects-kept operators-kept
 returns-8 c =
-    refused-12 _ (tested (c .before .before .before .before .before .before .before .before .before .before .before .before .before .before .before .before .before .before .before .before .before .before .counts-kept .ensures) (c .before .before .before .before .before .before .before .before .before .before .before .before .before .before .before .before .before .before .before .before .before .if1 .left)) (tested (c .before .before .before .before .before .before .before .before .before .before .before .before .before .before .before .before .before .before .before .before .goal-kept .ensures) (c .before .before .before .before .before .before .before .before .before .before .before .before .before .before .before .before .before .before .before .if2 .left)) (tested (c .before .before .before .before .before .before .before .before .before .before .before .before .before .before .before .before .before .before .long-enough .ensures) (c .before .before .before .before .before .before .before .before .before .before .before .before .before .before .before .before .before .if3 .left)) (tested (c .before .before .before .before .before .before .before .before .before .before .before .before .before .before .before .bits-kept .ensures) (c .before .before .before .before .before .before .before .before .before .before .before .before .before .before .if4 .left)) (tested (c .before .before .before .before .before .before .before .before .before .before .twins-kept .ensures) (c .before .before .before .before .before .before .before .before .before .if5 .left)) (tested (c .before .before .before .before .before .before .before .rows-kept .ensures) (c .before .before .before .before .before .before .if6 .left)) (tested (c .before .before .before .before .rows-kept2 .ensures) (c .before .before .before .if7 .left)) (failed (c .before .rows-kept3 .ensures) (c .if8 .taken))
+    let at-if7 = c .before .before .before in
+    let at-rows-kept2 = at-if7 .before in
+    let at-if6 = at-rows-kept2 .before .before in
+    let at-rows-kept = at-if6 .before in
+    let at-if5 = at-rows-kept .before .before in
+    let at-twins-kept = at-if5 .before in
+    let at-if4 = at-twins-kept .before .before .before .before in
+    let at-bits-kept = at-if4 .before in
+    let at-if3 = at-bits-kept .before .before in
+    let at-long-enough = at-if3 .before in
+    let at-if2 = at-long-enough .before in
+    let at-goal-kept = at-if2 .before in
+    let at-if1 = at-goal-kept .before in
+    let at-counts-kept = at-if1 .before in
+    refused-12 _ (tested (at-counts-kept .counts-kept .ensures) (at-if1 .if1 .left)) (tested (at-goal-kept .goal-kept .ensures) (at-if2 .if2 .left))
+    (tested (at-long-enough .long-enough .ensures) (at-if3 .if3 .left)) (tested (at-bits-kept .bits-kept .ensures) (at-if4 .if4 .left))
+    (tested (at-twins-kept .twins-kept .ensures) (at-if5 .if5 .left)) (tested (at-rows-kept .rows-kept .ensures) (at-if6 .if6 .left))
+    (tested (at-rows-kept2 .rows-kept2 .ensures) (at-if7 .if7 .left)) (failed (c .before .rows-kept3 .ensures) (c .if8 .taken))
 
 returns-9 : tie.Need-returns-9
 unfolding initial-kept twins-kept formulas-kept effects-kept operators-kept
 returns-9 c =
-    accepted _ (tested (c .before .before .before .before .before .before .before .before .before .before .before .before .before .before .before .before .before .before .before .before .before .before .counts-kept .ensures) (c .before .before .before .before .before .before .before .before .before .before .before .before .before .before .before .before .before .before .before .before .before .if1 .left)) (tested (c .before .before .before .before .before .before .before .before .before .before .before .before .before .before .before .before .before .before .before .before .goal-kept .ensures) (c .before .before .before .before .before .before .before .before .before .before .before .before .before .before .before .before .before .before .before .if2 .left)) (tested (c .before .before .before .before .before .before .before .before .before .before .before .before .before .before .before .before .before .before .long-enough .ensures) (c .before .before .before .before .before .before .before .before .before .before .before .before .before .before .before .before .before .if3 .left)) (tested (c .before .before .before .before .before .before .before .before .before .before .before .before .before .before .before .bits-kept .ensures) (c .before .before .before .before .before .before .before .before .before .before .before .before .before .before .if4 .left)) (tested (c .before .before .before .before .before .before .before .before .before .before .twins-kept .ensures) (c .before .before .before .before .before .before .before .before .before .if5 .left)) (tested (c .before .before .before .before .before .before .before .rows-kept .ensures) (c .before .before .before .before .before .before .if6 .left)) (tested (c .before .before .before .before .rows-kept2 .ensures) (c .before .before .before .if7 .left)) (tested (c .before .rows-kept3 .ensures) (c .if8 .left))
+    let at-if7 = c .before .before .before in
+    let at-rows-kept2 = at-if7 .before in
+    let at-if6 = at-rows-kept2 .before .before in
+    let at-rows-kept = at-if6 .before in
+    let at-if5 = at-rows-kept .before .before in
+    let at-twins-kept = at-if5 .before in
+    let at-if4 = at-twins-kept .before .before .before .before in
+    let at-bits-kept = at-if4 .before in
+    let at-if3 = at-bits-kept .before .before in
+    let at-long-enough = at-if3 .before in
+    let at-if2 = at-long-enough .before in
+    let at-goal-kept = at-if2 .before in
+    let at-if1 = at-goal-kept .before in
+    let at-counts-kept = at-if1 .before in
+    accepted _ (tested (at-counts-kept .counts-kept .ensures) (at-if1 .if1 .left)) (tested (at-goal-kept .goal-kept .ensures) (at-if2 .if2 .left))
+    (tested (at-long-enough .long-enough .ensures) (at-if3 .if3 .left)) (tested (at-bits-kept .bits-kept .ensures) (at-if4 .if4 .left))
+    (tested (at-twins-kept .twins-kept .ensures) (at-if5 .if5 .left)) (tested (at-rows-kept .rows-kept .ensures) (at-if6 .if6 .left))
+    (tested (at-rows-kept2 .rows-kept2 .ensures) (at-if7 .if7 .left)) (tested (c .before .rows-kept3 .ensures) (c .if8 .left))
 
 pub check-numbers-spec : {M : Type 1} → statement M
 check-numbers-spec =
     tie.close
     (tie.spec
-    counts-kept-requires
-    returns
-    goal-kept-requires
-    returns-2
-    long-enough-requires
-    returns-3
-    cast-bits-kept
-    bits-kept-requires
-    returns-4
-    cast-twins-kept
-    cast-twins-kept-2
-    cast-twins-kept-3
-    sub-twins-kept
-    twins-kept-requires
-    returns-5
-    cast-rows-kept
-    rows-kept-requires
-    returns-6
-    cast-rows-kept-2
-    rows-kept-requires-2
-    returns-7
-    cast-rows-kept-3
-    rows-kept-requires-3
-    returns-8
-    returns-9)
+    (λ c κs. search needs) returns (λ c κs. search needs) returns-2 (λ c κs. search needs) returns-3 (λ c. search needs) bits-kept-requires returns-4
+    (λ c. search needs) (λ c. search needs) (λ c. search needs) sub-twins-kept twins-kept-requires returns-5 (λ c. search needs) rows-kept-requires
+    returns-6 (λ c. search needs) rows-kept-requires-2 returns-7 (λ c. search needs) rows-kept-requires-3 returns-8 returns-9)

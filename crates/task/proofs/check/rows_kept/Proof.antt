@@ -26,26 +26,23 @@ loop-holds c = (omega arith, every-none _)
 row-at-requires : tie.Need-row-at-requires Inv-loop μ-loop
 row-at-requires c κs = row-there (c .before .before .before .args .table) (c .loop-test .taken) (c .before .before .before .pre)
 
-row-kept-requires : tie.Need-row-kept-requires Inv-loop μ-loop
-row-kept-requires c κs = search needs
-
 returns : tie.Need-returns Inv-loop μ-loop
 returns c =
-    let a = c .before .before .before .before .before .before .args in
-    every-stops _ _ _ (c .before .before .before .loop-test .taken)
-    (row-tested (a .table) (a .head) (a .words .now) (c .before .before .before .before .loop .i) (c .before .before .row-at .ensures) (c .before .row-kept .ensures) ∙ not-true _ (c .if1 .taken))
-
-add-i : tie.Need-add-i Inv-loop μ-loop
-add-i c = omega arith
-
-loop-less : tie.Need-loop-less Inv-loop μ-loop
-loop-less c = omega arith
+    let at-loop-test = c .before .before .before in
+    let at-loop = at-loop-test .before in
+    let at-args = at-loop .before .before in
+    let a = at-args .args in
+    every-stops _ _ _ (at-loop-test .loop-test .taken)
+    (row-tested (a .table) (a .head) (a .words .now) (at-loop .loop .i) (c .before .before .row-at .ensures) (c .before .row-kept .ensures) ∙ not-true _
+    (c .if1 .taken))
 
 loop-again : tie.Need-loop-again Inv-loop μ-loop
 loop-again c =
-    let a = c .before .before .before .before .before .before .args in
-    let kept = row-tested (a .table) (a .head) (a .words .now) (c .before .before .before .before .loop .i) (c .before .before .row-at .ensures) (c .before .row-kept .ensures) in
-    (omega arith, every-more _ _ (c .before .before .before .before .loop .inv .1) (kept ∙ not-false _ (c .if1 .left)))
+    let at-loop = c .before .before .before .before in
+    let at-args = at-loop .before .before in
+    let a = at-args .args in
+    let kept = row-tested (a .table) (a .head) (a .words .now) (at-loop .loop .i) (c .before .before .row-at .ensures) (c .before .row-kept .ensures) in
+    (omega arith, every-more _ _ (at-loop .loop .inv .1) (kept ∙ not-false _ (c .if1 .left)))
 
 returns-2 : tie.Need-returns-2 Inv-loop μ-loop
 returns-2 c = every-ends _ _ _ (c .before .loop .inv .0) (c .loop-test .left) (c .before .loop .inv .1)
@@ -56,11 +53,4 @@ rows-kept-spec =
     (tie.spec
     Inv-loop
     μ-loop
-    loop-holds
-    row-at-requires
-    row-kept-requires
-    returns
-    add-i
-    loop-less
-    loop-again
-    returns-2)
+    loop-holds row-at-requires (λ c κs. search needs) returns (λ c. omega arith) (λ c. omega arith) loop-again returns-2)

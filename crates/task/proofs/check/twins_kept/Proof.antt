@@ -36,19 +36,26 @@ array-read-if2 : tie.Need-array-read-if2 Inv-loop μ-loop
 array-read-if2 c = omega (arith, c .if1 .left, c .before .before .before .before .pre)
 
 returns-2 : tie.Need-returns-2 Inv-loop μ-loop
-returns-2 c = let s = c .before .before .before .before .before in let l = c .before .before .before .before .loop in every-stops _ _ _ (c .before .before .before .loop-test .taken) (named-before (s .args .twins .now) (l .k) (l .named) (l .inv .2) (s .args .bound) (s .pre .1) (c .before .if1 .left) (c .if2 .taken))
+returns-2 c =
+    let at-loop-test = c .before .before .before in
+    let at-loop = at-loop-test .before in
+    let at-entry = at-loop .before in
+    let s = at-entry in let l = at-loop .loop in every-stops _ _ _ (at-loop-test .loop-test .taken)
+    (named-before (s .args .twins .now) (l .k) (l .named) (l .inv .2) (s .args .bound) (s .pre .1) (c .before .if1 .left) (c .if2 .taken))
 
 array-write-named : tie.Need-array-write-named Inv-loop μ-loop
 array-write-named c = omega (arith, c .before .if1 .left, c .before .before .before .before .before .pre)
 
-add-k : tie.Need-add-k Inv-loop μ-loop
-add-k c = omega arith
-
-loop-less : tie.Need-loop-less Inv-loop μ-loop
-loop-less c = omega arith
-
 loop-again : tie.Need-loop-again Inv-loop μ-loop
-loop-again c = let s = c .before .before .before .before .before in let l = c .before .before .before .before .loop in (omega arith, every-more _ _ (l .inv .1) (named-now (s .args .twins .now) (l .k) (l .named) (l .inv .2) (s .args .bound) (s .pre .1) (c .before .if1 .left) (c .if2 .left)), named-more (s .args .twins .now) (l .k) (l .named) (l .inv .2) (omega (arith, s .pre, c .before .if1 .left)))
+loop-again c =
+    let at-loop = c .before .before .before .before in
+    let at-entry = at-loop .before in
+    let s = at-entry in let l = at-loop .loop in (
+      omega arith,
+      every-more _ _ (l .inv .1)
+          (named-now (s .args .twins .now) (l .k) (l .named) (l .inv .2) (s .args .bound) (s .pre .1) (c .before .if1 .left) (c .if2 .left)),
+      named-more (s .args .twins .now) (l .k) (l .named) (l .inv .2) (omega (arith, s .pre, c .before .if1 .left)),
+    )
 
 returns-3 : tie.Need-returns-3 Inv-loop μ-loop
 returns-3 c = every-ends _ _ _ (c .before .loop .inv .0) (c .loop-test .left) (c .before .loop .inv .1)
@@ -59,15 +66,5 @@ twins-kept-spec =
     (tie.spec
     Inv-loop
     μ-loop
-    loop-holds
-    mul-original
-    shared-slice-read-original
-    cast-original
-    returns
-    array-read-if2
-    returns-2
-    array-write-named
-    add-k
-    loop-less
-    loop-again
-    returns-3)
+    loop-holds mul-original shared-slice-read-original cast-original returns array-read-if2 returns-2 array-write-named (λ c. omega arith)
+    (λ c. omega arith) loop-again returns-3)

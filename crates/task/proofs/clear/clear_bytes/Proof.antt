@@ -15,9 +15,6 @@ abbrev μ-loop : tie.MeasureT-loop
 loop-holds : tie.Need-loop-holds Inv-loop μ-loop
 loop-holds c = cleared-none (c .args .bytes .now)
 
-slice-write-bytes : tie.Need-slice-write-bytes Inv-loop μ-loop
-slice-write-bytes c = omega arith
-
 add-i : tie.Need-add-i Inv-loop μ-loop
 add-i c = omega (arith, c .before .loop .inv)
 
@@ -43,10 +40,4 @@ clear-bytes-spec =
     (tie.spec
     Inv-loop
     μ-loop
-    loop-holds
-    slice-write-bytes
-    add-i
-    loop-less
-    loop-again
-    same-length
-    returns)
+    loop-holds (λ c. omega arith) add-i loop-less loop-again same-length returns)

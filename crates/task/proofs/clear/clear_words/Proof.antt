@@ -18,9 +18,6 @@ loop-holds c = cleared-none (c .args .words .now)
 mul-words : tie.Need-mul-words Inv-loop μ-loop
 mul-words c = omega (arith, c .before .before .good)
 
-slice-write-words : tie.Need-slice-write-words Inv-loop μ-loop
-slice-write-words c = omega arith
-
 add-i : tie.Need-add-i Inv-loop μ-loop
 add-i c = omega (arith, c .before .loop .inv)
 
@@ -46,11 +43,4 @@ clear-words-spec =
     (tie.spec
     Inv-loop
     μ-loop
-    loop-holds
-    mul-words
-    slice-write-words
-    add-i
-    loop-less
-    loop-again
-    same-length
-    returns)
+    loop-holds mul-words (λ c. omega arith) add-i loop-less loop-again same-length returns)

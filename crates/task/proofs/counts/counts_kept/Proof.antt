@@ -12,18 +12,6 @@ returns : tie.Need-returns
 unfolding counts-kept
 returns c = simp (lt-leb _ _ (c .if1 .taken))
 
-cast-if2 : tie.Need-cast-if2
-cast-if2 c = search needs
-
-cast-if2-2 : tie.Need-cast-if2-2
-cast-if2-2 c = search needs
-
-cast-if2-3 : tie.Need-cast-if2-3
-cast-if2-3 c = search needs
-
-add-if2 : tie.Need-add-if2
-add-if2 c = search needs
-
 returns-2 : tie.Need-returns-2
 unfolding counts-kept
 returns-2 c = simp (lt-leb _ _ (c .if2 .taken), and-false)
@@ -41,19 +29,15 @@ unfolding counts-kept
 returns-5 c = simp (lt-leb _ _ (c .if5 .taken), and-false)
 
 returns-6 : tie.Need-returns-6
-returns-6 c = counts-last _ (c .before .before .before .before .before .before .before .before .before .before .before .if1 .left) (c .before .before .before .before .before .before .before .if2 .left) (c .before .before .before .before .before .if3 .left) (c .before .before .before .if4 .left) (c .before .if5 .left)
+returns-6 c =
+    let at-if4 = c .before .before .before in
+    let at-if3 = at-if4 .before .before in
+    let at-if2 = at-if3 .before .before in
+    let at-if1 = at-if2 .before .before .before .before in
+    counts-last _ (at-if1 .if1 .left) (at-if2 .if2 .left) (at-if3 .if3 .left) (at-if4 .if4 .left) (c .before .if5 .left)
 
 pub counts-kept-spec : {M : Type 1} → statement M
 counts-kept-spec =
     tie.close
     (tie.spec
-    returns
-    cast-if2
-    cast-if2-2
-    cast-if2-3
-    add-if2
-    returns-2
-    returns-3
-    returns-4
-    returns-5
-    returns-6)
+    returns (λ c. search needs) (λ c. search needs) (λ c. search needs) (λ c. search needs) returns-2 returns-3 returns-4 returns-5 returns-6)

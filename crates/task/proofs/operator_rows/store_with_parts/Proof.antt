@@ -7,20 +7,14 @@ use borrow.Author.Needs.{needs}
 use Rattle.task.proofs.operator_rows.store_with_parts.Statement.{statement}
 use Rattle.task.proofs.operator_rows.store_with_parts.Tie as tie
 
-cost-of-requires : tie.Need-cost-of-requires
-cost-of-requires c κs = search needs
-
-store-operator-requires : tie.Need-store-operator-requires
-store-operator-requires c κs = search needs
-
-same-length : tie.Need-same-length
-same-length c = search needs
-
 returns : tie.Need-returns
 returns c =
-    let a = c .before .before .before .before .before .before .before .args in
-    c .before .before .store-operator .ensures ∙ ap (λ (k : ℕ). operator-stored (a .operators .now) (a .o) (operator (a .precondition) (a .effect) k)) (c .before .before .before .before .cost-of .ensures)
+    let at-cost-of = c .before .before .before .before in
+    let at-args = at-cost-of .before .before .before in
+    let a = at-args .args in
+    c .before .before .store-operator .ensures ∙ ap (λ (k : ℕ). operator-stored (a .operators .now) (a .o) (operator (a .precondition) (a .effect) k))
+    (at-cost-of .cost-of .ensures)
 
 pub store-with-parts-spec : {M : Type 1} → statement M
 store-with-parts-spec =
-    tie.close (tie.spec cost-of-requires store-operator-requires same-length returns)
+    tie.close (tie.spec (λ c κs. search needs) (λ c κs. search needs) (λ c. search needs) returns)

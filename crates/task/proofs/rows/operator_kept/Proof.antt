@@ -4,12 +4,9 @@ use borrow.Author.Needs.{needs}
 use Rattle.task.proofs.rows.operator_kept.Statement.{statement}
 use Rattle.task.proofs.rows.operator_kept.Tie as tie
 
-both-requires : tie.Need-both-requires
-both-requires c κs = search needs
-
 returns : tie.Need-returns
 unfolding operator-kept
 returns c = (c .both .ensures)
 
 pub operator-kept-spec : {M : Type 1} → statement M
-operator-kept-spec = tie.close (tie.spec both-requires returns)
+operator-kept-spec = tie.close (tie.spec (λ c κs. search needs) returns)

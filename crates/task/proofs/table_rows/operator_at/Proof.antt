@@ -3,18 +3,9 @@ use borrow.Author.Needs.{needs}
 use Rattle.task.proofs.table_rows.operator_at.Statement.{statement}
 use Rattle.task.proofs.table_rows.operator_at.Tie as tie
 
-precondition-of-requires : tie.Need-precondition-of-requires
-precondition-of-requires c κs = search needs
-
-effect-of-requires : tie.Need-effect-of-requires
-effect-of-requires c κs = search needs
-
-cost-of-requires : tie.Need-cost-of-requires
-cost-of-requires c κs = search needs
-
 returns : tie.Need-returns
 returns c = λ j. record { first = c .before .before .precondition-of .ensures j; second = c .before .effect-of .ensures j; third = c .cost-of .ensures j }
 
 pub operator-at-spec : {M : Type 1} → statement M
 operator-at-spec =
-    tie.close (tie.spec precondition-of-requires effect-of-requires cost-of-requires returns)
+    tie.close (tie.spec (λ c κs. search needs) (λ c κs. search needs) (λ c κs. search needs) returns)

@@ -3,20 +3,11 @@ use borrow.Author.Needs.{needs}
 use Rattle.task.proofs.table_rows.row_at.Statement.{statement}
 use Rattle.task.proofs.table_rows.row_at.Tie as tie
 
-enum-told : tie.Need-enum-told
-enum-told c = search needs
-
 three-at-requires : tie.Need-three-at-requires
 three-at-requires c κs = rw (c .enum-told .given .1) at (c .before .before .before .pre)
 
-enum-told-2 : tie.Need-enum-told-2
-enum-told-2 c = search needs
-
 three-at-requires-2 : tie.Need-three-at-requires-2
 three-at-requires-2 c κs = rw (c .enum-told2 .given .1) at (c .before .before .before .pre)
-
-enum-told-3 : tie.Need-enum-told-3
-enum-told-3 c = search needs
 
 operator-at-requires : tie.Need-operator-at-requires
 operator-at-requires c κs = rw (c .enum-told3 .given .1) at (c .before .before .before .pre)
@@ -34,12 +25,5 @@ pub row-at-spec : {M : Type 1} → statement M
 row-at-spec =
     tie.close
     (tie.spec
-    enum-told
-    three-at-requires
-    enum-told-2
-    three-at-requires-2
-    enum-told-3
-    operator-at-requires
-    returns
-    returns-2
+    (λ c. search needs) three-at-requires (λ c. search needs) three-at-requires-2 (λ c. search needs) operator-at-requires returns returns-2
     returns-3)

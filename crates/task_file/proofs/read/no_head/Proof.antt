@@ -7,21 +7,9 @@ use Rattle.task_file.proofs.read.no_head.Tie as tie
 use Rattle.task_file.proofs.read.no_head.Reads as reads
 use Rattle.task_file.proofs.read.no_head.Lts as lts
 
--- src/read.rt:15:28
-enum-known-h : tie.Need-enum-known-h
-enum-known-h c = search needs
-
--- src/read.rt:16:52
-enum-told : tie.Need-enum-told
-enum-told c = search needs
-
 -- src/read.rt:11:1
 returns : tie.Need-returns
 returns c = sym (ap no-task (c .before .h .given .1))
 
--- src/read.rt:11:1
-returns-2 : tie.Need-returns-2
-returns-2 c = search needs
-
 pub no-head-spec : {M : Type 1} → statement M
-no-head-spec = tie.close (tie.spec enum-known-h enum-told returns returns-2)
+no-head-spec = tie.close (tie.spec (λ c. search needs) (λ c. search needs) returns (λ c. search needs))

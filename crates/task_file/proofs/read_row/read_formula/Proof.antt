@@ -14,49 +14,37 @@ use Rattle.task_file.proofs.read_row.read_formula.Lts as lts
 use Rattle.task.proofs.rows.formula_kept.Reads as formula-kept-reads
 use Rattle.task_file.proofs.read_row.read_row.Reads as read-row-reads
 
--- src/read_row.rt:75:9
-read-row-requires : tie.Need-read-row-requires
-read-row-requires c κs = search needs
-
--- src/read_row.rt:77:9
-enum-known-r : tie.Need-enum-known-r
-enum-known-r c = search needs
-
--- src/read_row.rt:83:9
-enum-told : tie.Need-enum-told
-enum-told c = search needs
-
 -- src/read_row.rt:83:9
 returns : tie.Need-returns
-returns c = let a = c .before .before .before .before .args in let f = a .file .now in let d = drop (a .at) f in ap (row-told f) (c .enum-told .given .1) ∙ sym (kept-refused (a .head) (a .i) d Formulas (sym (c .before .before .read-row .ensures) ∙ ap (row-told f) (c .enum-told .given .1)))
-
--- src/read_row.rt:85:21
-cast-variables : tie.Need-cast-variables
-cast-variables c = search needs
-
--- src/read_row.rt:86:9
-formula-kept-requires : tie.Need-formula-kept-requires
-formula-kept-requires c κs = search needs
+returns c =
+    let at-args = c .before .before .before .before in
+    let a = at-args .args in let f = a .file .now in let d = drop (a .at) f in ap (row-told f) (c .enum-told .given .1) ∙ sym
+    (kept-refused (a .head) (a .i) d Formulas (sym (c .before .before .read-row .ensures) ∙ ap (row-told f) (c .enum-told .given .1)))
 
 -- src/read_row.rt:87:9
 returns-2 : tie.Need-returns-2
 unfolding formula-kept
-returns-2 c = let a = c .before .before .before .before .before .before .before .before .args in let f = a .file .now in let d = drop (a .at) f in sym (kept-broken (a .head) (a .i) d Formulas (sym (c .before .before .before .before .before .before .read-row .ensures) ∙ ap (row-told f) (c .before .before .before .before .r .given .1)) (sym (c .before .formula-kept .ensures) ∙ not-true _ (c .if1 .taken)))
+returns-2 c =
+    let at-r = c .before .before .before .before in
+    let at-read-row = at-r .before .before in
+    let at-args = at-read-row .before .before in
+    let a = at-args .args in let f = a .file .now in let d = drop (a .at) f in sym
+    (kept-broken (a .head) (a .i) d Formulas (sym (at-read-row .read-row .ensures) ∙ ap (row-told f) (at-r .r .given .1))
+    (sym (c .before .formula-kept .ensures) ∙ not-true _ (c .if1 .taken)))
 
 -- src/read_row.rt:72:1
 returns-3 : tie.Need-returns-3
 unfolding formula-kept
-returns-3 c = let a = c .before .before .before .before .before .before .before .before .args in let f = a .file .now in let d = drop (a .at) f in sym (kept-there (a .head) (a .i) d Formulas (sym (c .before .before .before .before .before .before .read-row .ensures) ∙ ap (row-told f) (c .before .before .before .before .r .given .1)) (sym (c .before .formula-kept .ensures) ∙ not-false _ (c .if1 .left)))
+returns-3 c =
+    let at-r = c .before .before .before .before in
+    let at-read-row = at-r .before .before in
+    let at-args = at-read-row .before .before in
+    let a = at-args .args in let f = a .file .now in let d = drop (a .at) f in sym
+    (kept-there (a .head) (a .i) d Formulas (sym (at-read-row .read-row .ensures) ∙ ap (row-told f) (at-r .r .given .1))
+    (sym (c .before .formula-kept .ensures) ∙ not-false _ (c .if1 .left)))
 
 pub read-formula-spec : {M : Type 1} → statement M
 read-formula-spec =
     tie.close
     (tie.spec
-    read-row-requires
-    enum-known-r
-    enum-told
-    returns
-    cast-variables
-    formula-kept-requires
-    returns-2
-    returns-3)
+    (λ c κs. search needs) (λ c. search needs) (λ c. search needs) returns (λ c. search needs) (λ c κs. search needs) returns-2 returns-3)

@@ -19,45 +19,48 @@ abbrev μ-loop : tie.MeasureT-loop
 loop-holds : tie.Need-loop-holds Inv-loop μ-loop
 loop-holds c = let a = c .before .before .args in rows-begin (a .table) (a .head) (a .count) (a .file .now) (a .at) (a .words .now)
 
-read-kept-requires : tie.Need-read-kept-requires Inv-loop μ-loop
-read-kept-requires c κs = search needs
-
-enum-known-r : tie.Need-enum-known-r Inv-loop μ-loop
-enum-known-r c = search needs
-
-enum-told : tie.Need-enum-told Inv-loop μ-loop
-enum-told c = search needs
-
-refused-requires : tie.Need-refused-requires Inv-loop μ-loop
-refused-requires c κs = search needs
-
 same-length : tie.Need-same-length Inv-loop μ-loop
 same-length c = c .before .before .before .before .before .loop .inv .size
 
 returns : tie.Need-returns Inv-loop μ-loop
 returns c =
-    let a = c .before .before .before .before .before .before .before .before .args in
-    let at = c .before .before .before .before .before .loop in
+    let at-read-kept = c .before .before .before in
+    let at-loop-test = at-read-kept .before in
+    let at-loop = at-loop-test .before in
+    let at-args = at-loop .before .before .before in
+    let a = at-args .args in
+    let at = at-loop .loop in
     let told = c .before .enum-told .given .1 in
-    rows-refused (a .table) (a .head) (a .count) (a .file .now) (a .at) (a .words .now) (at .words) (at .i) (at .place) (at .inv) (c .before .before .before .before .loop-test .taken)
-    (sym (c .before .before .before .read-kept .ensures) ∙ ap (row-told (a .file .now)) told) (c .refused .ensures ∙ ap lost-row told)
+    rows-refused (a .table) (a .head) (a .count) (a .file .now) (a .at) (a .words .now) (at .words) (at .i) (at .place) (at .inv)
+    (at-loop-test .loop-test .taken)
+    (sym (at-read-kept .read-kept .ensures) ∙ ap (row-told (a .file .now)) told) (c .refused .ensures ∙ ap lost-row told)
 
 store-row-requires : tie.Need-store-row-requires Inv-loop μ-loop
-store-row-requires c κs = omega (arith, row-there (c .before .before .before .before .before .before .before .before .before .args .table) (c .before .before .before .before .before .loop-test .taken) (c .before .before .before .before .before .before .before .before .before .pre), c .before .before .before .before .before .before .loop .inv .size)
+store-row-requires c κs =
+    let at-loop-test = c .before .before .before .before .before in
+    let at-loop = at-loop-test .before in
+    let at-args = at-loop .before .before .before in
+    omega (arith, row-there (at-args .args .table) (at-loop-test .loop-test .taken) (at-args .pre), at-loop .loop .inv .size)
 
 add-i : tie.Need-add-i Inv-loop μ-loop
-add-i c = omega (arith, row-there (c .before .before .before .before .before .before .before .before .before .before .before .before .args .table) (c .before .before .before .before .before .before .before .before .loop-test .taken) (c .before .before .before .before .before .before .before .before .before .before .before .before .pre), c .before .before .before .before .before .before .before .before .before .before .before .before .good)
-
-loop-less : tie.Need-loop-less Inv-loop μ-loop
-loop-less c = omega arith
+add-i c =
+    let at-loop-test = c .before .before .before .before .before .before .before .before in
+    let at-args = at-loop-test .before .before .before .before in
+    omega (arith, row-there (at-args .args .table) (at-loop-test .loop-test .taken) (at-args .pre), at-args .good)
 
 loop-again : tie.Need-loop-again Inv-loop μ-loop
 loop-again c =
-    let a = c .before .before .before .before .before .before .before .before .before .before .before .before .args in
-    let at = c .before .before .before .before .before .before .before .before .before .loop in
+    let at-r = c .before .before .before .before .before in
+    let at-read-kept = at-r .before .before in
+    let at-loop-test = at-read-kept .before in
+    let at-loop = at-loop-test .before in
+    let at-args = at-loop .before .before .before in
+    let a = at-args .args in
+    let at = at-loop .loop in
     rw (c .before .before .store-row .ensures)
-    (rows-more (a .table) (a .head) (a .count) (a .file .now) (a .at) (a .words .now) (at .words) (at .i) (at .place) (c .before .before .before .before .before .before .before .before .before .before .before .before .pre) (at .inv) (c .before .before .before .before .before .before .before .before .loop-test .taken)
-    (sym (c .before .before .before .before .before .before .before .read-kept .ensures) ∙ ap (row-told (a .file .now)) (c .before .before .before .before .before .r .given .1)))
+    (rows-more (a .table) (a .head) (a .count) (a .file .now) (a .at) (a .words .now) (at .words) (at .i) (at .place) (at-args .pre) (at .inv)
+    (at-loop-test .loop-test .taken)
+    (sym (at-read-kept .read-kept .ensures) ∙ ap (row-told (a .file .now)) (at-r .r .given .1)))
 
 same-length-2 : tie.Need-same-length-2 Inv-loop μ-loop
 same-length-2 c = c .before .loop .inv .size
@@ -74,16 +77,5 @@ read-rows-spec =
     (tie.spec
     Inv-loop
     μ-loop
-    loop-holds
-    read-kept-requires
-    enum-known-r
-    enum-told
-    refused-requires
-    same-length
-    returns
-    store-row-requires
-    add-i
-    loop-less
-    loop-again
-    same-length-2
-    returns-2)
+    loop-holds (λ c κs. search needs) (λ c. search needs) (λ c. search needs) (λ c κs. search needs) same-length returns store-row-requires add-i
+    (λ c. omega arith) loop-again same-length-2 returns-2)

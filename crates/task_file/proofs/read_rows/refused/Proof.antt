@@ -7,21 +7,9 @@ use Rattle.task_file.proofs.read_rows.refused.Tie as tie
 use Rattle.task_file.proofs.read_rows.refused.Reads as reads
 use Rattle.task_file.proofs.read_rows.refused.Lts as lts
 
--- src/read_rows.rt:17:20
-enum-known-r : tie.Need-enum-known-r
-enum-known-r c = search needs
-
--- src/read_rows.rt:18:66
-enum-told : tie.Need-enum-told
-enum-told c = search needs
-
 -- src/read_rows.rt:13:1
 returns : tie.Need-returns
 returns c = sym (ap lost-row (c .before .r .given .1))
 
--- src/read_rows.rt:13:1
-returns-2 : tie.Need-returns-2
-returns-2 c = search needs
-
 pub refused-spec : {M : Type 1} → statement M
-refused-spec = tie.close (tie.spec enum-known-r enum-told returns returns-2)
+refused-spec = tie.close (tie.spec (λ c. search needs) (λ c. search needs) returns (λ c. search needs))

@@ -14,18 +14,12 @@ use Rattle.task_file.proofs.read_state.left.Reads as left-reads
 use Rattle.task_file.proofs.read_state.spare_clear.Reads as spare-clear-reads
 use Rattle.task_file.proofs.read_state.unpack.Reads as unpack-reads
 
--- src/read_state.rt:48:18
-add-bytes : tie.Need-add-bytes
-add-bytes c = search needs
-
--- src/read_state.rt:49:8
-left-requires : tie.Need-left-requires
-left-requires c κs = search needs
-
 -- src/read_state.rt:50:9
 returns : tie.Need-returns
 unfolding bytes-for
-returns c = let a = c .before .before .before .before .args in state-short (a .count) (a .file .now) (a .at) (a .initial .now) (omega (arith, c .before .left .ensures, c .if1 .taken))
+returns c =
+    let at-args = c .before .before .before .before in
+    let a = at-args .args in state-short (a .count) (a .file .now) (a .at) (a .initial .now) (omega (arith, c .before .left .ensures, c .if1 .taken))
 
 -- src/read_state.rt:52:9
 spare-clear-requires : tie.Need-spare-clear-requires
@@ -35,16 +29,20 @@ spare-clear-requires c κs = omega (arith, c .before .left .ensures, c .if1 .lef
 -- src/read_state.rt:53:9
 returns-2 : tie.Need-returns-2
 unfolding bytes-for
-returns-2 c = let a = c .before .before .before .before .before .before .args in state-unclear (a .count) (a .file .now) (a .at) (a .initial .now) (omega (arith, c .before .before .before .left .ensures, c .before .before .if1 .left)) (sym (c .before .spare-clear .ensures) ∙ not-true _ (c .if2 .taken))
+returns-2 c =
+    let at-left = c .before .before .before in
+    let at-args = at-left .before .before .before in
+    let a = at-args .args in state-unclear (a .count) (a .file .now) (a .at) (a .initial .now)
+    (omega (arith, at-left .left .ensures, c .before .before .if1 .left)) (sym (c .before .spare-clear .ensures) ∙ not-true _ (c .if2 .taken))
 
 -- src/read_state.rt:55:5
 unpack-requires : tie.Need-unpack-requires
 unfolding bytes-for
-unpack-requires c κs = (omega (arith, c .before .before .before .before .left .ensures, c .before .before .before .if1 .left), c .before .before .before .before .before .before .before .pre .0)
-
--- src/read_state.rt:56:15
-add-t6 : tie.Need-add-t6
-add-t6 c = search needs
+unpack-requires c κs =
+    let at-if1 = c .before .before .before in
+    let at-left = at-if1 .before in
+    let at-pre = at-left .before .before .before in
+    (omega (arith, at-left .left .ensures, at-if1 .if1 .left), at-pre .pre .0)
 
 -- src/read_state.rt:44:1
 same-length : tie.Need-same-length
@@ -53,18 +51,18 @@ same-length c = c .before .before .unpack .kept .1 .1 .1 .0
 -- src/read_state.rt:44:1
 returns-3 : tie.Need-returns-3
 unfolding bytes-for
-returns-3 c = let a = c .before .before .before .before .before .before .before .before .before .before .args in state-there (a .count) (a .file .now) (a .at) (a .initial .now) (c .before .before .unpack .last .1 .1 .1 .0) (omega (arith, c .before .before .before .before .before .before .before .left .ensures, c .before .before .before .before .before .before .if1 .left)) (sym (c .before .before .before .before .before .spare-clear .ensures) ∙ not-false _ (c .before .before .before .before .if2 .left)) (c .before .before .unpack .ensures)
+returns-3 c =
+    let at-if2 = c .before .before .before .before in
+    let at-spare-clear = at-if2 .before in
+    let at-if1 = at-spare-clear .before in
+    let at-left = at-if1 .before in
+    let at-args = at-left .before .before .before in
+    let a = at-args .args in state-there (a .count) (a .file .now) (a .at) (a .initial .now) (c .before .before .unpack .last .1 .1 .1 .0)
+    (omega (arith, at-left .left .ensures, at-if1 .if1 .left)) (sym (at-spare-clear .spare-clear .ensures) ∙ not-false _ (at-if2 .if2 .left))
+    (c .before .before .unpack .ensures)
 
 pub read-state-spec : {M : Type 1} → statement M
 read-state-spec =
     tie.close
     (tie.spec
-    add-bytes
-    left-requires
-    returns
-    spare-clear-requires
-    returns-2
-    unpack-requires
-    add-t6
-    same-length
-    returns-3)
+    (λ c. search needs) (λ c κs. search needs) returns spare-clear-requires returns-2 unpack-requires (λ c. search needs) same-length returns-3)

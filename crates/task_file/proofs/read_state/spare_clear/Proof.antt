@@ -24,18 +24,10 @@ shared-slice-read-byte : tie.Need-shared-slice-read-byte
 unfolding bytes-for
 shared-slice-read-byte c = omega (arith, c .before .before .pre, c .before .before .good)
 
--- src/read_state.rt:27:14
-cast-result : tie.Need-cast-result
-cast-result c = search needs
-
--- src/read_state.rt:27:5
-shr-result : tie.Need-shr-result
-shr-result c = search needs
-
 -- src/read_state.rt:19:1
 returns-2 : tie.Need-returns-2
 returns-2 c = let a = c .before .before .args in sym (clear-byte (a .file .now) (a .at) (a .count) (c .before .if1 .left))
 
 pub spare-clear-spec : {M : Type 1} → statement M
 spare-clear-spec =
-    tie.close (tie.spec returns add-byte shared-slice-read-byte cast-result shr-result returns-2)
+    tie.close (tie.spec returns add-byte shared-slice-read-byte (λ c. search needs) (λ c. search needs) returns-2)

@@ -28,31 +28,28 @@ add-byte c = omega (arith, c .before .before .pre, c .before .before .good, c .b
 -- src/read_state.rt:37:20
 shared-slice-read-byte : tie.Need-shared-slice-read-byte Inv-loop μ-loop
 unfolding bytes-for
-shared-slice-read-byte c = omega (arith, c .before .before .before .pre, c .before .before .before .good, c .before .before .loop .inv .size, c .before .before .loop .inv .within)
-
--- src/read_state.rt:38:32
-cast-initial : tie.Need-cast-initial Inv-loop μ-loop
-cast-initial c = omega arith
-
--- src/read_state.rt:38:23
-shr-initial : tie.Need-shr-initial Inv-loop μ-loop
-shr-initial c = omega arith
+shared-slice-read-byte c =
+    let at-pre = c .before .before .before in
+    omega (arith, at-pre .pre, at-pre .good, c .before .before .loop .inv .size, c .before .before .loop .inv .within)
 
 -- src/read_state.rt:38:9
 slice-write-initial : tie.Need-slice-write-initial Inv-loop μ-loop
-slice-write-initial c = omega (arith, c .before .before .before .pre, c .before .before .before .good, c .before .before .loop .inv .size, c .before .before .loop .inv .within)
+slice-write-initial c =
+    let at-pre = c .before .before .before in
+    omega (arith, at-pre .pre, at-pre .good, c .before .before .loop .inv .size, c .before .before .loop .inv .within)
 
 -- src/read_state.rt:39:9
 add-v : tie.Need-add-v Inv-loop μ-loop
-add-v c = omega (arith, c .before .before .before .pre, c .before .before .before .good, c .before .before .loop .inv .size, c .before .before .loop .inv .within)
-
--- src/read_state.rt:36:5
-loop-less : tie.Need-loop-less Inv-loop μ-loop
-loop-less c = omega arith
+add-v c =
+    let at-pre = c .before .before .before in
+    omega (arith, at-pre .pre, at-pre .good, c .before .before .loop .inv .size, c .before .before .loop .inv .within)
 
 -- src/read_state.rt:36:5
 loop-again : tie.Need-loop-again Inv-loop μ-loop
-loop-again c = let a = c .before .before .before .args in unpack-more (a .count) (a .file .now) (a .at) (a .initial .now) (c .before .before .loop .initial) (c .before .before .loop .v) (c .before .before .before .pre .1) (c .before .before .loop .inv) (c .before .loop-test .taken)
+loop-again c =
+    let at-args = c .before .before .before in
+    let a = at-args .args in unpack-more (a .count) (a .file .now) (a .at) (a .initial .now) (c .before .before .loop .initial) (c .before .before .loop .v)
+    (at-args .pre .1) (c .before .before .loop .inv) (c .before .loop-test .taken)
 
 -- src/read_state.rt:31:1
 same-length : tie.Need-same-length Inv-loop μ-loop
@@ -60,7 +57,9 @@ same-length c = c .before .loop .inv .size
 
 -- src/read_state.rt:31:1
 returns : tie.Need-returns Inv-loop μ-loop
-returns c = let a = c .before .before .args in unpack-end (a .count) (a .file .now) (a .at) (a .initial .now) (c .before .loop .initial) (c .before .loop .v) (c .before .loop .inv) (c .loop-test .left)
+returns c =
+    let a = c .before .before .args in unpack-end (a .count) (a .file .now) (a .at) (a .initial .now) (c .before .loop .initial) (c .before .loop .v)
+    (c .before .loop .inv) (c .loop-test .left)
 
 pub unpack-spec : {M : Type 1} → statement M
 unpack-spec =
@@ -68,14 +67,5 @@ unpack-spec =
     (tie.spec
     Inv-loop
     μ-loop
-    loop-holds
-    add-byte
-    shared-slice-read-byte
-    cast-initial
-    shr-initial
-    slice-write-initial
-    add-v
-    loop-less
-    loop-again
-    same-length
-    returns)
+    loop-holds add-byte shared-slice-read-byte (λ c. omega arith) (λ c. omega arith) slice-write-initial add-v (λ c. omega arith) loop-again
+    same-length returns)

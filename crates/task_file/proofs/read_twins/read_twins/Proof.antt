@@ -23,38 +23,44 @@ abbrev μ-loop : tie.MeasureT-loop
 loop-holds : tie.Need-loop-holds Inv-loop μ-loop
 loop-holds c = let a = c .before .before .args in (twins-begin (a .bound) (a .count) (a .file .now) (a .at) (a .twins .now), named-none (a .twins .now))
 
-read-word-requires : tie.Need-read-word-requires Inv-loop μ-loop
-read-word-requires c κs = search needs
-
-enum-known-f : tie.Need-enum-known-f Inv-loop μ-loop
-enum-known-f c = search needs
-
-enum-told : tie.Need-enum-told Inv-loop μ-loop
-enum-told c = search needs
-
-refused-requires : tie.Need-refused-requires Inv-loop μ-loop
-refused-requires c κs = search needs
-
 same-length : tie.Need-same-length Inv-loop μ-loop
 same-length c = c .before .before .before .before .before .loop .inv .0 .size
 
 returns : tie.Need-returns Inv-loop μ-loop
-returns c = let a = c .before .before .before .before .before .before .before .before .args in let l = c .before .before .before .before .before .loop in twins-ended (a .bound) (a .count) (a .file .now) (a .at) (a .twins .now) (l .twins) (l .k) (l .place) (l .inv .0) (c .before .before .before .before .loop-test .taken) (sym (c .before .before .before .read-word .ensures) ∙ ap (field-told (a .file .now)) (c .before .enum-told .given .1)) (c .refused .ensures ∙ ap lost-word (c .before .enum-told .given .1))
-
-cast-original : tie.Need-cast-original Inv-loop μ-loop
-cast-original c = search needs
+returns c =
+    let at-read-word = c .before .before .before in
+    let at-loop-test = at-read-word .before in
+    let at-loop = at-loop-test .before in
+    let at-args = at-loop .before .before .before in
+    let a = at-args .args in let l = at-loop .loop in twins-ended (a .bound) (a .count) (a .file .now) (a .at) (a .twins .now) (l .twins) (l .k) (l .place)
+    (l .inv .0) (at-loop-test .loop-test .taken) (sym (at-read-word .read-word .ensures) ∙ ap (field-told (a .file .now)) (c .before .enum-told .given .1))
+    (c .refused .ensures ∙ ap lost-word (c .before .enum-told .given .1))
 
 mul-twins : tie.Need-mul-twins Inv-loop μ-loop
-mul-twins c = omega (arith, c .before .before .before .before .before .before .before .before .pre, c .before .before .before .before .before .before .before .before .good, c .before .before .before .before .before .loop .inv .0 .size)
+mul-twins c =
+    let at-loop = c .before .before .before .before .before in
+    let at-pre = at-loop .before .before .before in
+    omega (arith, at-pre .pre, at-pre .good, at-loop .loop .inv .0 .size)
 
 slice-write-twins : tie.Need-slice-write-twins Inv-loop μ-loop
-slice-write-twins c = omega (arith, c .before .before .before .before .before .before .before .before .pre, c .before .before .before .before .before .before .before .before .good, c .before .before .before .before .before .loop .inv .0 .size)
+slice-write-twins c =
+    let at-loop = c .before .before .before .before .before in
+    let at-pre = at-loop .before .before .before in
+    omega (arith, at-pre .pre, at-pre .good, at-loop .loop .inv .0 .size)
 
 same-length-2 : tie.Need-same-length-2 Inv-loop μ-loop
 same-length-2 c = simp length-set (c .before .before .before .before .before .before .loop .inv .0 .size)
 
 returns-2 : tie.Need-returns-2 Inv-loop μ-loop
-returns-2 c = let s = c .before .before .before .before .before .before .before .before .before in let a = s .args in let l = c .before .before .before .before .before .before .loop in twins-broken (a .bound) (a .count) (a .file .now) (a .at) (a .twins .now) (l .twins) (l .k) (l .place) (s .pre .0) (l .inv .0) (c .before .before .before .before .before .loop-test .taken) (sym (c .before .before .before .before .read-word .ensures) ∙ ap (field-told (a .file .now)) (c .before .before .f .given .1)) (twin-high (a .bound) (s .pre .1) (l .twins) (l .k) _ (omega (arith, s .pre .0, l .inv .0 .size, c .before .before .before .before .before .loop-test .taken)) (c .if1 .taken))
+returns-2 c =
+    let at-read-word = c .before .before .before .before in
+    let at-loop-test = at-read-word .before in
+    let at-loop = at-loop-test .before in
+    let at-entry = at-loop .before .before .before in
+    let s = at-entry in let a = s .args in let l = at-loop .loop in twins-broken (a .bound) (a .count) (a .file .now) (a .at) (a .twins .now) (l .twins) (l .k)
+    (l .place) (s .pre .0) (l .inv .0) (at-loop-test .loop-test .taken)
+    (sym (at-read-word .read-word .ensures) ∙ ap (field-told (a .file .now)) (c .before .before .f .given .1))
+    (twin-high (a .bound) (s .pre .1) (l .twins) (l .k) _ (omega (arith, s .pre .0, l .inv .0 .size, at-loop-test .loop-test .taken)) (c .if1 .taken))
 
 array-read-if2 : tie.Need-array-read-if2 Inv-loop μ-loop
 array-read-if2 c = omega (arith, c .if1 .left, c .before .before .before .before .before .before .before .before .before .pre)
@@ -63,25 +69,52 @@ same-length-3 : tie.Need-same-length-3 Inv-loop μ-loop
 same-length-3 c = simp length-set (c .before .before .before .before .before .before .before .loop .inv .0 .size)
 
 returns-3 : tie.Need-returns-3 Inv-loop μ-loop
-returns-3 c = let s = c .before .before .before .before .before .before .before .before .before .before in let a = s .args in let l = c .before .before .before .before .before .before .before .loop in twins-broken (a .bound) (a .count) (a .file .now) (a .at) (a .twins .now) (l .twins) (l .k) (l .place) (s .pre .0) (l .inv .0) (c .before .before .before .before .before .before .loop-test .taken) (sym (c .before .before .before .before .before .read-word .ensures) ∙ ap (field-told (a .file .now)) (c .before .before .before .f .given .1)) (twin-before (a .bound) (s .pre .1) (l .twins) (l .k) _ (omega (arith, s .pre .0, l .inv .0 .size, c .before .before .before .before .before .before .loop-test .taken)) (l .named) (l .inv .1) (c .before .if1 .left) (c .if2 .taken))
+returns-3 c =
+    let at-f = c .before .before .before in
+    let at-read-word = at-f .before .before in
+    let at-loop-test = at-read-word .before in
+    let at-loop = at-loop-test .before in
+    let at-entry = at-loop .before .before .before in
+    let s = at-entry in let a = s .args in let l = at-loop .loop in twins-broken (a .bound) (a .count) (a .file .now) (a .at) (a .twins .now) (l .twins) (l .k)
+    (l .place) (s .pre .0) (l .inv .0) (at-loop-test .loop-test .taken)
+    (sym (at-read-word .read-word .ensures) ∙ ap (field-told (a .file .now)) (at-f .f .given .1))
+    (twin-before (a .bound) (s .pre .1) (l .twins) (l .k) _ (omega (arith, s .pre .0, l .inv .0 .size, at-loop-test .loop-test .taken)) (l .named) (l .inv .1)
+    (c .before .if1 .left) (c .if2 .taken))
 
 array-write-named : tie.Need-array-write-named Inv-loop μ-loop
-array-write-named c = omega (arith, c .before .if1 .left, c .before .before .before .before .before .before .before .before .before .before .pre)
+array-write-named c =
+    let at-pre = c .before .before .before .before .before .before .before .before .before .before in
+    omega (arith, c .before .if1 .left, at-pre .pre)
 
 add-k : tie.Need-add-k Inv-loop μ-loop
-add-k c = omega (arith, c .before .before .before .before .before .before .before .before .before .before .pre, c .before .before .before .before .before .before .before .before .before .before .good, c .before .before .before .before .before .before .before .loop .inv .0 .size)
-
-loop-less : tie.Need-loop-less Inv-loop μ-loop
-loop-less c = omega arith
+add-k c =
+    let at-loop = c .before .before .before .before .before .before .before in
+    let at-pre = at-loop .before .before .before in
+    omega (arith, at-pre .pre, at-pre .good, at-loop .loop .inv .0 .size)
 
 loop-again : tie.Need-loop-again Inv-loop μ-loop
-loop-again c = let s = c .before .before .before .before .before .before .before .before .before .before in let a = s .args in let l = c .before .before .before .before .before .before .before .loop in let fits : l .k < length (l .twins) = omega (arith, s .pre .0, l .inv .0 .size, c .before .before .before .before .before .before .loop-test .taken) in (twins-more (a .bound) (a .count) (a .file .now) (a .at) (a .twins .now) (l .twins) (l .k) (l .place) (s .pre .0) (l .inv .0) (c .before .before .before .before .before .before .loop-test .taken) (sym (c .before .before .before .before .before .read-word .ensures) ∙ ap (field-told (a .file .now)) (c .before .before .before .f .given .1)) (twin-now (a .bound) (s .pre .1) (l .twins) (l .k) _ fits (l .named) (l .inv .1) (c .before .if1 .left) (c .if2 .left)), twin-marked (a .bound) (s .pre .1) (l .twins) (l .k) _ fits (l .named) (l .inv .1) (c .before .if1 .left))
+loop-again c =
+    let at-f = c .before .before .before in
+    let at-read-word = at-f .before .before in
+    let at-loop-test = at-read-word .before in
+    let at-loop = at-loop-test .before in
+    let at-entry = at-loop .before .before .before in
+    let s = at-entry in let a = s .args in let l = at-loop .loop in let fits : l .k < length (l .twins) = omega
+    (arith, s .pre .0, l .inv .0 .size, at-loop-test .loop-test .taken) in (
+      twins-more (a .bound) (a .count) (a .file .now) (a .at) (a .twins .now) (l .twins) (l .k) (l .place) (s .pre .0) (l .inv .0)
+          (at-loop-test .loop-test .taken) (sym (at-read-word .read-word .ensures) ∙ ap (field-told (a .file .now)) (at-f .f .given .1))
+          (twin-now (a .bound) (s .pre .1) (l .twins) (l .k) _ fits (l .named) (l .inv .1) (c .before .if1 .left) (c .if2 .left)),
+      twin-marked (a .bound) (s .pre .1) (l .twins) (l .k) _ fits (l .named) (l .inv .1) (c .before .if1 .left),
+    )
 
 same-length-4 : tie.Need-same-length-4 Inv-loop μ-loop
 same-length-4 c = c .before .loop .inv .0 .size
 
 returns-4 : tie.Need-returns-4 Inv-loop μ-loop
-returns-4 c = let a = c .before .before .before .before .args in let l = c .before .loop in twins-end (a .bound) (a .count) (a .file .now) (a .at) (a .twins .now) (l .twins) (l .k) (l .place) (l .inv .0) (c .loop-test .left)
+returns-4 c =
+    let at-args = c .before .before .before .before in
+    let a = at-args .args in let l = c .before .loop in twins-end (a .bound) (a .count) (a .file .now) (a .at) (a .twins .now) (l .twins) (l .k) (l .place)
+    (l .inv .0) (c .loop-test .left)
 
 pub read-twins-spec : {M : Type 1} → statement M
 read-twins-spec =
@@ -89,24 +122,6 @@ read-twins-spec =
     (tie.spec
     Inv-loop
     μ-loop
-    loop-holds
-    read-word-requires
-    enum-known-f
-    enum-told
-    refused-requires
-    same-length
-    returns
-    cast-original
-    mul-twins
-    slice-write-twins
-    same-length-2
-    returns-2
-    array-read-if2
-    same-length-3
-    returns-3
-    array-write-named
-    add-k
-    loop-less
-    loop-again
-    same-length-4
-    returns-4)
+    loop-holds (λ c κs. search needs) (λ c. search needs) (λ c. search needs) (λ c κs. search needs) same-length returns (λ c. search needs) mul-twins
+    slice-write-twins same-length-2 returns-2 array-read-if2 same-length-3 returns-3 array-write-named add-k (λ c. omega arith) loop-again
+    same-length-4 returns-4)

@@ -7,21 +7,9 @@ use Rattle.task_file.proofs.read_twins.refused.Tie as tie
 use Rattle.task_file.proofs.read_twins.refused.Reads as reads
 use Rattle.task_file.proofs.read_twins.refused.Lts as lts
 
--- src/read_twins.rt:17:23
-enum-known-f : tie.Need-enum-known-f
-enum-known-f c = search needs
-
--- src/read_twins.rt:18:45
-enum-told : tie.Need-enum-told
-enum-told c = search needs
-
 -- src/read_twins.rt:13:1
 returns : tie.Need-returns
 returns c = sym (ap lost-word (c .before .f .given .1))
 
--- src/read_twins.rt:13:1
-returns-2 : tie.Need-returns-2
-returns-2 c = search needs
-
 pub refused-spec : {M : Type 1} → statement M
-refused-spec = tie.close (tie.spec enum-known-f enum-told returns returns-2)
+refused-spec = tie.close (tie.spec (λ c. search needs) (λ c. search needs) returns (λ c. search needs))

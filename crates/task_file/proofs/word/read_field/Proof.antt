@@ -14,31 +14,36 @@ use Rattle.task_file.proofs.word.read_word.Reads as read-word-reads
 returns : tie.Need-returns
 returns c = sym (field-absent (c .before .before .args .bit) (drop (c .before .before .args .at) (c .before .before .args .file .now)) (c .if1 .taken))
 
--- src/word.rt:30:9
-read-word-requires : tie.Need-read-word-requires
-read-word-requires c κs = search needs
-
--- src/word.rt:31:23
-enum-known-f : tie.Need-enum-known-f
-enum-known-f c = search needs
-
--- src/word.rt:32:9
-enum-told : tie.Need-enum-told
-enum-told c = search needs
-
 -- src/word.rt:32:9
 returns-2 : tie.Need-returns-2
-returns-2 c = let s = c .before .before .before .before .before in ap (field-told (s .args .file .now)) (c .enum-told .given .1) ∙ sym (field-refused (s .args .bit) (drop (s .args .at) (s .args .file .now)) (c .before .before .before .if1 .left) (sym (c .before .before .read-word .ensures) ∙ ap (field-told (s .args .file .now)) (c .enum-told .given .1)))
+returns-2 c =
+    let at-if1 = c .before .before .before in
+    let at-entry = at-if1 .before .before in
+    let s = at-entry in ap (field-told (s .args .file .now)) (c .enum-told .given .1) ∙ sym
+    (field-refused (s .args .bit) (drop (s .args .at) (s .args .file .now)) (at-if1 .if1 .left)
+    (sym (c .before .before .read-word .ensures) ∙ ap (field-told (s .args .file .now)) (c .enum-told .given .1)))
 
 -- src/word.rt:35:9
 returns-3 : tie.Need-returns-3
-returns-3 c = let s = c .before .before .before .before .before .before .before in sym (field-zero (s .args .bit) (drop (s .args .at) (s .args .file .now)) (c .before .before .before .before .before .if1 .left) (c .if2 .taken) (sym (c .before .before .before .before .read-word .ensures) ∙ ap (field-told (s .args .file .now)) (c .before .before .f .given .1)))
+returns-3 c =
+    let at-read-word = c .before .before .before .before in
+    let at-if1 = at-read-word .before in
+    let at-entry = at-if1 .before .before in
+    let s = at-entry in sym
+    (field-zero (s .args .bit) (drop (s .args .at) (s .args .file .now)) (at-if1 .if1 .left) (c .if2 .taken)
+    (sym (at-read-word .read-word .ensures) ∙ ap (field-told (s .args .file .now)) (c .before .before .f .given .1)))
 
 -- src/word.rt:24:1
 returns-4 : tie.Need-returns-4
-returns-4 c = let s = c .before .before .before .before .before .before .before in sym (field-there (s .args .bit) (drop (s .args .at) (s .args .file .now)) (c .before .before .before .before .before .if1 .left) (c .if2 .left) (sym (c .before .before .before .before .read-word .ensures) ∙ ap (field-told (s .args .file .now)) (c .before .before .f .given .1)))
+returns-4 c =
+    let at-read-word = c .before .before .before .before in
+    let at-if1 = at-read-word .before in
+    let at-entry = at-if1 .before .before in
+    let s = at-entry in sym
+    (field-there (s .args .bit) (drop (s .args .at) (s .args .file .now)) (at-if1 .if1 .left) (c .if2 .left)
+    (sym (at-read-word .read-word .ensures) ∙ ap (field-told (s .args .file .now)) (c .before .before .f .given .1)))
 
 pub read-field-spec : {M : Type 1} → statement M
 read-field-spec =
     tie.close
-    (tie.spec returns read-word-requires enum-known-f enum-told returns-2 returns-3 returns-4)
+    (tie.spec returns (λ c κs. search needs) (λ c. search needs) (λ c. search needs) returns-2 returns-3 returns-4)

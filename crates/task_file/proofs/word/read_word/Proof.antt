@@ -13,29 +13,13 @@ use Rattle.task_file.proofs.word.read_word.Lts as lts
 returns : tie.Need-returns
 returns c = sym (word-ends (c .before .args .file .now) (c .before .args .at) (omega arith))
 
--- src/word.rt:15:8
-sub-if2 : tie.Need-sub-if2
-sub-if2 c = search needs
-
 -- src/word.rt:16:9
 returns-2 : tie.Need-returns-2
 returns-2 c = sym (word-ends (c .before .before .args .file .now) (c .before .before .args .at) (omega arith))
 
 -- src/word.rt:18:15
-shared-slice-read-low : tie.Need-shared-slice-read-low
-shared-slice-read-low c = search needs
-
--- src/word.rt:18:15
 cast-low : tie.Need-cast-low
 cast-low c = omega (arith, c .shared-slice-known .given (c .before .before .before .args .at))
-
--- src/word.rt:19:21
-add-high : tie.Need-add-high
-add-high c = search needs
-
--- src/word.rt:19:16
-shared-slice-read-high : tie.Need-shared-slice-read-high
-shared-slice-read-high c = search needs
 
 -- src/word.rt:19:16
 cast-high : tie.Need-cast-high
@@ -43,15 +27,15 @@ cast-high c = omega (arith, c .shared-slice-known2 .given (c .before .before .be
 
 -- src/word.rt:20:31
 mul-t11 : tie.Need-mul-t11
-mul-t11 c = omega (arith, c .before .shared-slice-known .given (c .before .before .before .before .args .at), c .shared-slice-known2 .given (c .before .before .before .before .args .at + 1))
+mul-t11 c =
+    let at-args = c .before .before .before .before in
+    omega (arith, c .before .shared-slice-known .given (at-args .args .at), c .shared-slice-known2 .given (at-args .args .at + 1))
 
 -- src/word.rt:20:25
 add-t12 : tie.Need-add-t12
-add-t12 c = omega (arith, c .before .shared-slice-known .given (c .before .before .before .before .args .at), c .shared-slice-known2 .given (c .before .before .before .before .args .at + 1))
-
--- src/word.rt:20:49
-add-t7 : tie.Need-add-t7
-add-t7 c = search needs
+add-t12 c =
+    let at-args = c .before .before .before .before in
+    omega (arith, c .before .shared-slice-known .given (at-args .args .at), c .shared-slice-known2 .given (at-args .args .at + 1))
 
 -- src/word.rt:9:1
 returns-3 : tie.Need-returns-3
@@ -61,15 +45,5 @@ pub read-word-spec : {M : Type 1} → statement M
 read-word-spec =
     tie.close
     (tie.spec
-    returns
-    sub-if2
-    returns-2
-    shared-slice-read-low
-    cast-low
-    add-high
-    shared-slice-read-high
-    cast-high
-    mul-t11
-    add-t12
-    add-t7
-    returns-3)
+    returns (λ c. search needs) returns-2 (λ c. search needs) cast-low (λ c. search needs) (λ c. search needs) cast-high mul-t11 add-t12
+    (λ c. search needs) returns-3)

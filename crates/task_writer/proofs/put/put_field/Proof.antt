@@ -11,17 +11,12 @@ use Rattle.task_writer.proofs.put.put_word.Reads as put-word-reads
 returns : tie.Need-returns
 returns c = field-none (c .before .before .args .w) (c .before .before .args .at) (c .before .before .args .out .now) (c .if1 .taken)
 
--- src/put.rt:38:5
-put-word-requires : tie.Need-put-word-requires
-put-word-requires c κs = search needs
-
--- src/put.rt:31:1
-same-length : tie.Need-same-length
-same-length c = search needs
-
 -- src/put.rt:31:1
 returns-2 : tie.Need-returns-2
-returns-2 c = field-put (c .before .before .before .before .before .before .args .w) (c .before .before .before .before .if1 .left) (c .before .before .put-word .ensures)
+returns-2 c =
+    let at-if1 = c .before .before .before .before in
+    let at-args = at-if1 .before .before in
+    field-put (at-args .args .w) (at-if1 .if1 .left) (c .before .before .put-word .ensures)
 
 pub put-field-spec : {M : Type 1} → statement M
-put-field-spec = tie.close (tie.spec returns put-word-requires same-length returns-2)
+put-field-spec = tie.close (tie.spec returns (λ c κs. search needs) (λ c. search needs) returns-2)

@@ -25,24 +25,37 @@ row-at-requires c κs = row-there (c .before .before .before .before .args .tabl
 
 put-row-requires : tie.Need-put-row-requires Inv-loop μ-loop
 put-row-requires c κs =
-    let start = c .before .before .before .before .before .before in
-    let at = c .before .before .before .loop in
-    rw (c .before .row-at .ensures)
-    (omega (arith, start .pre .room, at .inv .within, at .inv .small, c .before .before .loop-test .taken), start .pre .maps (at .i) (c .before .before .loop-test .taken))
+    let at-loop = c .before .before .before in
+    let at-entry = at-loop .before .before .before in
+    let start = at-entry in
+    let at = at-loop .loop in
+    rw (c .before .row-at .ensures) (
+      omega (arith, start .pre .room, at .inv .within, at .inv .small, c .before .before .loop-test .taken),
+      start .pre .maps (at .i) (c .before .before .loop-test .taken),
+    )
 
 add-i : tie.Need-add-i Inv-loop μ-loop
-add-i c = let start = c .before .before .before .before .before .before .before .before .before in omega (arith, start .pre .room, c .before .before .before .before .before .before .loop .inv .within, c .before .before .before .before .before .loop-test .taken)
+add-i c =
+    let at-loop-test = c .before .before .before .before .before in
+    let at-loop = at-loop-test .before in
+    let at-entry = at-loop .before .before .before in
+    let start = at-entry in omega (arith, start .pre .room, at-loop .loop .inv .within, at-loop-test .loop-test .taken)
 
 loop-less : tie.Need-loop-less Inv-loop μ-loop
 loop-less c = omega (arith, c .before .before .before .before .before .loop-test .taken)
 
 loop-again : tie.Need-loop-again Inv-loop μ-loop
 loop-again c =
-    let a = c .before .before .before .before .before .before .before .before .before .args in
-    let at = c .before .before .before .before .before .before .loop in
+    let at-row-at = c .before .before .before .before in
+    let at-loop-test = at-row-at .before in
+    let at-loop = at-loop-test .before in
+    let at-args = at-loop .before .before .before in
+    let a = at-args .args in
+    let at = at-loop .loop in
     let r = words-at (a .table) (a .words .now) (at .i) in
-    put-more (rows-bytes (a .table) (a .words .now)) (a .count) (a .at) (a .out .now) (at .out) (at .i) (at .place) (at .inv) (c .before .before .before .before .before .loop-test .taken)
-    (rw (c .before .before .before .before .row-at .ensures) at (c .before .before .put-row .ensures)) (three-bytes-length (a .table) (r .first) (r .second) (r .third)) (rows-more-put (a .table) (a .words .now) (at .i))
+    put-more (rows-bytes (a .table) (a .words .now)) (a .count) (a .at) (a .out .now) (at .out) (at .i) (at .place) (at .inv) (at-loop-test .loop-test .taken)
+    (rw (at-row-at .row-at .ensures) at (c .before .before .put-row .ensures)) (three-bytes-length (a .table) (r .first) (r .second) (r .third))
+    (rows-more-put (a .table) (a .words .now) (at .i))
 
 same-length : tie.Need-same-length Inv-loop μ-loop
 same-length c = put-size (c .before .loop .inv .done)
@@ -59,11 +72,4 @@ put-rows-spec =
     (tie.spec
     Inv-loop
     μ-loop
-    loop-holds
-    row-at-requires
-    put-row-requires
-    add-i
-    loop-less
-    loop-again
-    same-length
-    returns)
+    loop-holds row-at-requires put-row-requires add-i loop-less loop-again same-length returns)

@@ -15,72 +15,157 @@ use Rattle.task_writer.proofs.put_tables.put_rows.Reads as put-rows-rea
 use Rattle.task_writer.proofs.put_tables.put_state.Reads as put-state-reads
 use Rattle.task_writer.proofs.put_tables.put_words.Reads as put-words-reads
 
--- src/write.rt:25:9
-put-head-requires : tie.Need-put-head-requires
-put-head-requires c κs = search needs
-
--- src/write.rt:26:58
-cast-put-state : tie.Need-cast-put-state
-cast-put-state c = search needs
-
 -- src/write.rt:26:9
 put-state-requires : tie.Need-put-state-requires
-put-state-requires c κs = let a = c .before .before .before .before .before .before .before .before .before .before .before .before .args in let p = c .before .before .before .before .before .before .before .before .before .before .before .before .pre in (p .state, omega (arith, p .variables, p .twins, p .formulas, p .effects, p .operators, c .before .before .before .before .put-head .ensures .next, head-size (a .head)))
-
--- src/write.rt:27:59
-cast-put-words : tie.Need-cast-put-words
-cast-put-words c = search needs
+put-state-requires c κs =
+    let at-put-head = c .before .before .before .before in
+    let at-args = at-put-head .before .before .before .before .before .before .before .before in
+    let a = at-args .args in let p = at-args .pre in
+    (p .state, omega (arith, p .variables, p .twins, p .formulas, p .effects, p .operators, at-put-head .put-head .ensures .next, head-size (a .head)))
 
 -- src/write.rt:27:9
 put-words-requires : tie.Need-put-words-requires
-put-words-requires c κs = let a = c .before .before .before .before .before .before .before .before .before .before .before .before .before .before .before .before .before .args in let p = c .before .before .before .before .before .before .before .before .before .before .before .before .before .before .before .before .before .pre in (p .long .twins, omega (arith, p .variables, p .twins, p .formulas, p .effects, p .operators, c .before .before .before .before .before .before .before .before .before .put-head .ensures .next, head-size (a .head), c .before .before .before .before .put-state .ensures .next, state-size (a .initial .now) (a .head .variables) (p .long .initial)))
-
--- src/write.rt:28:77
-cast-put-rows : tie.Need-cast-put-rows
-cast-put-rows c = search needs
+put-words-requires c κs =
+    let at-put-state = c .before .before .before .before in
+    let at-put-head = at-put-state .before .before .before .before .before in
+    let at-args = at-put-head .before .before .before .before .before .before .before .before in
+    let a = at-args .args in let p = at-args .pre in (
+      p .long .twins,
+      omega (
+        arith,
+        p .variables,
+        p .twins,
+        p .formulas,
+        p .effects,
+        p .operators,
+        at-put-head .put-head .ensures .next,
+        head-size (a .head),
+        at-put-state .put-state .ensures .next,
+        state-size (a .initial .now) (a .head .variables) (p .long .initial),
+      ),
+    )
 
 -- src/write.rt:28:9
 put-rows-requires : tie.Need-put-rows-requires
-put-rows-requires c κs = let a = c .before .before .before .before .before .before .before .before .before .before .before .before .before .before .before .before .before .before .before .before .before .before .args in let p = c .before .before .before .before .before .before .before .before .before .before .before .before .before .before .before .before .before .before .before .before .before .before .pre in record { fit = p .long .formulas; room = omega (arith, p .variables, p .twins, p .formulas, p .effects, p .operators, c .before .before .before .before .before .before .before .before .before .before .before .before .before .before .put-head .ensures .next, head-size (a .head), c .before .before .before .before .before .before .before .before .before .put-state .ensures .next, state-size (a .initial .now) (a .head .variables) (p .long .initial), c .before .before .before .before .put-words .ensures .next, words-size (a .twins .now) (a .head .twins) (p .long .twins)); maps = p .formula-maps }
-
--- src/write.rt:29:77
-cast-put-rows-2 : tie.Need-cast-put-rows-2
-cast-put-rows-2 c = search needs
+put-rows-requires c κs =
+    let at-put-words = c .before .before .before .before in
+    let at-put-state = at-put-words .before .before .before .before .before in
+    let at-put-head = at-put-state .before .before .before .before .before in
+    let at-args = at-put-head .before .before .before .before .before .before .before .before in
+    let a = at-args .args in let p = at-args .pre in
+    record {
+      fit = p .long .formulas;
+      room =
+          omega (
+            arith,
+            p .variables,
+            p .twins,
+            p .formulas,
+            p .effects,
+            p .operators,
+            at-put-head .put-head .ensures .next,
+            head-size (a .head),
+            at-put-state .put-state .ensures .next,
+            state-size (a .initial .now) (a .head .variables) (p .long .initial),
+            at-put-words .put-words .ensures .next,
+            words-size (a .twins .now) (a .head .twins) (p .long .twins),
+          );
+      maps = p .formula-maps;
+    }
 
 -- src/write.rt:29:9
 put-rows-requires-2 : tie.Need-put-rows-requires-2
-put-rows-requires-2 c κs = let a = c .before .before .before .before .before .before .before .before .before .before .before .before .before .before .before .before .before .before .before .before .before .before .before .before .before .before .before .args in let p = c .before .before .before .before .before .before .before .before .before .before .before .before .before .before .before .before .before .before .before .before .before .before .before .before .before .before .before .pre in record { fit = p .long .effects; room = omega (arith, p .variables, p .twins, p .formulas, p .effects, p .operators, c .before .before .before .before .before .before .before .before .before .before .before .before .before .before .before .before .before .before .before .put-head .ensures .next, head-size (a .head), c .before .before .before .before .before .before .before .before .before .before .before .before .before .before .put-state .ensures .next, state-size (a .initial .now) (a .head .variables) (p .long .initial), c .before .before .before .before .before .before .before .before .before .put-words .ensures .next, words-size (a .twins .now) (a .head .twins) (p .long .twins), c .before .before .before .before .put-rows .ensures .next, rows-size Formulas (a .formulas .now) (a .head .formulas)); maps = p .effect-maps }
-
--- src/write.rt:30:62
-cast-put-rows-3 : tie.Need-cast-put-rows-3
-cast-put-rows-3 c = search needs
+put-rows-requires-2 c κs =
+    let at-put-rows = c .before .before .before .before in
+    let at-put-words = at-put-rows .before .before .before .before .before in
+    let at-put-state = at-put-words .before .before .before .before .before in
+    let at-put-head = at-put-state .before .before .before .before .before in
+    let at-args = at-put-head .before .before .before .before .before .before .before .before in
+    let a = at-args .args in let p = at-args .pre in
+    record {
+      fit = p .long .effects;
+      room =
+          omega (
+            arith,
+            p .variables,
+            p .twins,
+            p .formulas,
+            p .effects,
+            p .operators,
+            at-put-head .put-head .ensures .next,
+            head-size (a .head),
+            at-put-state .put-state .ensures .next,
+            state-size (a .initial .now) (a .head .variables) (p .long .initial),
+            at-put-words .put-words .ensures .next,
+            words-size (a .twins .now) (a .head .twins) (p .long .twins),
+            at-put-rows .put-rows .ensures .next,
+            rows-size Formulas (a .formulas .now) (a .head .formulas),
+          );
+      maps = p .effect-maps;
+    }
 
 -- src/write.rt:30:5
 put-rows-requires-3 : tie.Need-put-rows-requires-3
-put-rows-requires-3 c κs = let a = c .before .before .before .before .before .before .before .before .before .before .before .before .before .before .before .before .before .before .before .before .before .before .before .before .before .before .before .before .before .before .before .before .args in let p = c .before .before .before .before .before .before .before .before .before .before .before .before .before .before .before .before .before .before .before .before .before .before .before .before .before .before .before .before .before .before .before .before .pre in record { fit = p .long .operators; room = omega (arith, p .variables, p .twins, p .formulas, p .effects, p .operators, c .before .before .before .before .before .before .before .before .before .before .before .before .before .before .before .before .before .before .before .before .before .before .before .before .put-head .ensures .next, head-size (a .head), c .before .before .before .before .before .before .before .before .before .before .before .before .before .before .before .before .before .before .before .put-state .ensures .next, state-size (a .initial .now) (a .head .variables) (p .long .initial), c .before .before .before .before .before .before .before .before .before .before .before .before .before .before .put-words .ensures .next, words-size (a .twins .now) (a .head .twins) (p .long .twins), c .before .before .before .before .before .before .before .before .before .put-rows .ensures .next, rows-size Formulas (a .formulas .now) (a .head .formulas), c .before .before .before .before .put-rows2 .ensures .next, rows-size Effects (a .effects .now) (a .head .effects)); maps = λ i h. tt }
+put-rows-requires-3 c κs =
+    let at-put-rows2 = c .before .before .before .before in
+    let at-put-rows = at-put-rows2 .before .before .before .before .before in
+    let at-put-words = at-put-rows .before .before .before .before .before in
+    let at-put-state = at-put-words .before .before .before .before .before in
+    let at-put-head = at-put-state .before .before .before .before .before in
+    let at-args = at-put-head .before .before .before .before .before .before .before .before in
+    let a = at-args .args in let p = at-args .pre in
+    record {
+      fit = p .long .operators;
+      room =
+          omega (
+            arith,
+            p .variables,
+            p .twins,
+            p .formulas,
+            p .effects,
+            p .operators,
+            at-put-head .put-head .ensures .next,
+            head-size (a .head),
+            at-put-state .put-state .ensures .next,
+            state-size (a .initial .now) (a .head .variables) (p .long .initial),
+            at-put-words .put-words .ensures .next,
+            words-size (a .twins .now) (a .head .twins) (p .long .twins),
+            at-put-rows .put-rows .ensures .next,
+            rows-size Formulas (a .formulas .now) (a .head .formulas),
+            at-put-rows2 .put-rows2 .ensures .next,
+            rows-size Effects (a .effects .now) (a .head .effects),
+          );
+      maps = λ i h. tt;
+    }
 
 -- src/write.rt:13:1
 same-length : tie.Need-same-length
-same-length c = put-size (c .before .before .put-rows3 .ensures) ∙ put-size (c .before .before .before .before .before .before .before .put-rows2 .ensures) ∙ put-size (c .before .before .before .before .before .before .before .before .before .before .before .before .put-rows .ensures) ∙ put-size (c .before .before .before .before .before .before .before .before .before .before .before .before .before .before .before .before .before .put-words .ensures) ∙ put-size (c .before .before .before .before .before .before .before .before .before .before .before .before .before .before .before .before .before .before .before .before .before .before .put-state .ensures) ∙ put-size (c .before .before .before .before .before .before .before .before .before .before .before .before .before .before .before .before .before .before .before .before .before .before .before .before .before .before .before .put-head .ensures)
+same-length c =
+    let at-put-rows2 = c .before .before .before .before .before .before .before in
+    let at-put-rows = at-put-rows2 .before .before .before .before .before in
+    let at-put-words = at-put-rows .before .before .before .before .before in
+    let at-put-state = at-put-words .before .before .before .before .before in
+    let at-put-head = at-put-state .before .before .before .before .before in
+    put-size (c .before .before .put-rows3 .ensures) ∙ put-size (at-put-rows2 .put-rows2 .ensures) ∙ put-size (at-put-rows .put-rows .ensures) ∙ put-size
+    (at-put-words .put-words .ensures) ∙ put-size (at-put-state .put-state .ensures) ∙ put-size (at-put-head .put-head .ensures)
 
 -- src/write.rt:13:1
 returns : tie.Need-returns
-returns c = let a = c .before .before .before .before .before .before .before .before .before .before .before .before .before .before .before .before .before .before .before .before .before .before .before .before .before .before .before .before .before .before .before .before .before .before .before .args in let p = c .before .before .before .before .before .before .before .before .before .before .before .before .before .before .before .before .before .before .before .before .before .before .before .before .before .before .before .before .before .before .before .before .before .before .before .pre in task-put (lent (a .head) (a .initial .now) (a .twins .now) (a .formulas .now) (a .effects .now) (a .operators .now)) p (c .before .before .before .before .before .before .before .before .before .before .before .before .before .before .before .before .before .before .before .before .before .before .before .before .before .before .before .put-head .ensures) (c .before .before .before .before .before .before .before .before .before .before .before .before .before .before .before .before .before .before .before .before .before .before .put-state .ensures) (c .before .before .before .before .before .before .before .before .before .before .before .before .before .before .before .before .before .put-words .ensures) (c .before .before .before .before .before .before .before .before .before .before .before .before .put-rows .ensures) (c .before .before .before .before .before .before .before .put-rows2 .ensures) (c .before .before .put-rows3 .ensures)
+returns c =
+    let at-put-rows2 = c .before .before .before .before .before .before .before in
+    let at-put-rows = at-put-rows2 .before .before .before .before .before in
+    let at-put-words = at-put-rows .before .before .before .before .before in
+    let at-put-state = at-put-words .before .before .before .before .before in
+    let at-put-head = at-put-state .before .before .before .before .before in
+    let at-args = at-put-head .before .before .before .before .before .before .before .before in
+    let a = at-args .args in let p = at-args .pre in task-put
+    (lent (a .head) (a .initial .now) (a .twins .now) (a .formulas .now) (a .effects .now) (a .operators .now)) p (at-put-head .put-head .ensures)
+    (at-put-state .put-state .ensures) (at-put-words .put-words .ensures) (at-put-rows .put-rows .ensures) (at-put-rows2 .put-rows2 .ensures)
+    (c .before .before .put-rows3 .ensures)
 
 pub put-task-spec : {M : Type 1} → statement M
 put-task-spec =
     tie.close
     (tie.spec
-    put-head-requires
-    cast-put-state
-    put-state-requires
-    cast-put-words
-    put-words-requires
-    cast-put-rows
-    put-rows-requires
-    cast-put-rows-2
-    put-rows-requires-2
-    cast-put-rows-3
-    put-rows-requires-3
-    same-length
-    returns)
+    (λ c κs. search needs) (λ c. search needs) put-state-requires (λ c. search needs) put-words-requires (λ c. search needs) put-rows-requires
+    (λ c. search needs) put-rows-requires-2 (λ c. search needs) put-rows-requires-3 same-length returns)

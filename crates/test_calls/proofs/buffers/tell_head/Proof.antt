@@ -14,10 +14,6 @@ returns : tie.Need-returns
 unfolding head-words
 returns c = told-left _ _ (c .if1 .taken)
 
--- src/buffers.rt:39:5
-slice-write-buffer : tie.Need-slice-write-buffer
-slice-write-buffer c = search needs
-
 -- src/buffers.rt:40:5
 slice-write-buffer-2 : tie.Need-slice-write-buffer-2
 slice-write-buffer-2 c = simp length-set (omega arith)
@@ -39,10 +35,6 @@ slice-write-buffer-6 : tie.Need-slice-write-buffer-6
 slice-write-buffer-6 c = simp length-set (omega arith)
 
 -- src/buffers.rt:25:1
-same-length : tie.Need-same-length
-same-length c = search needs
-
--- src/buffers.rt:25:1
 returns-2 : tie.Need-returns-2
 unfolding head-words
 returns-2 c = told-stored _ _ (omega arith)
@@ -51,12 +43,5 @@ pub tell-head-spec : {M : Type 1} → statement M
 tell-head-spec =
     tie.close
     (tie.spec
-    returns
-    slice-write-buffer
-    slice-write-buffer-2
-    slice-write-buffer-3
-    slice-write-buffer-4
-    slice-write-buffer-5
-    slice-write-buffer-6
-    same-length
-    returns-2)
+    returns (λ c. search needs) slice-write-buffer-2 slice-write-buffer-3 slice-write-buffer-4 slice-write-buffer-5 slice-write-buffer-6
+    (λ c. search needs) returns-2)

@@ -12,10 +12,6 @@ use Rattle.test_calls.proofs.buffers.tell_three.Lts as lts
 returns : tie.Need-returns
 returns c = told-left _ _ (c .if1 .taken)
 
--- src/buffers.rt:19:5
-slice-write-buffer : tie.Need-slice-write-buffer
-slice-write-buffer c = search needs
-
 -- src/buffers.rt:20:5
 slice-write-buffer-2 : tie.Need-slice-write-buffer-2
 slice-write-buffer-2 c = simp length-set (omega arith)
@@ -25,10 +21,6 @@ slice-write-buffer-3 : tie.Need-slice-write-buffer-3
 slice-write-buffer-3 c = simp length-set (omega arith)
 
 -- src/buffers.rt:13:1
-same-length : tie.Need-same-length
-same-length c = search needs
-
--- src/buffers.rt:13:1
 returns-2 : tie.Need-returns-2
 returns-2 c = told-stored _ _ (omega arith)
 
@@ -36,9 +28,4 @@ pub tell-three-spec : {M : Type 1} → statement M
 tell-three-spec =
     tie.close
     (tie.spec
-    returns
-    slice-write-buffer
-    slice-write-buffer-2
-    slice-write-buffer-3
-    same-length
-    returns-2)
+    returns (λ c. search needs) slice-write-buffer-2 slice-write-buffer-3 (λ c. search needs) returns-2)

@@ -9,21 +9,9 @@ use Rattle.test_calls.proofs.compiling.compile_head.Tie as tie
 use Rattle.test_calls.proofs.compiling.compile_head.Reads as reads
 use Rattle.test_calls.proofs.compiling.compile_head.Lts as lts
 
--- src/compiling.rt:24:33
-enum-known-answer : tie.Need-enum-known-answer
-enum-known-answer c = search needs
-
--- src/compiling.rt:25:38
-enum-told : tie.Need-enum-told
-enum-told c = search needs
-
--- src/compiling.rt:20:1
-returns : tie.Need-returns
-returns c = search needs
-
 -- src/compiling.rt:20:1
 returns-2 : tie.Need-returns-2
 returns-2 c = sym (ap (λ (a : CompileAnswer). compile-head (answer-of a)) (c .enum-told .given .1))
 
 pub compile-head-spec : {M : Type 1} → statement M
-compile-head-spec = tie.close (tie.spec enum-known-answer enum-told returns returns-2)
+compile-head-spec = tie.close (tie.spec (λ c. search needs) (λ c. search needs) (λ c. search needs) returns-2)

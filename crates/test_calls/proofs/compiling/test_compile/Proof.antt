@@ -11,67 +11,18 @@ use Rattle.test_calls.proofs.buffers.tell_head.Reads as tell-head-reads
 use Rattle.test_calls.proofs.compiling.compile_head.Reads as compile-head-reads
 use Rattle.test_calls.proofs.compiling.compile_number.Reads as compile-number-reads
 
--- src/compiling.rt:68:9
-compile-requires : tie.Need-compile-requires
-compile-requires c κs = search needs
-
--- src/compiling.rt:82:37
-compile-head-requires : tie.Need-compile-head-requires
-compile-head-requires c κs = search needs
-
--- src/compiling.rt:82:5
-tell-head-requires : tie.Need-tell-head-requires
-tell-head-requires c κs = search needs
-
--- src/compiling.rt:83:5
-compile-number-requires : tie.Need-compile-number-requires
-compile-number-requires c κs = search needs
-
--- src/compiling.rt:37:1
-same-length : tie.Need-same-length
-same-length c = search needs
-
--- src/compiling.rt:37:1
-same-length-2 : tie.Need-same-length-2
-same-length-2 c = search needs
-
--- src/compiling.rt:37:1
-same-length-3 : tie.Need-same-length-3
-same-length-3 c = search needs
-
--- src/compiling.rt:37:1
-same-length-4 : tie.Need-same-length-4
-same-length-4 c = search needs
-
--- src/compiling.rt:37:1
-same-length-5 : tie.Need-same-length-5
-same-length-5 c = search needs
-
--- src/compiling.rt:37:1
-same-length-6 : tie.Need-same-length-6
-same-length-6 c = search needs
-
--- src/compiling.rt:37:1
-same-length-7 : tie.Need-same-length-7
-same-length-7 c = search needs
-
 -- src/compiling.rt:37:1
 returns : tie.Need-returns
-returns c = compile-leaves _ (c .before .before .before .before .before .before .before .before .before .before .before .before .before .before .before .before .before .before .compile .result) _ _ _ _ _ (c .before .before .before .before .before .before .before .before .before .before .before .before .before .before .before .before .before .before .compile .ensures) (c .before .before .before .before .compile-head .ensures) (c .before .before .before .tell-head .ensures) (c .compile-number .ensures)
+returns c =
+    let at-tell-head = c .before .before .before in
+    let at-compile-head = at-tell-head .before in
+    let at-compile = at-compile-head .before .before .before .before .before .before .before .before .before .before .before .before .before .before in
+    compile-leaves _ (at-compile .compile .result) _ _ _ _ _ (at-compile .compile .ensures) (at-compile-head .compile-head .ensures)
+    (at-tell-head .tell-head .ensures) (c .compile-number .ensures)
 
 pub test-compile-spec : {M : Type 1} → statement M
 test-compile-spec =
     tie.close
     (tie.spec
-    compile-requires
-    compile-head-requires
-    tell-head-requires
-    compile-number-requires
-    same-length
-    same-length-2
-    same-length-3
-    same-length-4
-    same-length-5
-    same-length-6
-    same-length-7
-    returns)
+    (λ c κs. search needs) (λ c κs. search needs) (λ c κs. search needs) (λ c κs. search needs) (λ c. search needs) (λ c. search needs)
+    (λ c. search needs) (λ c. search needs) (λ c. search needs) (λ c. search needs) (λ c. search needs) returns)

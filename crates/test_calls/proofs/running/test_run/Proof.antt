@@ -14,67 +14,22 @@ use Rattle.test_calls.proofs.running.stop_number.Reads as stop-number-r
 use Rattle.test_calls.proofs.running.stop_step.Reads as stop-step-reads
 use Rattle.test_calls.proofs.running.wide.Reads as wide-reads
 
--- src/running.rt:130:9
-run-requires : tie.Need-run-requires
-run-requires c κs = search needs
-
--- src/running.rt:136:9
-wide-requires : tie.Need-wide-requires
-wide-requires c κs = search needs
-
--- src/running.rt:138:9
-flag-requires : tie.Need-flag-requires
-flag-requires c κs = search needs
-
--- src/running.rt:139:9
-stop-number-requires : tie.Need-stop-number-requires
-stop-number-requires c κs = search needs
-
--- src/running.rt:140:9
-stop-step-requires : tie.Need-stop-step-requires
-stop-step-requires c κs = search needs
-
--- src/running.rt:141:9
-ended-goal-requires : tie.Need-ended-goal-requires
-ended-goal-requires c κs = search needs
-
--- src/running.rt:134:5
-tell-six-requires : tie.Need-tell-six-requires
-tell-six-requires c κs = search needs
-
--- src/running.rt:143:5
-refusal-of-requires : tie.Need-refusal-of-requires
-refusal-of-requires c κs = search needs
-
--- src/running.rt:102:1
-same-length : tie.Need-same-length
-same-length c = search needs
-
--- src/running.rt:102:1
-same-length-2 : tie.Need-same-length-2
-same-length-2 c = search needs
-
--- src/running.rt:102:1
-same-length-3 : tie.Need-same-length-3
-same-length-3 c = search needs
-
 -- src/running.rt:102:1
 returns : tie.Need-returns
-returns c = run-leaves (c .before .before .before .before .before .before .before .before .before .before .before .before .before .before .run .ensures) (c .before .before .before .before .before .before .before .before .wide .ensures) (c .before .before .before .before .before .before .before .flag .ensures) (c .before .before .before .before .before .before .stop-number .ensures) (c .before .before .before .before .before .stop-step .ensures) (c .before .before .before .before .ended-goal .ensures) (c .before .before .before .tell-six .ensures) (c .refusal-of .ensures)
+returns c =
+    let at-tell-six = c .before .before .before in
+    let at-ended-goal = at-tell-six .before in
+    let at-stop-step = at-ended-goal .before in
+    let at-stop-number = at-stop-step .before in
+    let at-flag = at-stop-number .before in
+    let at-wide = at-flag .before in
+    let at-run = at-wide .before .before .before .before .before .before in
+    run-leaves (at-run .run .ensures) (at-wide .wide .ensures) (at-flag .flag .ensures) (at-stop-number .stop-number .ensures)
+    (at-stop-step .stop-step .ensures) (at-ended-goal .ended-goal .ensures) (at-tell-six .tell-six .ensures) (c .refusal-of .ensures)
 
 pub test-run-spec : {M : Type 1} → statement M
 test-run-spec =
     tie.close
     (tie.spec
-    run-requires
-    wide-requires
-    flag-requires
-    stop-number-requires
-    stop-step-requires
-    ended-goal-requires
-    tell-six-requires
-    refusal-of-requires
-    same-length
-    same-length-2
-    same-length-3
-    returns)
+    (λ c κs. search needs) (λ c κs. search needs) (λ c κs. search needs) (λ c κs. search needs) (λ c κs. search needs) (λ c κs. search needs)
+    (λ c κs. search needs) (λ c κs. search needs) (λ c. search needs) (λ c. search needs) (λ c. search needs) returns)

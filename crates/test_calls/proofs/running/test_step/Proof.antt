@@ -11,47 +11,17 @@ use Rattle.test_calls.proofs.buffers.flag.Reads as flag-reads
 use Rattle.test_calls.proofs.buffers.tell_three.Reads as tell-three-reads
 use Rattle.test_calls.proofs.running.wide.Reads as wide-reads
 
--- src/running.rt:89:9
-step-requires : tie.Need-step-requires
-step-requires c κs = search needs
-
--- src/running.rt:94:9
-wide-requires : tie.Need-wide-requires
-wide-requires c κs = search needs
-
--- src/running.rt:96:9
-flag-requires : tie.Need-flag-requires
-flag-requires c κs = search needs
-
--- src/running.rt:92:5
-tell-three-requires : tie.Need-tell-three-requires
-tell-three-requires c κs = search needs
-
--- src/running.rt:61:1
-same-length : tie.Need-same-length
-same-length c = search needs
-
--- src/running.rt:61:1
-same-length-2 : tie.Need-same-length-2
-same-length-2 c = search needs
-
--- src/running.rt:61:1
-same-length-3 : tie.Need-same-length-3
-same-length-3 c = search needs
-
 -- src/running.rt:61:1
 returns : tie.Need-returns
-returns c = step-leaves (c .before .before .before .before .before .before .before .before .before .before .step .ensures) (c .before .before .before .before .wide .ensures) (c .before .before .before .flag .ensures) (c .before .before .tell-three .ensures)
+returns c =
+    let at-flag = c .before .before .before in
+    let at-wide = at-flag .before in
+    let at-step = at-wide .before .before .before .before .before .before in
+    step-leaves (at-step .step .ensures) (at-wide .wide .ensures) (at-flag .flag .ensures) (c .before .before .tell-three .ensures)
 
 pub test-step-spec : {M : Type 1} → statement M
 test-step-spec =
     tie.close
     (tie.spec
-    step-requires
-    wide-requires
-    flag-requires
-    tell-three-requires
-    same-length
-    same-length-2
-    same-length-3
-    returns)
+    (λ c κs. search needs) (λ c κs. search needs) (λ c κs. search needs) (λ c κs. search needs) (λ c. search needs) (λ c. search needs)
+    (λ c. search needs) returns)

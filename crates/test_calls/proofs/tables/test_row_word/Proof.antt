@@ -7,22 +7,15 @@ use borrow.Author.Needs.{needs}
 use Rattle.test_calls.proofs.tables.test_row_word.Statement.{statement}
 use Rattle.test_calls.proofs.tables.test_row_word.Tie as tie
 
-row-requires : tie.Need-row-requires
-row-requires c κs = search needs
-
-mul-result : tie.Need-mul-result
-mul-result c = search needs
-
-shared-slice-read-result : tie.Need-shared-slice-read-result
-shared-slice-read-result c = search needs
-
 returns : tie.Need-returns
 returns c = ap (λ (l : List ℕ). getD l (c .before .before .before .before .args .at) 0) (c .before .before .row .ensures)
 
 returns-2 : tie.Need-returns-2
 returns-2 c =
-    sym (ap (λ (l : List ℕ). getD l (c .before .before .before .args .at) 0) (sym (c .before .row .ensures)) ∙ List·getD-eq-default (c .before .row .result .now) 0 (c .if1 .left))
+    let at-args = c .before .before .before in
+    sym
+    (ap (λ (l : List ℕ). getD l (at-args .args .at) 0) (sym (c .before .row .ensures)) ∙ List·getD-eq-default (c .before .row .result .now) 0 (c .if1 .left))
 
 pub test-row-word-spec : {M : Type 1} → statement M
 test-row-word-spec =
-    tie.close (tie.spec row-requires mul-result shared-slice-read-result returns returns-2)
+    tie.close (tie.spec (λ c κs. search needs) (λ c. search needs) (λ c. search needs) returns returns-2)
