@@ -16,8 +16,8 @@ ghost use Rattle.task.specs.Table.{row-at};
 ghost use Rattle.formula_builder.specs.Inner.Held.{store, sized, stepped, framed};
 ghost use Rattle.conditions.specs.Inner.Conditions.{Asks, Conditions, condition-at};
 
-// The condition of effect e: what the memo has; false, if the atom does not stand in e; that of an atom; else it is built, and kept. Rows are
-// visited only where the atom stands below them, and not below one whose condition is kept.
+// The condition of effect e: what the memo has; that of an atom; else it is built, and kept. Rows are visited only where the atom stands below
+// them (`half`), and not below one whose condition is kept.
 pub fn condition(
     formulas: &[u16],
     effects: &[u16],
@@ -37,9 +37,6 @@ pub fn condition(
     let known = recall(notes, scratch, frame, t, e);
     if 0 < known {
         return known - 1;
-    }
-    if lacks(notes, frame_of(frame), t.clear, t.variable as usize, e) {
-        return falsity(t.negated);
     }
     let w = read_row(effects, e);
     if w.kind < 3 {
@@ -131,7 +128,7 @@ fn both(
     ensures { λ r. ⌜ Conditions (condition-at (framed (now (frame .entry))) (now (formulas .entry)) (now (effects .entry)) t e) (framed (now (frame .entry))) (now (formulas .entry)) (now (effects .entry)) (now (notes .exit)) (sized (now (rows .entry)) (now (twins .entry))) (store (now (table .entry)) (now (originals .entry))) (store (now (table .exit)) (now (originals .exit))) (now (scratch .exit)) (stepped (now (rows .exit)) (now (twins .exit)) r) ⌝ }
 {
     let w = read_row(effects, e);
-    let l = condition(
+    let l = half(
         formulas,
         effects,
         notes,
@@ -147,7 +144,7 @@ fn both(
     if l == NO_ROOM {
         return l;
     }
-    let r = condition(
+    let r = half(
         formulas,
         effects,
         notes,
@@ -164,6 +161,41 @@ fn both(
         return r;
     }
     joined(notes, e, t, !t.negated, frame, rows, l, r, table)
+}
+
+// The condition of effect e, one of the two of "both": false, if the atom does not stand in e.
+fn half(
+    formulas: &[u16],
+    effects: &[u16],
+    notes: &mut [u16],
+    e: usize,
+    t: Target,
+    frame: &[usize; 5],
+    rows: &mut usize,
+    twins: &mut usize,
+    table: &mut [u16],
+    originals: &mut [u16],
+    scratch: &mut [u16],
+) -> u16
+    requires { ⌜ Asks (framed (now frame)) (now formulas) (now effects) (now notes) t (sized (now rows) (now twins)) (store (now table) (now originals)) (now scratch) e ⌝ }
+    ensures { λ r. ⌜ Conditions (condition-at (framed (now (frame .entry))) (now (formulas .entry)) (now (effects .entry)) t e) (framed (now (frame .entry))) (now (formulas .entry)) (now (effects .entry)) (now (notes .exit)) (sized (now (rows .entry)) (now (twins .entry))) (store (now (table .entry)) (now (originals .entry))) (store (now (table .exit)) (now (originals .exit))) (now (scratch .exit)) (stepped (now (rows .exit)) (now (twins .exit)) r) ⌝ }
+{
+    if lacks(notes, frame_of(frame), t.clear, t.variable as usize, e) {
+        return falsity(t.negated);
+    }
+    condition(
+        formulas,
+        effects,
+        notes,
+        e,
+        t,
+        frame,
+        rows,
+        twins,
+        table,
+        originals,
+        scratch,
+    )
 }
 
 // "Under": the inner effect is built first; if it is false, so is the answer. Else the formula's image, and the join.

@@ -1,19 +1,22 @@
--- The cycle of `condition`, `built`, `both`, `under` meets its contracts. Assumes nothing.
+-- The cycle of `condition`, `built`, `both`, `half`, `under` meets its contracts. Assumes nothing.
 use Prim.Native.Nat.{ℕ, _+_, _*_, _<_}
 use borrow.Fn.Kinds.{In}
 use borrow.Fn.PlainCycle.{Measures, is, falls, and}
 use Rattle.conditions.proofs.cycle.both.Reads as both
 use Rattle.conditions.proofs.cycle.both.Kinds as both-kinds
-use Rattle.conditions.proofs.cycle.+both+built+condition+under.Lts-both as both-lts
+use Rattle.conditions.proofs.cycle.+both+built+condition+half+under.Lts-both as both-lts
 use Rattle.conditions.proofs.cycle.built.Reads as built
 use Rattle.conditions.proofs.cycle.built.Kinds as built-kinds
-use Rattle.conditions.proofs.cycle.+both+built+condition+under.Lts-built as built-lts
+use Rattle.conditions.proofs.cycle.+both+built+condition+half+under.Lts-built as built-lts
 use Rattle.conditions.proofs.cycle.condition.Reads as condition
 use Rattle.conditions.proofs.cycle.condition.Kinds as condition-kinds
-use Rattle.conditions.proofs.cycle.+both+built+condition+under.Lts-condition as condition-lts
+use Rattle.conditions.proofs.cycle.+both+built+condition+half+under.Lts-condition as condition-lts
+use Rattle.conditions.proofs.cycle.half.Reads as half
+use Rattle.conditions.proofs.cycle.half.Kinds as half-kinds
+use Rattle.conditions.proofs.cycle.+both+built+condition+half+under.Lts-half as half-lts
 use Rattle.conditions.proofs.cycle.under.Reads as under
 use Rattle.conditions.proofs.cycle.under.Kinds as under-kinds
-use Rattle.conditions.proofs.cycle.+both+built+condition+under.Lts-under as under-lts
+use Rattle.conditions.proofs.cycle.+both+built+condition+half+under.Lts-under as under-lts
 use Rattle.atom_sets.proofs.lacks.Reads as lacks-reads
 use Rattle.conditions.proofs.atom.atom.Reads as atom-reads
 use Rattle.conditions.proofs.joined.joined.Reads as joined-reads
@@ -23,8 +26,8 @@ use Rattle.formula_builder.proofs.frame_of.Reads as frame-of-reads
 use Rattle.formula_builder.proofs.falsity.Reads as falsity-reads
 use Rattle.formula_builder.proofs.read_row.Reads as read-row-reads
 use Rattle.images.proofs.sided.Reads as sided-reads
-use Rattle.conditions.proofs.cycle.+both+built+condition+under.{statement}
-use Rattle.conditions.proofs.cycle.+both+built+condition+under.Tie.{close}
+use Rattle.conditions.proofs.cycle.+both+built+condition+half+under.{statement}
+use Rattle.conditions.proofs.cycle.+both+built+condition+half+under.Tie.{close}
 use borrow.Author.Needs.{needs}
 use borrow.Author.Tests.{eq-eqb, ne-eqb}
 use native.Mathlib.Omega.{arith}
@@ -37,16 +40,19 @@ use Rattle.conditions.proofs.Cases.{inner-lower, inner-asks, inner-full
 
 -- a condition's row is above the rows that it names
 abbrev μ-both : Measures 9 both-kinds.ps ℕ
-μ-both κs a = 3 * a .1 .1 .1 .0
+μ-both κs a = 4 * a .1 .1 .1 .0
 
 abbrev μ-built : Measures 9 built-kinds.ps ℕ
-μ-built κs a = 3 * a .1 .1 .1 .0 + 1
+μ-built κs a = 4 * a .1 .1 .1 .0 + 1
 
 abbrev μ-condition : Measures 9 condition-kinds.ps ℕ
-μ-condition κs a = 3 * a .1 .1 .1 .0 + 2
+μ-condition κs a = 4 * a .1 .1 .1 .0 + 2
+
+abbrev μ-half : Measures 9 half-kinds.ps ℕ
+μ-half κs a = 4 * a .1 .1 .1 .0 + 3
 
 abbrev μ-under : Measures 9 under-kinds.ps ℕ
-μ-under κs a = 3 * a .1 .1 .1 .0
+μ-under κs a = 4 * a .1 .1 .1 .0
 
 module _ (t : ℕ) where
   abbrev both-at : In 9 both-kinds.ps
@@ -67,6 +73,12 @@ module _ (t : ℕ) where
   abbrev condition-below : In 9 condition-kinds.ps
   condition-below = and 9 condition-kinds.ps (falls 9 condition-kinds.ps _<_ μ-condition t) condition.Pre
 
+  abbrev half-at : In 9 half-kinds.ps
+  half-at = and 9 half-kinds.ps (is 9 half-kinds.ps μ-half t) half.Pre
+
+  abbrev half-below : In 9 half-kinds.ps
+  half-below = and 9 half-kinds.ps (falls 9 half-kinds.ps _<_ μ-half t) half.Pre
+
   abbrev under-at : In 9 under-kinds.ps
   under-at = and 9 under-kinds.ps (is 9 under-kinds.ps μ-under t) under.Pre
 
@@ -76,7 +88,7 @@ module _ (t : ℕ) where
   -- what each call asks, and what is learnt of it
   abbrev both-calls : both-lts.Claims
   both-calls =
-      (read-row-reads.Asked, read-row-reads.Learnt, condition-below, condition.Post, joined-reads.Asked, joined-reads.Learnt)
+      (read-row-reads.Asked, read-row-reads.Learnt, half-below, half.Post, joined-reads.Asked, joined-reads.Learnt)
 
   abbrev built-calls : built-lts.Claims
   built-calls =
@@ -86,12 +98,6 @@ module _ (t : ℕ) where
   condition-calls = (
     recall-reads.Asked,
     recall-reads.Learnt,
-    frame-of-reads.Asked,
-    frame-of-reads.Learnt,
-    lacks-reads.Asked,
-    lacks-reads.Learnt,
-    falsity-reads.Asked,
-    falsity-reads.Learnt,
     read-row-reads.Asked,
     read-row-reads.Learnt,
     atom-reads.Asked,
@@ -100,6 +106,18 @@ module _ (t : ℕ) where
     built.Post,
     keep-reads.Asked,
     keep-reads.Learnt,
+  )
+
+  abbrev half-calls : half-lts.Claims
+  half-calls = (
+    frame-of-reads.Asked,
+    frame-of-reads.Learnt,
+    lacks-reads.Asked,
+    lacks-reads.Learnt,
+    falsity-reads.Asked,
+    falsity-reads.Learnt,
+    condition-below,
+    condition.Post,
   )
 
   abbrev under-calls : under-lts.Claims
@@ -122,8 +140,8 @@ module _ (t : ℕ) where
       let start = c .before .before .before .before .before .before in
       omega (arith, start .pre .1 .0 .effect-source .words, start .pre .1 .0 .effect)
 
-  both-condition-requires : both-lts.Need-condition-requires both-calls both-at both.Post
-  both-condition-requires c κs =
+  both-half-requires : both-lts.Need-half-requires both-calls both-at both.Post
+  both-half-requires c κs =
       let at-row = c .before .before .before .before .before .before .before in
       let start = at-row .before .before .before .before .before .before .before in (
         omega (arith, start .pre .0, effects-lower (start .pre .1 .0) (start .pre .1 .1) (at-row .read-row .result) (at-row .read-row .ensures) .0),
@@ -135,17 +153,17 @@ module _ (t : ℕ) where
       let at-left = c .before .before .before .before .before .before .before .before .before in
       let at-row = at-left .before .before .before .before .before .before .before .before in
       let start = at-row .before .before .before .before .before .before .before in
-      left-full (start .pre .1 .0) (start .pre .1 .1) (at-row .read-row .result) (at-row .read-row .ensures) (at-left .condition .ensures)
+      left-full (start .pre .1 .0) (start .pre .1 .1) (at-row .read-row .result) (at-row .read-row .ensures) (at-left .half .ensures)
       (eq-eqb _ 65535 (c .if1 .taken))
 
-  both-condition-requires-2 : both-lts.Need-condition-requires-2 both-calls both-at both.Post
-  both-condition-requires-2 c κs =
+  both-half-requires-2 : both-lts.Need-half-requires-2 both-calls both-at both.Post
+  both-half-requires-2 c κs =
       let at-if1 = c .before .before .before .before .before .before .before in
       let at-left = at-if1 .before .before .before .before .before .before .before .before .before in
       let at-row = at-left .before .before .before .before .before .before .before .before in
       let start = at-row .before .before .before .before .before .before .before in (
         omega (arith, start .pre .0, effects-lower (start .pre .1 .0) (start .pre .1 .1) (at-row .read-row .result) (at-row .read-row .ensures) .1),
-        right-asks (start .pre .1 .0) (start .pre .1 .1) (at-row .read-row .result) (at-row .read-row .ensures) (at-left .condition .ensures) (ne-eqb _ 65535 (at-if1 .if1 .left)) (at-left .condition .kept .1 .1 .1 .1 .1 .1 .1 .1 .1 .1 .0),
+        right-asks (start .pre .1 .0) (start .pre .1 .1) (at-row .read-row .result) (at-row .read-row .ensures) (at-left .half .ensures) (ne-eqb _ 65535 (at-if1 .if1 .left)) (at-left .half .kept .1 .1 .1 .1 .1 .1 .1 .1 .1 .1 .0),
       )
 
   both-returns-2 : both-lts.Need-returns-2 both-calls both-at both.Post
@@ -155,8 +173,8 @@ module _ (t : ℕ) where
       let at-left = at-if1 .before .before .before .before .before .before .before .before .before in
       let at-row = at-left .before .before .before .before .before .before .before .before in
       let start = at-row .before .before .before .before .before .before .before in
-      right-full (start .pre .1 .0) (start .pre .1 .1) (at-row .read-row .result) (at-row .read-row .ensures) (at-left .condition .ensures)
-      (ne-eqb _ 65535 (at-if1 .if1 .left)) (at-right .condition2 .ensures) (eq-eqb _ 65535 (c .if2 .taken))
+      right-full (start .pre .1 .0) (start .pre .1 .1) (at-row .read-row .result) (at-row .read-row .ensures) (at-left .half .ensures)
+      (ne-eqb _ 65535 (at-if1 .if1 .left)) (at-right .half2 .ensures) (eq-eqb _ 65535 (c .if2 .taken))
 
   both-joined-requires : both-lts.Need-joined-requires both-calls both-at both.Post
   both-joined-requires c κs =
@@ -166,35 +184,35 @@ module _ (t : ℕ) where
       let at-left = at-if1 .before .before .before .before .before .before .before .before .before in
       let at-row = at-left .before .before .before .before .before .before .before .before in
       let start = at-row .before .before .before .before .before .before .before in
-      both-join-asks (start .pre .1 .0) (start .pre .1 .1) (at-row .read-row .result) (at-row .read-row .ensures) (at-left .condition .ensures)
-      (ne-eqb _ 65535 (at-if1 .if1 .left)) (at-right .condition2 .ensures) (ne-eqb _ 65535 (at-if2 .if2 .left))
+      both-join-asks (start .pre .1 .0) (start .pre .1 .1) (at-row .read-row .result) (at-row .read-row .ensures) (at-left .half .ensures)
+      (ne-eqb _ 65535 (at-if1 .if1 .left)) (at-right .half2 .ensures) (ne-eqb _ 65535 (at-if2 .if2 .left))
 
   both-same-length-9 : both-lts.Need-same-length-9 both-calls both-at both.Post
   both-same-length-9 c =
       let at-joined = c .before .before .before .before in
       let at-right = at-joined .before .before .before .before .before .before .before .before .before .before .before .before .before .before in
       let at-left = at-right .before .before .before .before .before .before .before .before .before .before .before .before .before .before .before .before .before in
-      at-joined .joined .kept .0 ∙ at-right .condition2 .kept .1 .1 .0 ∙ at-left .condition .kept .1 .1 .0
+      at-joined .joined .kept .0 ∙ at-right .half2 .kept .1 .1 .0 ∙ at-left .half .kept .1 .1 .0
 
   both-same-length-10 : both-lts.Need-same-length-10 both-calls both-at both.Post
   both-same-length-10 c =
       let at-joined = c .before .before .before .before in
       let at-right = at-joined .before .before .before .before .before .before .before .before .before .before .before .before .before .before in
       let at-left = at-right .before .before .before .before .before .before .before .before .before .before .before .before .before .before .before .before .before in
-      at-joined .joined .kept .1 .1 .1 .1 .1 .1 .1 .1 .0 ∙ at-right .condition2 .kept .1 .1 .1 .1 .1 .1 .1 .1 .0 ∙
-      at-left .condition .kept .1 .1 .1 .1 .1 .1 .1 .1 .0
+      at-joined .joined .kept .1 .1 .1 .1 .1 .1 .1 .1 .0 ∙ at-right .half2 .kept .1 .1 .1 .1 .1 .1 .1 .1 .0 ∙
+      at-left .half .kept .1 .1 .1 .1 .1 .1 .1 .1 .0
 
   both-same-length-11 : both-lts.Need-same-length-11 both-calls both-at both.Post
   both-same-length-11 c =
       let at-right = c .before .before .before .before .before .before .before .before .before .before .before .before .before .before .before .before .before .before in
       let at-left = at-right .before .before .before .before .before .before .before .before .before .before .before .before .before .before .before .before .before in
-      at-right .condition2 .kept .1 .1 .1 .1 .1 .1 .1 .1 .1 .0 ∙ at-left .condition .kept .1 .1 .1 .1 .1 .1 .1 .1 .1 .0
+      at-right .half2 .kept .1 .1 .1 .1 .1 .1 .1 .1 .1 .0 ∙ at-left .half .kept .1 .1 .1 .1 .1 .1 .1 .1 .1 .0
 
   both-same-length-12 : both-lts.Need-same-length-12 both-calls both-at both.Post
   both-same-length-12 c =
       let at-right = c .before .before .before .before .before .before .before .before .before .before .before .before .before .before .before .before .before .before in
       let at-left = at-right .before .before .before .before .before .before .before .before .before .before .before .before .before .before .before .before .before in
-      at-right .condition2 .kept .1 .1 .1 .1 .1 .1 .1 .1 .1 .1 .0 ∙ at-left .condition .kept .1 .1 .1 .1 .1 .1 .1 .1 .1 .1 .0
+      at-right .half2 .kept .1 .1 .1 .1 .1 .1 .1 .1 .1 .1 .0 ∙ at-left .half .kept .1 .1 .1 .1 .1 .1 .1 .1 .1 .1 .0
 
   both-returns-3 : both-lts.Need-returns-3 both-calls both-at both.Post
   both-returns-3 c =
@@ -205,8 +223,8 @@ module _ (t : ℕ) where
       let at-left = at-if1 .before .before .before .before .before .before .before .before .before in
       let at-row = at-left .before .before .before .before .before .before .before .before in
       let start = at-row .before .before .before .before .before .before .before in
-      both-done (start .pre .1 .0) (start .pre .1 .1) (at-row .read-row .result) (at-row .read-row .ensures) (at-left .condition .ensures)
-      (ne-eqb _ 65535 (at-if1 .if1 .left)) (at-right .condition2 .ensures) (ne-eqb _ 65535 (at-if2 .if2 .left)) (at-joined .joined .ensures _ _)
+      both-done (start .pre .1 .0) (start .pre .1 .1) (at-row .read-row .result) (at-row .read-row .ensures) (at-left .half .ensures)
+      (ne-eqb _ 65535 (at-if1 .if1 .left)) (at-right .half2 .ensures) (ne-eqb _ 65535 (at-if2 .if2 .left)) (at-joined .joined .ensures _ _)
 
   -- `built`
   built-read-row-requires : built-lts.Need-read-row-requires built-calls built-at built.Post
@@ -260,81 +278,92 @@ module _ (t : ℕ) where
       let start = at-recall .before .before .before .before .before .before .before .before .before in
       answers-known (start .pre .1) (at-recall .recall .ensures) (c .if1 .taken)
 
-  condition-lacks-requires : condition-lts.Need-lacks-requires condition-calls condition-at condition.Post
-  condition-lacks-requires c κs =
-      let at-frame-of = c .before in
-      let start = at-frame-of .before .before .before .before .before .before .before .before .before .before .before .before in
-      rw (at-frame-of .frame-of .ensures) (in-set (start .pre .1), start .pre .1 .noted .sets .words)
+  condition-read-row-requires : condition-lts.Need-read-row-requires condition-calls condition-at condition.Post
+  condition-read-row-requires c κs =
+      let start = c .before .before .before .before .before .before .before .before .before .before in
+      omega (arith, start .pre .1 .effect-source .words, start .pre .1 .effect)
 
   condition-returns-2 : condition-lts.Need-returns-2 condition-calls condition-at condition.Post
   condition-returns-2 c =
       let at-if2 = c .before in
-      let at-lacks = at-if2 .before in
-      let at-frame-of = at-lacks .before .before in
-      let start = at-frame-of .before .before .before .before .before .before .before .before .before .before .before .before in
-      answers-lacking (start .pre .1) (lacks-framed _ _ _ _ (at-frame-of .frame-of .ensures) (sym (at-if2 .if2 .taken) ∙ at-lacks .lacks .ensures))
-      (c .falsity .ensures)
-
-  condition-read-row-requires : condition-lts.Need-read-row-requires condition-calls condition-at condition.Post
-  condition-read-row-requires c κs =
-      let start = c .before .before .before .before .before .before .before .before .before .before .before .before .before .before .before in
-      omega (arith, start .pre .1 .effect-source .words, start .pre .1 .effect)
-
-  condition-returns-3 : condition-lts.Need-returns-3 condition-calls condition-at condition.Post
-  condition-returns-3 c =
-      let at-if3 = c .before in
-      let at-row = at-if3 .before .before in
-      let start = at-row .before .before .before .before .before .before .before .before .before .before .before .before .before .before .before .before in
-      answers-atom (start .pre .1) (at-row .read-row .result) (at-row .read-row .ensures) (at-if3 .if3 .taken) (c .atom .ensures)
+      let at-row = at-if2 .before .before in
+      let start = at-row .before .before .before .before .before .before .before .before .before .before .before in
+      answers-atom (start .pre .1) (at-row .read-row .result) (at-row .read-row .ensures) (at-if2 .if2 .taken) (c .atom .ensures)
 
   condition-built-requires : condition-lts.Need-built-requires condition-calls condition-at condition.Post
   condition-built-requires c κs =
-      let at-if3 = c .before .before .before .before .before .before in
-      let at-row = at-if3 .before .before in
-      let start = at-row .before .before .before .before .before .before .before .before .before .before .before .before .before .before .before .before in
-      (omega (arith, start .pre .0), (start .pre .1, composed (start .pre .1) (at-row .read-row .result) (at-row .read-row .ensures) (at-if3 .if3 .left)))
+      let at-if2 = c .before .before .before .before .before .before in
+      let at-row = at-if2 .before .before in
+      let start = at-row .before .before .before .before .before .before .before .before .before .before .before in
+      (omega (arith, start .pre .0), (start .pre .1, composed (start .pre .1) (at-row .read-row .result) (at-row .read-row .ensures) (at-if2 .if2 .left)))
 
-  condition-returns-4 : condition-lts.Need-returns-4 condition-calls condition-at condition.Post
-  condition-returns-4 c =
+  condition-returns-3 : condition-lts.Need-returns-3 condition-calls condition-at condition.Post
+  condition-returns-3 c =
       let at-built = c .before .before .before .before .before .before .before .before .before in
       at-built .built .ensures
 
   condition-keep-requires : condition-lts.Need-keep-requires condition-calls condition-at condition.Post
   condition-keep-requires c κs =
-      let at-if4 = c .before .before in
-      let at-built = at-if4 .before .before .before .before .before .before .before .before .before in
-      let start = at-built .before .before .before .before .before .before .before .before .before .before .before .before .before .before .before .before .before .before .before .before .before .before .before .before .before in (
-        kept-asks (asks-next _ (start .pre .1) (at-built .built .ensures) (ne-eqb _ 65535 (at-if4 .if4 .left)) (at-built .built .kept .1 .1 .1 .1 .1 .1 .1 .1 .1 .1 .0) (start .pre .1 .effect)),
-        small-row (at-built .built .ensures .builds) (ne-eqb _ 65535 (at-if4 .if4 .left)),
+      let at-if3 = c .before .before in
+      let at-built = at-if3 .before .before .before .before .before .before .before .before .before in
+      let start = at-built .before .before .before .before .before .before .before .before .before .before .before .before .before .before .before .before .before .before .before .before in (
+        kept-asks (asks-next _ (start .pre .1) (at-built .built .ensures) (ne-eqb _ 65535 (at-if3 .if3 .left)) (at-built .built .kept .1 .1 .1 .1 .1 .1 .1 .1 .1 .1 .0) (start .pre .1 .effect)),
+        small-row (at-built .built .ensures .builds) (ne-eqb _ 65535 (at-if3 .if3 .left)),
       )
 
-  condition-same-length-11 : condition-lts.Need-same-length-11 condition-calls condition-at condition.Post
-  condition-same-length-11 c =
+  condition-same-length-9 : condition-lts.Need-same-length-9 condition-calls condition-at condition.Post
+  condition-same-length-9 c =
       let at-keep = c .before .before .before .before in
       let at-built = at-keep .before .before .before .before .before .before .before .before .before .before .before .before in
       at-keep .keep .kept .0 ∙ at-built .built .kept .1 .1 .0
 
-  condition-same-length-12 : condition-lts.Need-same-length-12 condition-calls condition-at condition.Post
-  condition-same-length-12 c =
+  condition-same-length-10 : condition-lts.Need-same-length-10 condition-calls condition-at condition.Post
+  condition-same-length-10 c =
       let at-built = c .before .before .before .before .before .before .before .before .before .before .before .before .before .before .before .before in
       at-built .built .kept .1 .1 .1 .1 .1 .1 .1 .1 .0
 
-  condition-same-length-13 : condition-lts.Need-same-length-13 condition-calls condition-at condition.Post
-  condition-same-length-13 c =
+  condition-same-length-11 : condition-lts.Need-same-length-11 condition-calls condition-at condition.Post
+  condition-same-length-11 c =
       let at-built = c .before .before .before .before .before .before .before .before .before .before .before .before .before .before .before .before in
       at-built .built .kept .1 .1 .1 .1 .1 .1 .1 .1 .1 .0
 
-  condition-same-length-14 : condition-lts.Need-same-length-14 condition-calls condition-at condition.Post
-  condition-same-length-14 c =
+  condition-same-length-12 : condition-lts.Need-same-length-12 condition-calls condition-at condition.Post
+  condition-same-length-12 c =
       let at-keep = c .before .before .before .before in
       let at-built = at-keep .before .before .before .before .before .before .before .before .before .before .before .before in
       at-keep .keep .kept .1 .0 ∙ at-built .built .kept .1 .1 .1 .1 .1 .1 .1 .1 .1 .1 .0
 
-  condition-returns-5 : condition-lts.Need-returns-5 condition-calls condition-at condition.Post
-  condition-returns-5 c =
+  condition-returns-4 : condition-lts.Need-returns-4 condition-calls condition-at condition.Post
+  condition-returns-4 c =
       let at-keep = c .before .before .before .before in
       let at-built = at-keep .before .before .before .before .before .before .before .before .before .before .before .before in
       conditions-kept (at-built .built .ensures) (at-keep .keep .ensures)
+
+  -- `half`
+  half-lacks-requires : half-lts.Need-lacks-requires half-calls half-at half.Post
+  half-lacks-requires c κs =
+      let at-frame-of = c .before in
+      let start = at-frame-of .before .before .before .before .before .before .before .before in
+      rw (at-frame-of .frame-of .ensures) (in-set (start .pre .1), start .pre .1 .noted .sets .words)
+
+  half-returns : half-lts.Need-returns half-calls half-at half.Post
+  half-returns c =
+      let at-if1 = c .before in
+      let at-lacks = at-if1 .before in
+      let at-frame-of = at-lacks .before .before in
+      let start = at-frame-of .before .before .before .before .before .before .before .before in
+      answers-lacking (start .pre .1) (lacks-framed _ _ _ _ (at-frame-of .frame-of .ensures) (sym (at-if1 .if1 .taken) ∙ at-lacks .lacks .ensures))
+      (c .falsity .ensures)
+
+  half-condition-requires : half-lts.Need-condition-requires half-calls half-at half.Post
+  half-condition-requires c κs =
+      let start = c .before .before .before .before .before .before .before .before .before .before .before .before .before .before .before .before .before in
+      (omega (arith, start .pre .0), start .pre .1)
+
+  half-returns-2 : half-lts.Need-returns-2 half-calls half-at half.Post
+  half-returns-2 c =
+      let at-condition = c .before .before .before .before .before .before .before .before in
+      at-condition .condition .ensures
 
   -- `under`
   under-read-row-requires : under-lts.Need-read-row-requires under-calls under-at under.Post
@@ -444,23 +473,25 @@ module _ (t : ℕ) where
       (ne-eqb _ 65535 (at-if1 .if1 .left)) (λ z. at-if2 .if2 .left (z ∙ sym (at-falsity .falsity .ensures))) (at-image .sided .ensures)
       (ne-eqb _ 65535 (at-if3 .if3 .left)) (at-joined .joined .ensures _ _)
 
-pub +both+built+condition+under-spec : {M : Type 1} → statement M
-+both+built+condition+under-spec =
-    close μ-both μ-built μ-condition μ-under
+pub +both+built+condition+half+under-spec : {M : Type 1} → statement M
++both+built+condition+half+under-spec =
+    close μ-both μ-built μ-condition μ-half μ-under
     (λ t. both-lts.spec (both-calls t) (both-at t) both.Post
-    (both-read-row-requires t) (λ c. search needs) (both-condition-requires t) (λ c. search needs) (λ c. search needs) (λ c. search needs)
-    (λ c. search needs) (both-returns t) (λ c. search needs) (both-condition-requires-2 t) (λ c. search needs) (λ c. search needs) (λ c. search needs)
+    (both-read-row-requires t) (λ c. search needs) (both-half-requires t) (λ c. search needs) (λ c. search needs) (λ c. search needs)
+    (λ c. search needs) (both-returns t) (λ c. search needs) (both-half-requires-2 t) (λ c. search needs) (λ c. search needs) (λ c. search needs)
     (λ c. search needs) (both-returns-2 t) (both-joined-requires t) (both-same-length-9 t) (both-same-length-10 t) (both-same-length-11 t)
     (both-same-length-12 t) (both-returns-3 t))
     (λ t. built-lts.spec (built-calls t) (built-at t) built.Post
-    (built-read-row-requires t) (built-both-requires t) (λ c. search needs) (λ c. search needs) (λ c. search needs) (λ c. search needs) (built-returns t)
-    (built-under-requires t) (λ c. search needs) (λ c. search needs) (λ c. search needs) (λ c. search needs) (built-returns-2 t))
+    (built-read-row-requires t) (built-both-requires t) (λ c. search needs) (λ c. search needs) (λ c. search needs) (λ c. search needs)
+    (built-returns t) (built-under-requires t) (λ c. search needs) (λ c. search needs) (λ c. search needs) (λ c. search needs) (built-returns-2 t))
     (λ t. condition-lts.spec (condition-calls t) (condition-at t) condition.Post
-    (condition-recall-requires t) (λ c. search needs) (λ c. search needs) (λ c. search needs) (condition-returns t) (λ c κs. search needs)
-    (λ c. search needs) (condition-lacks-requires t) (λ c κs. search needs) (λ c. search needs) (λ c. search needs) (condition-returns-2 t)
-    (condition-read-row-requires t) (λ c κs. search needs) (λ c. search needs) (λ c. search needs) (condition-returns-3 t) (condition-built-requires t)
-    (λ c. search needs) (λ c. search needs) (λ c. search needs) (λ c. search needs) (condition-returns-4 t) (condition-keep-requires t)
-    (condition-same-length-11 t) (condition-same-length-12 t) (condition-same-length-13 t) (condition-same-length-14 t) (condition-returns-5 t))
+    (condition-recall-requires t) (λ c. search needs) (λ c. search needs) (λ c. search needs) (condition-returns t) (condition-read-row-requires t)
+    (λ c κs. search needs) (λ c. search needs) (λ c. search needs) (condition-returns-2 t) (condition-built-requires t) (λ c. search needs)
+    (λ c. search needs) (λ c. search needs) (λ c. search needs) (condition-returns-3 t) (condition-keep-requires t) (condition-same-length-9 t)
+    (condition-same-length-10 t) (condition-same-length-11 t) (condition-same-length-12 t) (condition-returns-4 t))
+    (λ t. half-lts.spec (half-calls t) (half-at t) half.Post
+    (λ c κs. search needs) (λ c. search needs) (half-lacks-requires t) (λ c κs. search needs) (λ c. search needs) (half-returns t)
+    (half-condition-requires t) (λ c. search needs) (λ c. search needs) (λ c. search needs) (λ c. search needs) (half-returns-2 t))
     (λ t. under-lts.spec (under-calls t) (under-at t) under.Post
     (under-read-row-requires t) (λ c. search needs) (under-condition-requires t) (λ c. search needs) (λ c. search needs) (λ c. search needs)
     (λ c. search needs) (under-returns t) (λ c κs. search needs) (λ c. search needs) (λ c. search needs) (λ c. search needs) (λ c. search needs)
