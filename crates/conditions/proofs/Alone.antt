@@ -17,19 +17,18 @@ use Rattle.normal_form.specs.Conditions.{guarded}
 use Rattle.formula_builder.specs.declared.Words.{Words}
 use Rattle.formula_builder.specs.declared.Frame.{Frame}
 use Rattle.formula_builder.specs.Inner.Held.{side, row-of}
-use Rattle.formula_builder.proofs.Steps.{join-left-true}
 use Rattle.images.specs.Inner.Images.{tree}
 use Rattle.atom_sets.specs.Inner.Sets.{lacks, Sets}
 use Rattle.conditions.specs.declared.Target.{Target}
 use Rattle.conditions.specs.Inner.Conditions.{atom-of, acts, atom-row, effect-rows, EffectSource, Unnamed, AtomSets}
 use Rattle.conditions.proofs.Atoms.{touch-other, other-atom}
-use Rattle.conditions.proofs.Rows.{both-lower, under-lower, known-kind, of-atom, of-both, of-under}
+use Rattle.conditions.proofs.Rows.{join-with-left, both-lower, under-lower, known-kind, of-atom, of-both, of-under}
 
 -- a join of what folds away folds away
 pub idle-pair : (p : Polarity) → pair (opposite p) (give (image-of-false p)) (give (image-of-false p)) ≡ give (image-of-false p)
 unfolding pair bind give
-idle-pair plain = join-left-true negated 0 0 (λ e. omega arith) (λ e. omega arith) refl
-idle-pair negated = join-left-true plain 1 1 (λ e. omega arith) (λ e. omega arith) refl
+idle-pair plain = join-with-left negated 0
+idle-pair negated = join-with-left plain 1
 
 -- and a formula over what folds away is not built
 pub idle-guard : (n : ℕ) (p : Polarity) (f : Formula) → bind (give (image-of-false p)) (λ c. guarded n p f c) ≡ give (image-of-false p)

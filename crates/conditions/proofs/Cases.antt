@@ -25,7 +25,7 @@ use Rattle.atom_sets.specs.Inner.Sets.{lacks, InSet}
 use Rattle.conditions.specs.declared.Target.{Target}
 use Rattle.conditions.specs.Inner.Conditions.{atom-of, acts, atom-row, condition-at, AsksKept, Recalls, Asks, Conditions}
 use Rattle.conditions.specs.Inner.Joins.{AsksJoin, Joined}
-use Rattle.conditions.proofs.Rows.{both-lower, under-lower, under-else, of-atom, of-both, of-under}
+use Rattle.conditions.proofs.Rows.{join-with-left, join-with-right, both-lower, under-lower, under-else, of-atom, of-both, of-under}
 use Rattle.conditions.proofs.Notes.{steady-condition-at, looks}
 use Rattle.conditions.proofs.Memos.{conditions-as, asks-next, conditions-of-images, conditions-leaf, conditions-bind, conditions-stop, conditions-known}
 use Rattle.conditions.proofs.Joins.{conditions-joined}
@@ -51,6 +51,26 @@ lacks-framed notes clear v e p h = rw (← p) h
 side-not : (b : Bool) → opposite (side b) ≡ side (not b)
 side-not true = refl
 side-not false = refl
+
+-- what folds away in the join of "both"
+false-not : (b : Bool) → image-of-false (side b) ≡ image-of-true (side (not b))
+false-not true = refl
+false-not false = refl
+
+-- a row that stands is the answer, after a step
+answers-standing :
+    {m : Build ℕ} {frame : Frame} {formulas effects notes : List ℕ} {at : Size} {before after : Store} {scratch : List ℕ} {r : Step}
+    (v : ℕ) {full : Bool}
+    → Conditions m frame formulas effects notes at before after scratch r
+    → r .full ≡ false
+    → full ≡ false
+    → v < r .rows
+    → Conditions (give v) frame formulas effects notes (size-of r) after after scratch
+    (record { rows = r .rows; twins = r .twins; row = v; full = full })
+unfolding give
+answers-standing v x g f h =
+    conditions-leaf (steady-give v) (x .noted g) (x .memo g) (x .effect-memo g)
+    (builds-done f (record { value = refl; state = refl; ready = x .builds .done g .ready; below = h; grew = omega arith }))
 
 -- Row e, with what its condition asks.
 module _ {frame : Frame} {formulas effects notes : List ℕ} {t : Target} {at : Size} {before : Store} {scratch : List ℕ} {e : ℕ}
@@ -184,6 +204,33 @@ module _ {frame : Frame} {formulas effects notes : List ℕ} {t : Target} {at : 
               (conditions-stop (λ r. join-both (l .row) r) (λ r. steady-join (side (not (t .negated))) (l .row) r) y k))
 
           module _ (k : r .full ≡ false) where
+            -- the join gives the whole
+            on-both :
+                {notes₃ : List ℕ} {last : Store} {s3 : List ℕ} {z : Step}
+                → Conditions (join-both (l .row) (r .row)) frame formulas effects notes₃ (size-of r) after last s3 z
+                → Conditions (condition-at frame formulas effects t e) frame formulas effects notes₃ at before last s3 z
+            on-both j = conditions-as both-reads (conditions-bind (λ l. right-of l) x g (conditions-bind (λ r. join-both (l .row) r) y k j))
+
+            left-stands : l .row < r .rows
+            left-stands = omega (arith, x .builds .done g .below, y .builds .done k .grew)
+
+            pub left-false :
+                l .row ≡ image-of-false (side (t .negated))
+                → Conditions (condition-at frame formulas effects t e) frame formulas effects notes₂ at before after s2 r
+            left-false h =
+                on-both
+                (conditions-as (rw (h, false-not (t .negated)) (join-with-left (side (not (t .negated))) (r .row)))
+                (answers-standing (r .row) y k k (y .builds .done k .below)))
+
+            pub right-false :
+                r .row ≡ image-of-false (side (t .negated))
+                → Conditions (condition-at frame formulas effects t e) frame formulas effects notes₂ at before after s2
+                (record { rows = r .rows; twins = r .twins; row = l .row; full = l .full })
+            right-false h =
+                on-both
+                (conditions-as (rw (h, false-not (t .negated)) (join-with-right (side (not (t .negated))) (l .row)))
+                (answers-standing (l .row) y k g left-stands))
+
             pub both-join-asks : AsksJoin frame notes₂ e (r .rows) (after .table) (l .row) (r .row)
             both-join-asks =
                 let m = y .builds .done k in
@@ -192,7 +239,7 @@ module _ {frame : Frame} {formulas effects notes : List ℕ} {t : Target} {at : 
                   twins = r .twins;
                   originals = after .originals;
                   ready = m .ready;
-                  left = omega (arith, x .builds .done g .below, m .grew);
+                  left = left-stands;
                   right = m .below;
                 }
 
@@ -203,10 +250,8 @@ module _ {frame : Frame} {formulas effects notes : List ℕ} {t : Target} {at : 
             both-done j =
                 let flag : t .negated ≡ false → eqb (row-at effects e .kind) 3 ≡ not (t .negated) =
                 λ p. eq-eqb (row-at effects e .kind) 3 three ∙ ap (λ b. not b) (sym p) in
-                conditions-as both-reads
-                (conditions-bind (λ l. right-of l) x g
-                (conditions-bind (λ r. join-both (l .row) r) y k
-                (conditions-joined (record { ready = y .builds .done k .ready; noted = y .noted k; flag = flag }) (y .memo k) (y .effect-memo k) j)))
+                on-both
+                (conditions-joined (record { ready = y .builds .done k .ready; noted = y .noted k; flag = flag }) (y .memo k) (y .effect-memo k) j)
 
 -- Row e is a formula over an effect, with the words w.
 module _ {frame : Frame} {formulas effects notes : List ℕ} {t : Target} {at : Size} {before : Store} {scratch : List ℕ} {e : ℕ}
@@ -248,11 +293,9 @@ module _ {frame : Frame} {formulas effects notes : List ℕ} {t : Target} {at : 
             → Conditions (condition-at frame formulas effects t e) frame formulas effects notes₁ at before mid s1 s
         unfolding guarded give
         inner-false h =
-            let m = x .builds .done g in
             on
             (conditions-as (rw (eq-eqb (s .row) (image-of-false (side (t .negated))) h))
-            (conditions-leaf (steady-give (s .row)) (x .noted g) (x .memo g) (x .effect-memo g)
-            (builds-done g (record { value = refl; state = refl; ready = m .ready; below = m .below; grew = omega arith }))))
+            (answers-standing (s .row) x g g (x .builds .done g .below)))
 
         pub image-asks : length s1 ≡ length scratch → AsksImage frame formulas (size-of s) mid s1 (w .a)
         image-asks long =

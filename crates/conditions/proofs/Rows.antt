@@ -1,7 +1,8 @@
 -- The condition of a row by its kind. Assumes nothing.
 use Prim.Native.Nat.{ℕ, zero, suc, _≤_, _<_}
 use native.Mathlib.Omega.{arith}
-use mathlib.Core.Path.{_≡_, refl, ap, _∙_}
+use native.Mathlib.Decide.{ℕ-discrete}
+use mathlib.Core.Path.{_≡_, refl, sym, ap, _∙_}
 use mathlib.Core.Bool.{cond}
 use mathlib.Core.List.{List}
 use lib.ListN.{length, getD}
@@ -12,13 +13,35 @@ use Rattle.task.specs.Tree.{effect-node}
 use Rattle.task.proofs.Bounded.{length-upto, getD-upto}
 use Rattle.task.proofs.Trees.{effect-unfolds}
 use Rattle.task.specs.Inner.Rows.{EffectKept}
-use Rattle.normal_form.specs.Builder.{Build, give, bind, pair, Polarity, opposite, image-of-false, image-of-true}
+use Rattle.normal_form.specs.Builder.{Build, give, bind, join, pair, Polarity, plain, negated, opposite, image-of-false, image-of-true}
 use Rattle.normal_form.specs.Conditions.{guarded, condition}
 use Rattle.formula_builder.specs.declared.Frame.{Frame}
 use Rattle.formula_builder.specs.Inner.Held.{side}
+use Rattle.formula_builder.proofs.Steps.{join-left-false, join-right-false, join-left-true, join-right-true}
 use Rattle.images.specs.Inner.Images.{source-rows, tree}
 use Rattle.conditions.specs.declared.Target.{Target}
 use Rattle.conditions.specs.Inner.Conditions.{atom-of, acts, atom-row, effect-rows, effect-tree, condition-at, EffectSource}
+
+true-apart : (p : Polarity) → image-of-true p ≡ image-of-false p → ⊥
+true-apart plain e = omega (arith, e)
+true-apart negated e = omega (arith, e)
+
+-- true and x, x and true are x; negated, false or x, x or false
+module _ (p : Polarity) (x : ℕ) where
+  pub join-with-left : join p (image-of-true p) x ≡ give x
+  join-with-left = go (ℕ-discrete x (image-of-false p))
+    where
+      go : Dec (x ≡ image-of-false p) → join p (image-of-true p) x ≡ give x
+      go (yes e) = join-right-false p (image-of-true p) x (true-apart p) e ∙ ap (λ (y : ℕ). give y) (sym e)
+      go (no n) = join-left-true p (image-of-true p) x (true-apart p) n refl
+
+  pub join-with-right : join p x (image-of-true p) ≡ give x
+  join-with-right = go (ℕ-discrete x (image-of-false p)) (ℕ-discrete x (image-of-true p))
+    where
+      go : Dec (x ≡ image-of-false p) → Dec (x ≡ image-of-true p) → join p x (image-of-true p) ≡ give x
+      go (yes e) d = join-left-false p x (image-of-true p) e ∙ ap (λ (y : ℕ). give y) (sym e)
+      go (no n) (yes e) = join-left-true p x (image-of-true p) n (true-apart p) e ∙ ap (λ (y : ℕ). give y) (sym e)
+      go (no n) (no k) = join-right-true p x (image-of-true p) n (true-apart p) k refl
 
 -- The condition of a row by its kind, over the formula f and the effects d and g that its words name.
 module _ (n : ℕ) (p : Polarity) (l : Atom) (a : ℕ) (f : Formula) (d g : Effect) where

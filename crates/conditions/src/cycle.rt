@@ -110,7 +110,7 @@ fn built(
     )
 }
 
-// "Both": the left effect, the right one, the join.
+// "Both": the left effect, the right one, the join; one that is false leaves the other.
 fn both(
     formulas: &[u16],
     effects: &[u16],
@@ -159,6 +159,13 @@ fn both(
     );
     if r == NO_ROOM {
         return r;
+    }
+    let none = falsity(t.negated);
+    if l == none {
+        return r;
+    }
+    if r == none {
+        return l;
     }
     joined(notes, e, t, !t.negated, frame, rows, l, r, table)
 }

@@ -35,7 +35,7 @@ use mathlib.Core.Path.{sym, _∙_}
 use Rattle.conditions.proofs.Notes.{small-row}
 use Rattle.conditions.proofs.Memos.{asks-next, conditions-kept}
 use Rattle.conditions.proofs.Cases.{lacks-framed, kept-asks, in-set, answers-known, answers-lacking, answers-atom, composed, is-both, is-under}
-use Rattle.conditions.proofs.Cases.{effects-lower, left-asks, left-full, right-asks, right-full, both-join-asks, both-done}
+use Rattle.conditions.proofs.Cases.{effects-lower, left-asks, left-full, right-asks, right-full, left-false, right-false, both-join-asks, both-done}
 use Rattle.conditions.proofs.Cases.{inner-lower, inner-asks, inner-full, inner-false, image-asks, image-full, under-join-asks, under-done}
 
 -- a condition's row is above the rows that it names
@@ -87,8 +87,16 @@ module _ (t : ℕ) where
 
   -- what each call asks, and what is learnt of it
   abbrev both-calls : both-lts.Claims
-  both-calls =
-      (read-row-reads.Asked, read-row-reads.Learnt, half-below, half.Post, joined-reads.Asked, joined-reads.Learnt)
+  both-calls = (
+    read-row-reads.Asked,
+    read-row-reads.Learnt,
+    half-below,
+    half.Post,
+    falsity-reads.Asked,
+    falsity-reads.Learnt,
+    joined-reads.Asked,
+    joined-reads.Learnt,
+  )
 
   abbrev built-calls : built-lts.Claims
   built-calls =
@@ -176,9 +184,33 @@ module _ (t : ℕ) where
       right-full (start .pre .1 .0) (start .pre .1 .1) (at-row .read-row .result) (at-row .read-row .ensures) (at-left .half .ensures)
       (ne-eqb _ 65535 (at-if1 .if1 .left)) (at-right .half2 .ensures) (eq-eqb _ 65535 (c .if2 .taken))
 
+  both-returns-3 : both-lts.Need-returns-3 both-calls both-at both.Post
+  both-returns-3 c =
+      let at-falsity = c .before in
+      let at-if2 = at-falsity .before in
+      let at-right = at-if2 .before .before .before .before .before .before .before .before .before in
+      let at-if1 = at-right .before .before .before .before .before .before .before .before in
+      let at-left = at-if1 .before .before .before .before .before .before .before .before .before in
+      let at-row = at-left .before .before .before .before .before .before .before .before in
+      let start = at-row .before .before .before .before .before .before .before in
+      left-false (start .pre .1 .0) (start .pre .1 .1) (at-row .read-row .result) (at-row .read-row .ensures) (at-left .half .ensures)
+      (ne-eqb _ 65535 (at-if1 .if1 .left)) (at-right .half2 .ensures) (ne-eqb _ 65535 (at-if2 .if2 .left)) (c .if3 .taken ∙ at-falsity .falsity .ensures)
+
+  both-returns-4 : both-lts.Need-returns-4 both-calls both-at both.Post
+  both-returns-4 c =
+      let at-falsity = c .before .before in
+      let at-if2 = at-falsity .before in
+      let at-right = at-if2 .before .before .before .before .before .before .before .before .before in
+      let at-if1 = at-right .before .before .before .before .before .before .before .before in
+      let at-left = at-if1 .before .before .before .before .before .before .before .before .before in
+      let at-row = at-left .before .before .before .before .before .before .before .before in
+      let start = at-row .before .before .before .before .before .before .before in
+      right-false (start .pre .1 .0) (start .pre .1 .1) (at-row .read-row .result) (at-row .read-row .ensures) (at-left .half .ensures)
+      (ne-eqb _ 65535 (at-if1 .if1 .left)) (at-right .half2 .ensures) (ne-eqb _ 65535 (at-if2 .if2 .left)) (c .if4 .taken ∙ at-falsity .falsity .ensures)
+
   both-joined-requires : both-lts.Need-joined-requires both-calls both-at both.Post
   both-joined-requires c κs =
-      let at-if2 = c .before .before .before .before in
+      let at-if2 = c .before .before .before .before .before .before .before in
       let at-right = at-if2 .before .before .before .before .before .before .before .before .before in
       let at-if1 = at-right .before .before .before .before .before .before .before .before in
       let at-left = at-if1 .before .before .before .before .before .before .before .before .before in
@@ -187,37 +219,37 @@ module _ (t : ℕ) where
       both-join-asks (start .pre .1 .0) (start .pre .1 .1) (at-row .read-row .result) (at-row .read-row .ensures) (at-left .half .ensures)
       (ne-eqb _ 65535 (at-if1 .if1 .left)) (at-right .half2 .ensures) (ne-eqb _ 65535 (at-if2 .if2 .left))
 
-  both-same-length-9 : both-lts.Need-same-length-9 both-calls both-at both.Post
-  both-same-length-9 c =
+  both-same-length-17 : both-lts.Need-same-length-17 both-calls both-at both.Post
+  both-same-length-17 c =
       let at-joined = c .before .before .before .before in
-      let at-right = at-joined .before .before .before .before .before .before .before .before .before .before .before .before .before .before in
+      let at-right = at-joined .before .before .before .before .before .before .before .before .before .before .before .before .before .before .before .before .before in
       let at-left = at-right .before .before .before .before .before .before .before .before .before .before .before .before .before .before .before .before .before in
       at-joined .joined .kept .0 ∙ at-right .half2 .kept .1 .1 .0 ∙ at-left .half .kept .1 .1 .0
 
-  both-same-length-10 : both-lts.Need-same-length-10 both-calls both-at both.Post
-  both-same-length-10 c =
+  both-same-length-18 : both-lts.Need-same-length-18 both-calls both-at both.Post
+  both-same-length-18 c =
       let at-joined = c .before .before .before .before in
-      let at-right = at-joined .before .before .before .before .before .before .before .before .before .before .before .before .before .before in
+      let at-right = at-joined .before .before .before .before .before .before .before .before .before .before .before .before .before .before .before .before .before in
       let at-left = at-right .before .before .before .before .before .before .before .before .before .before .before .before .before .before .before .before .before in
       at-joined .joined .kept .1 .1 .1 .1 .1 .1 .1 .1 .0 ∙ at-right .half2 .kept .1 .1 .1 .1 .1 .1 .1 .1 .0 ∙
       at-left .half .kept .1 .1 .1 .1 .1 .1 .1 .1 .0
 
-  both-same-length-11 : both-lts.Need-same-length-11 both-calls both-at both.Post
-  both-same-length-11 c =
-      let at-right = c .before .before .before .before .before .before .before .before .before .before .before .before .before .before .before .before .before .before in
+  both-same-length-19 : both-lts.Need-same-length-19 both-calls both-at both.Post
+  both-same-length-19 c =
+      let at-right = c .before .before .before .before .before .before .before .before .before .before .before .before .before .before .before .before .before .before .before .before .before in
       let at-left = at-right .before .before .before .before .before .before .before .before .before .before .before .before .before .before .before .before .before in
       at-right .half2 .kept .1 .1 .1 .1 .1 .1 .1 .1 .1 .0 ∙ at-left .half .kept .1 .1 .1 .1 .1 .1 .1 .1 .1 .0
 
-  both-same-length-12 : both-lts.Need-same-length-12 both-calls both-at both.Post
-  both-same-length-12 c =
-      let at-right = c .before .before .before .before .before .before .before .before .before .before .before .before .before .before .before .before .before .before in
+  both-same-length-20 : both-lts.Need-same-length-20 both-calls both-at both.Post
+  both-same-length-20 c =
+      let at-right = c .before .before .before .before .before .before .before .before .before .before .before .before .before .before .before .before .before .before .before .before .before in
       let at-left = at-right .before .before .before .before .before .before .before .before .before .before .before .before .before .before .before .before .before in
       at-right .half2 .kept .1 .1 .1 .1 .1 .1 .1 .1 .1 .1 .0 ∙ at-left .half .kept .1 .1 .1 .1 .1 .1 .1 .1 .1 .1 .0
 
-  both-returns-3 : both-lts.Need-returns-3 both-calls both-at both.Post
-  both-returns-3 c =
+  both-returns-5 : both-lts.Need-returns-5 both-calls both-at both.Post
+  both-returns-5 c =
       let at-joined = c .before .before .before .before in
-      let at-if2 = at-joined .before .before .before .before .before in
+      let at-if2 = at-joined .before .before .before .before .before .before .before .before in
       let at-right = at-if2 .before .before .before .before .before .before .before .before .before in
       let at-if1 = at-right .before .before .before .before .before .before .before .before in
       let at-left = at-if1 .before .before .before .before .before .before .before .before .before in
@@ -479,8 +511,9 @@ pub +both+built+condition+half+under-spec : {M : Type 1} → statement M
     (λ t. both-lts.spec (both-calls t) (both-at t) both.Post
     (both-read-row-requires t) (λ c. search needs) (both-half-requires t) (λ c. search needs) (λ c. search needs) (λ c. search needs)
     (λ c. search needs) (both-returns t) (λ c. search needs) (both-half-requires-2 t) (λ c. search needs) (λ c. search needs) (λ c. search needs)
-    (λ c. search needs) (both-returns-2 t) (both-joined-requires t) (both-same-length-9 t) (both-same-length-10 t) (both-same-length-11 t)
-    (both-same-length-12 t) (both-returns-3 t))
+    (λ c. search needs) (both-returns-2 t) (λ c κs. search needs) (λ c. search needs) (λ c. search needs) (λ c. search needs) (λ c. search needs)
+    (both-returns-3 t) (λ c. search needs) (λ c. search needs) (λ c. search needs) (λ c. search needs) (both-returns-4 t) (both-joined-requires t)
+    (both-same-length-17 t) (both-same-length-18 t) (both-same-length-19 t) (both-same-length-20 t) (both-returns-5 t))
     (λ t. built-lts.spec (built-calls t) (built-at t) built.Post
     (built-read-row-requires t) (built-both-requires t) (λ c. search needs) (λ c. search needs) (λ c. search needs) (λ c. search needs)
     (built-returns t) (built-under-requires t) (λ c. search needs) (λ c. search needs) (λ c. search needs) (λ c. search needs) (built-returns-2 t))
