@@ -228,7 +228,7 @@ pub names-row :
     → NamesBelow effects first notes i last
     → Names effects i e
     → length notes' ≡ length notes
-    → last' ≤ 8450
+    → last' < 65535
     → NamesRow effects first notes' e last'
 names-row {e = e} a n long few =
     let low = a .row .lower e n in
@@ -244,7 +244,7 @@ pub below-asks :
     → Room frame effects first notes
     → length notes' ≡ length notes
     → i < frame .effects
-    → last ≤ 8448
+    → last < 65534
     → NamesBelow effects first notes' i last
 below-asks {i = i} r long h few =
     record {
@@ -265,7 +265,7 @@ pub root-asks :
     → k < count
     → row-of r ≡ row-at operators k
     → length notes' ≡ length notes
-    → last ≤ 8450
+    → last < 65535
     → NamesRow effects first notes' (r .a) last
 root-asks k r a h q long few =
     let low = root-below k r (a .roots) h q in

@@ -11,7 +11,7 @@ ghost use mathlib.Core.Bool.{true};
 ghost use Prim.Native.Nat.{ℕ, _≤_, _<_};
 ghost use Rattle.effect_batches.specs.Inner.Numbers.{Sizes, Sized, Forgets, Forgot, ListsRow, ListedRow, Lists, Listed, BeginsBatch, BeganBatch};
 
-// How many columns there is room for, so many words behind the sets; no row has column 0, so its place is lost. Nothing is promised of it.
+// How many columns so many words have room for; no row has column 0, so its place is lost. Nothing is promised of it.
 fn most_columns(variables: usize, room: usize) -> usize {
     if variables == 0 {
         return MOST_ROWS;
@@ -33,8 +33,8 @@ fn halved(columns: u16, most: usize, size: usize) -> bool
     most < columns as usize
 }
 
-// All operators from one on to the last, else half as many, and so on, until there is room for their columns: these are given. Answers how many
-// operators. At most nine times the passes of number_batch.
+// All operators from one on to the last, else half as many, and so on, until there is room for their columns: these are given. Answers how
+// many operators. At most nine times the passes of number_batch.
 fn size_batch(
     effects: &[u16],
     operators: &[u16],
@@ -69,7 +69,8 @@ fn forget(from: usize, k: usize, notes: &mut [u16])
     clear_between(notes, k, n);
 }
 
-// Row e stands behind k rows in the list if it has one of the columns that there is room for, and an operator before operator `from` came to it. Answers how many stand there.
+// Row e is listed behind k rows if it has one of the columns that there is room for, and an operator before operator `from` came to it. Answers
+// how many are listed.
 fn list_row(
     first: &[u16],
     e: usize,
@@ -121,8 +122,8 @@ fn list_rows(
     k
 }
 
-// The batch that begins with operator `from`: its end, and the list of the rows that are to be filled. As many operators as there is room for the
-// columns of; a single one with more walks those without a column by its memo alone.
+// The batch that begins with operator `from`: its end, and the list of the rows that are to be filled. It has as many operators as there is
+// room for the columns of; a single one with more walks rows without a column by its memo alone.
 pub fn begin_batch(
     effects: &[u16],
     operators: &[u16],

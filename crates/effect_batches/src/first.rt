@@ -59,7 +59,8 @@ fn hand_on(effects: &[u16], i: usize, first: &mut [u16])
     meet(first, r.a as usize, w);
 }
 
-// The words of all rows, which are 0 before: one pass over the operators, then one over the effects, downwards, since the rows that a row names are lower.
+// The words of all rows, which are 0 before: one pass over the operators, then one over the effects, downwards, since the rows that a row
+// names are lower.
 pub fn find_first(effects: &[u16], operators: &[u16], count: usize, frame: Frame, first: &mut [u16])
     requires { ⌜ FindsFirst frame (now effects) (now operators) count (now first) ⌝ }
     ensures { λ _. ⌜ First (now (effects .entry)) (now (operators .entry)) count (now (first .exit)) ⌝ }

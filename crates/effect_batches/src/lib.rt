@@ -1,8 +1,9 @@
-// Columns for a batch of operators at a time: what is built of rows that several operators come to is kept while the batch lasts. While operator o is
-// built it comes to rows for the first time, and to rows of earlier operators again, but only at its entries: the rows that o itself or a row
-// first come to by o names, and that an earlier operator came to. An entry gets a column. There is a batch for as many of the next operators
-// as there is room for their entries, and the columns of rows that operators before it came to are filled as it begins: building
-// again adds nothing. So every row is walked for an atom at most once as its operator's own and once for each batch.
+// Columns for a batch of operators at a time: what is built of rows that several operators come to is kept while the batch lasts. While
+// operator o is built it comes to rows for the first time, and to rows of earlier operators again, but only at its entries: the rows that o
+// itself or a row first come to by o names, and that an earlier operator came to. An entry gets a column. A batch has as many of the next
+// operators as there is room for the entries of, and the columns of rows that operators before it came to are filled as it begins:
+// building again adds nothing. So every row is walked for an atom at most once as its operator's own and once for each batch. Duals
+// are not filled: a row is walked for one at most once for each change that needs it, of which there are 2,048 in all.
 //
 //              operator 0        operator 1           operator 2
 //                  |                 |                    |

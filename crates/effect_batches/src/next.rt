@@ -7,8 +7,9 @@ use formula_builder::Size;
 ghost use Rattle.formula_builder.specs.Inner.Held.{store};
 ghost use Rattle.effect_batches.specs.Inner.Next.{NextBatch, BegunBatch};
 
-// The batch that begins with operator `from`, which is next: answers its end. Nothing is added to what is built. Costs at most 30 passes over the effects, a walk for each
-// atom over what operators before it came to and the batch comes to again, and 8 KiB, cleared.
+// The batch that begins with operator `from`, which is next; answers its end. Nothing is added to what is built. Costs at most 19 passes over
+// the effects, nine over the operators that are left, one over what is kept, for each atom a walk over the rows below those that are to be
+// filled, and a list of 8 KiB, cleared.
 pub fn next_batch(
     formulas: &[u16],
     effects: &[u16],

@@ -3,7 +3,7 @@ use crate::BOTH;
 use crate::UNDER;
 use formula_builder::Frame;
 use formula_builder::read_row;
-ghost use Prim.Native.Nat.{ℕ, _+_, _≤_, _<_};
+ghost use Prim.Native.Nat.{ℕ, _+_, _*_, _≤_, _<_};
 ghost use lib.ListN.{length};
 ghost use Rattle.effect_batches.specs.Inner.Firsts.{Roots};
 ghost use Rattle.effect_batches.specs.Inner.Numbers.{Room, Numbered, NamesRow, NamesBelow, NamesRoots, Renumbered, Cleared};
@@ -20,8 +20,8 @@ pub fn clear_between(notes: &mut [u16], from: usize, to: usize)
     }
 }
 
-// Row e, which operator o or a row first come to by it names, for the word w = o + 1: it gets the next column if an earlier operator came to it, unless it
-// has one, or is an atom. Answers the last column given.
+// Row e, which the operator of word w or a row first come to by it names: it gets the next column if an earlier operator came to it, unless
+// it has one, or is an atom. Answers the last column given.
 fn name(effects: &[u16], first: &[u16], e: usize, w: u16, last: u16, notes: &mut [u16]) -> u16
     requires { ⌜ NamesRow (now effects) (now first) (now notes) e last ⌝ }
     ensures { λ r. ⌜ ((n : ℕ) → e < n → Numbered n 1 last (now (notes .entry)) (now (notes .exit)) r) ⌝ }
@@ -40,7 +40,8 @@ fn name(effects: &[u16], first: &[u16], e: usize, w: u16, last: u16, notes: &mut
     last + 1
 }
 
-// Of so many rows those have a column that operators name, so many from one on, and no others. As many steps as there are rows and operators.
+// Of so many rows those that operators name have a column, so many operators from one on, and no others. As many steps as there are rows and
+// operators. Answers the last column given.
 fn name_roots(
     effects: &[u16],
     operators: &[u16],
@@ -96,7 +97,7 @@ fn name_below(
     name(effects, first, r.a as usize, w, right, notes)
 }
 
-// The rows that rows name which so many operators from one on came to first. Two rows a step, as many steps as there are effects.
+// The rows that rows name to which one of so many operators from one on came first. As many steps as there are effects, two rows each.
 fn name_rows(
     effects: &[u16],
     from: usize,
@@ -107,7 +108,7 @@ fn name_rows(
     notes: &mut [u16],
 ) -> u16
     requires { ⌜ Room frame (now effects) (now first) (now notes) × (given ≤ 256) ⌝ }
-    ensures { λ r. ⌜ Numbered (frame .effects) 8192 given (now (notes .entry)) (now (notes .exit)) r ⌝ }
+    ensures { λ r. ⌜ Numbered (frame .effects) (2 * frame .effects) given (now (notes .entry)) (now (notes .exit)) r ⌝ }
 {
     let mut last = given;
     let mut i = 0;
@@ -118,8 +119,8 @@ fn name_rows(
     last
 }
 
-// The columns of so many operators from one on: each entry has one, no other row. Three passes, two over the effects, one over these operators. Answers how
-// many there are.
+// The columns of so many operators from one on: each entry has one, no other row. Three passes, two over the effects, one over these
+// operators. Answers how many there are.
 pub fn number_batch(
     effects: &[u16],
     operators: &[u16],

@@ -21,19 +21,19 @@ pub record Numbered (n most last : ℕ) (notes notes' : List ℕ) (r : ℕ) : Ty
   pub once : r ≤ last + most
   pub behind : (j : ℕ) → n ≤ j → getD notes' j 0 ≡ getD notes j 0
 
--- Row e has its words.
+-- Row e has its words, and the next column fits a word.
 pub record NamesRow (effects first notes : List ℕ) (e last : ℕ) : Type 0 where
   pub words : 3 * e + 3 ≤ length effects
   pub effect : e < length first
   pub within : e < length notes
-  pub few : last ≤ 8450
+  pub few : last < 65535
 
--- So has row i, which keeps the rules.
+-- So has row i, which keeps the rules, and the next two columns fit.
 pub record NamesBelow (effects first notes : List ℕ) (i last : ℕ) : Type 0 where
   pub row : RowKept effects i
   pub effect : i < length first
   pub within : i < length notes
-  pub few : last ≤ 8448
+  pub few : last < 65534
 
 -- So have n rows, among them each operator's effect.
 pub record NamesRoots (n : ℕ) (effects operators first notes : List ℕ) (count : ℕ) : Type 0 where

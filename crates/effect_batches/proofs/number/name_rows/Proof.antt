@@ -49,9 +49,8 @@ same-length c =
 
 returns : tie.Need-returns Inv-loop μ-loop
 returns c =
-    let start = c .before .before .before .before .before .before in
     let loop = c .before .before .loop in
-    numbered-more (omega (arith, start .pre .0 .rows .limit)) (loop .inv .2)
+    numbered-more (omega arith) (loop .inv .2)
 
 pub name-rows-spec : {M : Type 1} → statement M
 name-rows-spec =
