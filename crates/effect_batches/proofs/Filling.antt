@@ -149,14 +149,25 @@ row-fills k h f x =
       covered = fills-then (f .fills) x .covered k h;
     }
 
--- the same of a frame that is taken apart and put together again
+-- The same of a frame that is taken apart and put together again.
 pub fills-framed :
-    {frame whole : Frame} {formulas effects notes list : List ℕ} {n : ℕ} {at : Size} {s : Store} {scratch : List ℕ} {v : ℕ}
+    {frame whole : Frame} {formulas effects notes list : List ℕ} {n : ℕ} {at : Size} {s : Store} {scratch : List ℕ}
     → whole ≡ frame
     → Fills frame formulas effects notes list n at s scratch
-    → v < frame .variables
-    → Fills whole formulas effects notes list n at s scratch × (v < whole .variables)
-fills-framed q f h = rw q (f, h)
+    → Fills whole formulas effects notes list n at s scratch
+fills-framed q f = rw q f
+
+-- what one atom asks
+pub atom-fills :
+    {frame whole : Frame} {formulas effects notes notes' list : List ℕ} {n : ℕ} {at : Size} {a b : Store} {scratch scratch' : List ℕ} (t : Target)
+    → whole ≡ frame
+    → Fills frame formulas effects notes list n at a scratch
+    → Filled whole formulas effects notes' at a b scratch'
+    → t .negated ≡ false
+    → t .variable < frame .variables
+    → FillsAtom whole formulas effects notes' list n t at b scratch'
+atom-fills t q f x plain h =
+    record { fills = fills-then (fills-framed q f) x; plain = plain; variable = rw q h }
 
 pub filled-framed :
     {frame whole : Frame} {formulas effects notes : List ℕ} {at : Size} {a b : Store} {scratch : List ℕ}

@@ -6,7 +6,6 @@ use formula_builder::Frame;
 use formula_builder::Size;
 use formula_builder::frame_of;
 use formula_builder::words_of;
-ghost use Prim.Native.Nat.{_<_};
 ghost use Rattle.formula_builder.specs.Inner.Held.{store, framed};
 ghost use Rattle.effect_batches.specs.Inner.Filling.{FillsRow, FillsAtom, Fills, Filled};
 
@@ -83,62 +82,7 @@ fn fill_atom(
     }
 }
 
-// The atoms of variable v: set v and clear v.
-fn fill_variable(
-    formulas: &[u16],
-    effects: &[u16],
-    notes: &mut [u16],
-    list: &[u16],
-    n: usize,
-    v: u16,
-    frame: &[usize; 5],
-    at: Size,
-    table: &mut [u16],
-    originals: &mut [u16],
-    scratch: &mut [u16],
-)
-    requires { ⌜ Fills (framed (now frame)) (now formulas) (now effects) (now notes) (now list) n at (store (now table) (now originals)) (now scratch) × (v < framed (now frame) .variables) ⌝ }
-    ensures { λ _. ⌜ Filled (framed (now (frame .entry))) (now (formulas .entry)) (now (effects .entry)) (now (notes .exit)) at (store (now (table .entry)) (now (originals .entry))) (store (now (table .exit)) (now (originals .exit))) (now (scratch .exit)) ⌝ }
-{
-    let set = Target {
-        clear: false,
-        variable: v,
-        negated: false,
-    };
-    fill_atom(
-        formulas,
-        effects,
-        notes,
-        list,
-        n,
-        set,
-        frame,
-        at,
-        table,
-        originals,
-        scratch,
-    );
-    let clear = Target {
-        clear: true,
-        variable: v,
-        negated: false,
-    };
-    fill_atom(
-        formulas,
-        effects,
-        notes,
-        list,
-        n,
-        clear,
-        frame,
-        at,
-        table,
-        originals,
-        scratch,
-    );
-}
-
-// The columns of the first n rows of the list, for each variable upwards. For each atom a walk over the rows below these.
+// The columns of the first n rows of the list, for each atom: set v and clear v of each variable, upwards. For each a walk over the rows below these.
 pub fn fill_columns(
     formulas: &[u16],
     effects: &[u16],
@@ -155,21 +99,27 @@ pub fn fill_columns(
     ensures { λ _. ⌜ Filled frame (now (formulas .entry)) (now (effects .entry)) (now (notes .exit)) at (store (now (table .entry)) (now (originals .entry))) (store (now (table .exit)) (now (originals .exit))) (now (scratch .exit)) ⌝ }
 {
     let words = words_of(frame);
-    let mut v = 0;
-    while v < frame.variables {
-        fill_variable(
+    let atoms = 2 * frame.variables;
+    let mut a = 0;
+    while a < atoms {
+        let t = Target {
+            clear: a % 2 == 1,
+            variable: (a / 2) as u16,
+            negated: false,
+        };
+        fill_atom(
             formulas,
             effects,
             notes,
             list,
             n,
-            v as u16,
+            t,
             &words,
             at,
             table,
             originals,
             scratch,
         );
-        v += 1;
+        a += 1;
     }
 }
