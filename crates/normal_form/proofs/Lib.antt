@@ -1,5 +1,6 @@
 pub mod Growth
 pub mod Steady
+pub mod Adds
 pub mod Place
 pub mod Fine
 pub mod ShapeRule

@@ -1,0 +1,4 @@
+pub mod Firsts
+pub mod Numbers
+pub mod Covering
+pub mod Filling
