@@ -5,7 +5,7 @@ use mathlib.Core.Path.{_≡_}
 use mathlib.Core.Bool.{Bool, true, false}
 use mathlib.Core.List.{List}
 use lib.ListN.{getD}
-use Rattle.task.specs.Table.{row-at}
+use Rattle.task.specs.Table.{row-at, operator-at}
 use Rattle.normal_form.specs.Builder.{St, Build, bind, each, plain, opposite}
 use Rattle.normal_form.specs.Growth.{Grows, Steady}
 use Rattle.normal_form.specs.Conditions.{condition}
@@ -24,7 +24,7 @@ use Rattle.conditions.proofs.Notes.{steady-condition-at}
 use Rattle.effect_batches.specs.Inner.Firsts.{Rows, Names, left, right, inner, Below, here, named, First}
 use Rattle.effect_batches.specs.declared.Batch.{Batch}
 use Rattle.effect_batches.specs.Inner.Numbers.{Before, BeganBatch}
-use Rattle.effect_batches.specs.Inner.Filling.{Covered, Taken, Fills}
+use Rattle.effect_batches.specs.Inner.Filling.{Covered, AllCovered, Fills}
 use Rattle.effect_batches.specs.Inner.Next.{NextBatch}
 use Rattle.effect_batches.proofs.Firsts.{memo, source, row-kept}
 
@@ -74,11 +74,11 @@ module _ {frame : Frame} {effects : List ℕ} (rows : Rows frame effects) (formu
         again = λ t p v. below-it i (above .effect) t e n (above .again t p v);
       }
 
-  -- and so is a row whose word names an operator that is taken
+  -- and so is a row whose word names an operator that is built
   pub covered-before :
       {operators first : List ℕ} {count from : ℕ} (e : ℕ)
       → First effects operators count first
-      → Taken frame formulas effects operators from s
+      → AllCovered frame formulas effects operators from s
       → Before (frame .effects) first from e
       → Covered frame formulas effects s e
   covered-before {operators} {first} {count} {from} e f k b =
@@ -104,31 +104,31 @@ covered-changes frame formulas effects s e h q =
     go true v g = nothing-clears (frame .variables) (effect-tree frame formulas effects e) q g
 
 -- The effects of the first n operators are covered once these were built, each behind a step of its own: its precondition.
-pub taken-built :
+pub covered-built :
     (frame : Frame) (formulas effects operators : List ℕ) (n : ℕ) (m : ℕ → Build ℕ) (s u : St)
     → ((k : ℕ) → Steady (m k))
-    → ((k : ℕ) → k < n → row-at operators k .a < frame .effects)
+    → ((k : ℕ) → k < n → operator-at operators k .effect < frame .effects)
     → Grows
     (each n
     (λ k.
     bind (m k)
-    (λ p. each (frame .variables) (changes-of (frame .variables) (effect-tree frame formulas effects (row-at operators k .a)))))
+    (λ p. each (frame .variables) (changes-of (frame .variables) (effect-tree frame formulas effects (operator-at operators k .effect)))))
     s .st)
     u
-    → Taken frame formulas effects operators n u
-taken-built frame formulas effects operators n m s u steady roots g =
+    → AllCovered frame formulas effects operators n u
+covered-built frame formulas effects operators n m s u steady roots g =
     record {
       covered = λ k h.
-          covered-changes frame formulas effects u (row-at operators k .a) (roots k h)
+          covered-changes frame formulas effects u (operator-at operators k .effect) (roots k h)
           (nothing-next (steady k) (λ p. all k)
           (nothing-each n (λ j. steady-bind (steady j) (λ p. all j)) s h g));
     }
   where
     all :
         (k : ℕ)
-        → Steady (each (frame .variables) (changes-of (frame .variables) (effect-tree frame formulas effects (row-at operators k .a))))
+        → Steady (each (frame .variables) (changes-of (frame .variables) (effect-tree frame formulas effects (operator-at operators k .effect))))
     all k =
-        steady-each (frame .variables) (steady-changes (frame .variables) (effect-tree frame formulas effects (row-at operators k .a)))
+        steady-each (frame .variables) (steady-changes (frame .variables) (effect-tree frame formulas effects (operator-at operators k .effect)))
 
 -- The rows that a batch lists as it begins may be filled.
 pub batch-fills :
@@ -149,5 +149,5 @@ batch-fills {formulas = formulas} {list = list} {at = at} {s = s} a x =
           };
       room = x .listed .room;
       covered = λ j h.
-          covered-before (a .sizes .room .rows) formulas (getD list j 0) (a .comes) (a .taken) (x .listed .each j h);
+          covered-before (a .sizes .room .rows) formulas (getD list j 0) (a .comes) (a .covered) (x .listed .each j h);
     }

@@ -7,7 +7,7 @@ use mathlib.Core.Logic.{_⊎_, inl, inr, ⊎-elim}
 use mathlib.Core.List.{List, []}
 use lib.ListN.{length, getD, set, replicate, length-replicate}
 use lib.Seq.{getD-set-same, getD-set-other}
-use Rattle.task.specs.Table.{Row, row-at}
+use Rattle.task.specs.Table.{Row, row-at, operator-at}
 use Rattle.formula_builder.specs.declared.Words.{Words}
 use Rattle.formula_builder.specs.declared.Frame.{Frame}
 use Rattle.formula_builder.specs.Inner.Held.{row-of}
@@ -96,7 +96,7 @@ pub comes-root :
     {effects operators : List ℕ} {count k w e : ℕ}
     → k < count
     → w ≡ k + 1
-    → e ≡ row-at operators k .a
+    → e ≡ operator-at operators k .effect
     → Comes effects operators count w e
 comes-root {effects} {operators} {count} {k} {w} {e} h r q =
     record {

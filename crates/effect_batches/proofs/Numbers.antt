@@ -2,15 +2,13 @@
 use Prim.Native.Nat.{ℕ, zero, suc, _+_, _*_, _≤_, _<_}
 use native.Mathlib.Omega.{arith}
 use native.Mathlib.Decide.{ℕ-discrete, decLt}
-use mathlib.Core.Path.{_≡_, refl, sym, ap, _∙_}
+use mathlib.Core.Path.{_≡_, refl, sym, _∙_}
 use mathlib.Core.List.{List, [], _∷_}
 use lib.ListN.{length, getD, set, length-set}
 use lib.Seq.{getD-set-same, getD-set-other}
-use Rattle.task.specs.Table.{Row, row-at}
+use Rattle.task.specs.Table.{operator-at}
 use Rattle.normal_form.specs.Builder.{St}
-use Rattle.formula_builder.specs.declared.Words.{Words}
 use Rattle.formula_builder.specs.declared.Frame.{Frame}
-use Rattle.formula_builder.specs.Inner.Held.{row-of}
 use Rattle.atom_sets.specs.Inner.Sets.{sets-end}
 use Rattle.atom_sets.proofs.Places.{sets-behind}
 use Rattle.conditions.specs.declared.Target.{Target}
@@ -254,21 +252,21 @@ below-asks {i = i} r long h few =
       few = few;
     }
 
--- the effect of operator k, with the words r, is one of the rows
-pub root-below : {n : ℕ} {operators : List ℕ} {count : ℕ} (k : ℕ) (r : Words) → Roots n operators count → k < count → row-of r ≡ row-at operators k → r .a < n
-root-below k r a h q = omega (arith, a .effect k h, ap (λ (w : Row). w .a) q)
+-- the effect of operator k is one of the rows
+pub root-below : {n : ℕ} {operators : List ℕ} {count : ℕ} (k e : ℕ) → Roots n operators count → k < count → e ≡ operator-at operators k .effect → e < n
+root-below k e a h q = omega (arith, a .effect k h, q)
 
 -- what it asks
 pub root-asks :
-    {n : ℕ} {effects operators first notes notes' : List ℕ} {count last : ℕ} (k : ℕ) (r : Words)
+    {n : ℕ} {effects operators first notes notes' : List ℕ} {count last : ℕ} (k e : ℕ)
     → NamesRoots n effects operators first notes count
     → k < count
-    → row-of r ≡ row-at operators k
+    → e ≡ operator-at operators k .effect
     → length notes' ≡ length notes
     → last < 65535
-    → NamesRow effects first notes' (r .a) last
-root-asks k r a h q long few =
-    let low = root-below k r (a .roots) h q in
+    → NamesRow effects first notes' e last
+root-asks k e a h q long few =
+    let low = root-below k e (a .roots) h q in
     record {
       words = omega (arith, a .words, low);
       effect = omega (arith, a .effect, low);

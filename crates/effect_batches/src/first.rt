@@ -3,6 +3,7 @@ use crate::BOTH;
 use crate::UNDER;
 use formula_builder::Frame;
 use formula_builder::read_row;
+use task::operator_rows::effect_of;
 ghost use mathlib.Core.List.{List};
 ghost use Prim.Native.Nat.{ℕ, _<_};
 ghost use lib.ListN.{length};
@@ -36,8 +37,8 @@ fn meet_roots(operators: &[u16], count: usize, first: &mut [u16])
 {
     let mut k = 0;
     while k < count {
-        let r = read_row(operators, k);
-        meet(first, r.a as usize, (k + 1) as u16);
+        let e = effect_of(operators, k);
+        meet(first, e as usize, (k + 1) as u16);
         k += 1;
     }
 }

@@ -3,6 +3,7 @@ use crate::BOTH;
 use crate::UNDER;
 use formula_builder::Frame;
 use formula_builder::read_row;
+use task::operator_rows::effect_of;
 ghost use Prim.Native.Nat.{ℕ, _+_, _*_, _≤_, _<_};
 ghost use lib.ListN.{length};
 ghost use Rattle.effect_batches.specs.Inner.Firsts.{Roots};
@@ -59,8 +60,8 @@ fn name_roots(
     let mut k = 0;
     while k < size {
         let o = from + k;
-        let r = read_row(operators, o);
-        last = name(effects, first, r.a as usize, (o + 1) as u16, last, notes);
+        let e = effect_of(operators, o);
+        last = name(effects, first, e as usize, (o + 1) as u16, last, notes);
         k += 1;
     }
     last

@@ -4,7 +4,7 @@ use mathlib.Core.Path.{_≡_}
 use mathlib.Core.Bool.{false}
 use mathlib.Core.List.{List}
 use lib.ListN.{length, getD}
-use Rattle.task.specs.Table.{row-at}
+use Rattle.task.specs.Table.{operator-at}
 use Rattle.normal_form.specs.Builder.{St}
 use Rattle.formula_builder.specs.declared.Frame.{Frame}
 use Rattle.formula_builder.specs.declared.Size.{Size}
@@ -23,8 +23,8 @@ pub record Covered (frame : Frame) (formulas effects : List ℕ) (s : St) (e : �
       → condition-at frame formulas effects t e s .st ≡ s
 
 -- So it is at the effects of the first n operators.
-pub record Taken (frame : Frame) (formulas effects operators : List ℕ) (n : ℕ) (s : St) : Type 0 where
-  pub covered : (k : ℕ) → k < n → Covered frame formulas effects s (row-at operators k .a)
+pub record AllCovered (frame : Frame) (formulas effects operators : List ℕ) (n : ℕ) (s : St) : Type 0 where
+  pub covered : (k : ℕ) → k < n → Covered frame formulas effects s (operator-at operators k .effect)
 
 -- The source keeps the rules, and the tables, both memos and the notes hold what is built.
 pub record Stands (frame : Frame) (formulas effects notes : List ℕ) (at : Size) (s : Store) (scratch : List ℕ) : Type 0 where

@@ -4,7 +4,7 @@ use mathlib.Core.Path.{_≡_}
 use mathlib.Core.Logic.{_⊎_}
 use mathlib.Core.List.{List}
 use lib.ListN.{length, getD}
-use Rattle.task.specs.Table.{row-at}
+use Rattle.task.specs.Table.{row-at, operator-width, operator-at}
 use Rattle.task.specs.Inner.Rows.{EffectsDown}
 use Rattle.formula_builder.specs.declared.Frame.{Frame}
 use Rattle.conditions.specs.Inner.Conditions.{effect-rows}
@@ -19,8 +19,8 @@ pub record Rows (frame : Frame) (effects : List ℕ) : Type 0 where
 -- Each operator's effect is one of n rows.
 pub record Roots (n : ℕ) (operators : List ℕ) (count : ℕ) : Type 0 where
   pub limit : count ≤ 256
-  pub words : 3 * count ≤ length operators
-  pub effect : (k : ℕ) → k < count → row-at operators k .a < n
+  pub words : operator-width * count ≤ length operators
+  pub effect : (k : ℕ) → k < count → operator-at operators k .effect < n
 
 -- Row i names effect row e.
 pub data Names (effects : List ℕ) (i e : ℕ) : Type 0 where
@@ -41,7 +41,7 @@ pub data Below (effects : List ℕ) (top : ℕ) : ℕ → Type 0 where
 
 -- Word k + 1 of row e says that operator k comes to it; 0 says nothing. That no earlier operator does is left open: it costs time alone.
 pub record Comes (effects operators : List ℕ) (count w e : ℕ) : Type 0 where
-  pub below : (k : ℕ) → w ≡ k + 1 → (k < count) × Below effects (row-at operators k .a) e
+  pub below : (k : ℕ) → w ≡ k + 1 → (k < count) × Below effects (operator-at operators k .effect) e
 
 -- So it is for each row.
 pub record First (effects operators : List ℕ) (count : ℕ) (first : List ℕ) : Type 0 where

@@ -9,13 +9,13 @@ use Rattle.formula_builder.specs.Inner.Held.{Store, held}
 use Rattle.atom_sets.specs.Inner.Sets.{sets-end}
 use Rattle.effect_batches.specs.Inner.Firsts.{First}
 use Rattle.effect_batches.specs.Inner.Numbers.{Sizes}
-use Rattle.effect_batches.specs.Inner.Filling.{Taken, Stands, Filled}
+use Rattle.effect_batches.specs.Inner.Filling.{AllCovered, Stands, Filled}
 
--- There is a next operator, and those before it are taken; the notes are right, and before the first batch keep no condition.
+-- There is a next operator, and those before it are built; the notes are right, and before the first batch keep no condition.
 pub record NextBatch (frame : Frame) (formulas effects operators : List ℕ) (from count : ℕ) (first notes : List ℕ) (at : Size) (s : Store) (scratch : List ℕ) : Type 0 where
   pub sizes : Sizes frame effects operators first notes from count
   pub comes : First effects operators count first
-  pub taken : Taken frame formulas effects operators from (held at s)
+  pub covered : AllCovered frame formulas effects operators from (held at s)
   pub stands : Stands frame formulas effects notes at s scratch
   pub blank : from ≡ 0 → (j : ℕ) → sets-end frame ≤ j → getD notes j 0 ≡ 0
 

@@ -7,7 +7,6 @@ use mathlib.Core.Path.{_≡_, refl, ap, _∙_}
 use Prim.Native.Nat.{ℕ, _-_}
 use mathlib.Core.List.{List}
 use lib.ListN.{length}
-use Rattle.task.specs.Table.{Row}
 use Rattle.effect_batches.specs.Inner.Firsts.{First}
 use Rattle.effect_batches.proofs.Firsts.{first-none, first-met, comes-root}
 
@@ -24,8 +23,8 @@ loop-holds c =
     let start = c .before .before in
     (refl, λ effects. first-none effects (start .args .operators .now) (start .args .count) (start .args .first .now) (start .pre .blank))
 
-read-row-requires : tie.Need-read-row-requires Inv-loop μ-loop
-read-row-requires c κs =
+effect-of-requires : tie.Need-effect-of-requires Inv-loop μ-loop
+effect-of-requires c κs =
     let start = c .before .before .before .before in
     omega (arith, start .pre .roots .words)
 
@@ -34,24 +33,24 @@ cast-meet c = search needs
 
 add-meet : tie.Need-add-meet Inv-loop μ-loop
 add-meet c =
-    let start = c .before .before .before .before .before .before .before in
+    let start = c .before .before .before .before .before .before in
     omega (arith, start .pre .roots .limit)
 
 cast-meet-2 : tie.Need-cast-meet-2 Inv-loop μ-loop
 cast-meet-2 c =
-    let start = c .before .before .before .before .before .before .before in
+    let start = c .before .before .before .before .before .before in
     omega (arith, start .pre .roots .limit)
 
 meet-requires : tie.Need-meet-requires Inv-loop μ-loop
 meet-requires c κs =
-    let start = c .before .before .before .before .before .before .before in
-    let loop = c .before .before .before .before .loop in
-    let read-row = c .before .before .read-row in
-    omega (arith, start .pre .roots .effect (loop .k) (omega arith), ap (λ (r : Row). r .a) (read-row .ensures), loop .inv .0)
+    let start = c .before .before .before .before .before .before in
+    let loop = c .before .before .before .loop in
+    let effect-of = c .before .effect-of in
+    omega (arith, start .pre .roots .effect (loop .k) (omega arith), effect-of .ensures, loop .inv .0)
 
 add-k : tie.Need-add-k Inv-loop μ-loop
 add-k c =
-    let start = c .before .before .before .before .before .before .before .before .before .before in
+    let start = c .before .before .before .before .before .before .before .before .before in
     omega (arith, start .pre .roots .limit)
 
 loop-less : tie.Need-loop-less Inv-loop μ-loop
@@ -60,10 +59,10 @@ loop-less c = omega arith
 loop-again : tie.Need-loop-again Inv-loop μ-loop
 loop-again c =
     let meet = c .before .before .meet in
-    let loop = c .before .before .before .before .before .before .before .loop in
-    let read-row = c .before .before .before .before .before .read-row in (
+    let loop = c .before .before .before .before .before .before .loop in
+    let effect-of = c .before .before .before .before .effect-of in (
       meet .kept .0 ∙ loop .inv .0,
-      λ effects. first-met (meet .ensures) (comes-root {k = loop .k} (omega arith) refl (ap (λ (r : Row). r .a) (read-row .ensures))) (loop .inv .1 effects),
+      λ effects. first-met (meet .ensures) (comes-root {k = loop .k} (omega arith) refl (effect-of .ensures)) (loop .inv .1 effects),
     )
 
 same-length : tie.Need-same-length Inv-loop μ-loop
@@ -79,7 +78,7 @@ meet-roots-spec =
     Inv-loop
     μ-loop
     loop-holds
-    read-row-requires
+    effect-of-requires
     cast-meet
     add-meet
     cast-meet-2

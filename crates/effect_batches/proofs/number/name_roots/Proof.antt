@@ -30,8 +30,8 @@ add-o c =
     let start = c .before .before .before .before .before .before .before .before .before .before in
     omega (arith, start .pre .roots .limit)
 
-read-row-requires : tie.Need-read-row-requires Inv-loop μ-loop
-read-row-requires c κs =
+effect-of-requires : tie.Need-effect-of-requires Inv-loop μ-loop
+effect-of-requires c κs =
     let start = c .before .before .before .before .before .before .before .before .before .before in
     omega (arith, start .pre .roots .words)
 
@@ -40,26 +40,26 @@ cast-name c = search needs
 
 add-name : tie.Need-add-name Inv-loop μ-loop
 add-name c =
-    let start = c .before .before .before .before .before .before .before .before .before .before .before .before in
+    let start = c .before .before .before .before .before .before .before .before .before .before .before in
     omega (arith, start .pre .roots .limit)
 
 cast-name-2 : tie.Need-cast-name-2 Inv-loop μ-loop
 cast-name-2 c =
-    let start = c .before .before .before .before .before .before .before .before .before .before .before .before in
+    let start = c .before .before .before .before .before .before .before .before .before .before .before in
     omega (arith, start .pre .roots .limit)
 
 name-requires : tie.Need-name-requires Inv-loop μ-loop
 name-requires c κs =
-    let start = c .before .before .before .before .before .before .before .before .before .before .before .before .before in
-    let loop = c .before .before .before .before .loop in
-    let read-row = c .before .before .read-row in
-    let clear-between = c .before .before .before .before .before .before .before .clear-between in
-    root-asks (start .args .from + loop .k) (read-row .result) (start .pre) (omega arith) (read-row .ensures)
+    let start = c .before .before .before .before .before .before .before .before .before .before .before .before in
+    let loop = c .before .before .before .loop in
+    let effect-of = c .before .effect-of in
+    let clear-between = c .before .before .before .before .before .before .clear-between in
+    root-asks (start .args .from + loop .k) (effect-of .result) (start .pre) (omega arith) (effect-of .ensures)
     (loop .inv .0 ∙ clear-between .kept .0) (omega (arith, loop .inv .2 .once, start .pre .roots .limit))
 
 add-k : tie.Need-add-k Inv-loop μ-loop
 add-k c =
-    let start = c .before .before .before .before .before .before .before .before .before .before .before .before .before .before .before .before in
+    let start = c .before .before .before .before .before .before .before .before .before .before .before .before .before .before .before in
     omega (arith, start .pre .roots .limit)
 
 loop-less : tie.Need-loop-less Inv-loop μ-loop
@@ -67,11 +67,11 @@ loop-less c = omega arith
 
 loop-again : tie.Need-loop-again Inv-loop μ-loop
 loop-again c =
-    let start = c .before .before .before .before .before .before .before .before .before .before .before .before .before .before .before .before in
-    let loop = c .before .before .before .before .before .before .before .loop in
-    let read-row = c .before .before .before .before .before .read-row in
+    let start = c .before .before .before .before .before .before .before .before .before .before .before .before .before .before .before in
+    let loop = c .before .before .before .before .before .before .loop in
+    let effect-of = c .before .before .before .before .effect-of in
     let name = c .before .before .name in
-    let low = root-below (start .args .from + loop .k) (read-row .result) (start .pre .roots) (omega arith) (read-row .ensures) in
+    let low = root-below (start .args .from + loop .k) (effect-of .result) (start .pre .roots) (omega arith) (effect-of .ensures) in
     (name .kept .1 .1 .1 .1 .1 .0 ∙ loop .inv .0, omega arith, numbered-then (omega arith) (loop .inv .2) (name .ensures (start .args .rows) low))
 
 same-length : tie.Need-same-length Inv-loop μ-loop
@@ -95,7 +95,7 @@ name-roots-spec =
     clear-between-requires
     loop-holds
     add-o
-    read-row-requires
+    effect-of-requires
     cast-name
     add-name
     cast-name-2
