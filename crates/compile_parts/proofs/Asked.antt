@@ -1,31 +1,35 @@
 -- What the parts of building ask. Assumes nothing.
-use Prim.Native.Nat.{ℕ, _≤_, _<_}
+use Prim.Native.Nat.{ℕ, zero, suc, _≤_, _<_}
 use native.Mathlib.Omega.{arith}
 use native.Mathlib.Decide.{ℕ-discrete}
 use mathlib.Core.Path.{_≡_, refl, _∙_}
 use mathlib.Core.List.{List}
-use lib.ListN.{length}
+use lib.ListN.{length, getD, replicate, length-replicate}
 use Rattle.task.specs.Table.{row-at}
 use Rattle.normal_form.specs.Builder.{St}
 use Rattle.formula_builder.specs.declared.Step.{Step}
 use Rattle.formula_builder.specs.Inner.Held.{Store, store}
+use Rattle.atom_sets.specs.Inner.Sets.{sets-end}
 use Rattle.atom_sets.specs.Inner.Finds.{FindsSets, FoundSets}
-use Rattle.atom_sets.proofs.Places.{sets-behind}
-use Rattle.conditions.specs.Inner.Conditions.{EffectSource, Noted}
+use Rattle.conditions.specs.Inner.Conditions.{column, EffectSource, Columns, Noted}
 use Rattle.conditions.proofs.Rows.{both-lower, under-lower, known-kind}
 use Rattle.conditions.proofs.Alone.{atom-within, sets-right}
 use Rattle.conditions.proofs.Notes.{noted-blank}
-use Rattle.effect_columns.specs.Inner.Columns.{FindsColumns, FoundColumns}
-use Rattle.effect_columns.proofs.Settling.{sets-kept}
+use Rattle.effect_batches.specs.Inner.Firsts.{First, FindsFirst}
 use Rattle.changes.specs.Inner.Stands.{Leaves}
 use Rattle.building.specs.declared.Progress.{Progress}
-use Rattle.building.specs.Inner.Taken.{size-at, Begun, Taken, Takes, TakesGoal, TookGoal, FromStart}
+use Rattle.building.specs.Inner.Taken.{size-at, Begun, Taken, TakesGoal, TookGoal, FromStart}
 use Rattle.building.proofs.Begun.{taken-none, goal-asks, goal-taken}
 use Rattle.compile_parts.specs.declared.Counts.{Counts}
+use Rattle.compile_parts.specs.Inner.Batches.{Known, TakesBatch}
 use Rattle.compile_parts.specs.Inner.Builds.{Builds}
 
-module _ {c : Counts} {formulas effects operators originals scratch notes built records : List ℕ}
-    (b : Builds c formulas effects operators originals scratch notes built records) where
+zero-at : (n j : ℕ) → _≡_ {A = ℕ} (getD (replicate n 0) j 0) 0
+zero-at zero j = refl
+zero-at (suc n) zero = refl
+zero-at (suc n) (suc j) = zero-at n j
+
+module _ {c : Counts} {formulas effects operators originals scratch notes built records : List ℕ} (b : Builds c formulas effects operators originals scratch notes built records) where
   rules : EffectSource (c .frame) effects scratch
   rules = b .blank .effect-source
 
@@ -52,40 +56,55 @@ module _ {c : Counts} {formulas effects operators originals scratch notes built 
         known = kind-most;
       }
 
+  pub finds-first : FindsFirst (c .frame) effects operators (c .operators) (replicate 4096 0)
+  finds-first =
+      record {
+        rows =
+            record {
+              words = rules .words;
+              limit = rules .limit;
+              variables = omega (arith, b .blank .variables);
+              down = rules .down;
+            };
+        roots = record { limit = b .limit; words = b .words; effect = b .effect };
+        words = omega (arith, rules .limit, length-replicate {A = ℕ} 4096 0);
+        blank = zero-at 4096;
+      }
+
+  -- `first` is found, and has as many words as before
+  pub known :
+      {first : List ℕ}
+      → First effects operators (c .operators) first
+      → length first ≡ length (replicate {A = ℕ} 4096 0)
+      → Known c effects operators first
+  known f long =
+      record {
+        roots = finds-first .roots;
+        precondition = b .precondition;
+        words = omega (arith, rules .limit, long, length-replicate {A = ℕ} 4096 0);
+        comes = f;
+      }
+
+  -- The notes of the pass over sets are right at any state, since no row has a column and nothing is kept yet.
   module _ {named : List ℕ} (s : FoundSets (c .frame) effects notes named) (same : length named ≡ length notes) where
-    pub finds-columns : FindsColumns (c .frame) effects operators (c .operators) named
-    finds-columns =
+    pub none-kept : (j : ℕ) → sets-end (c .frame) ≤ j → getD named j 0 ≡ 0
+    none-kept j h = s .behind j h ∙ b .blank-notes j
+
+    pub notes-room : sets-end (c .frame) ≤ length named
+    notes-room = omega (arith, b .notes-space, same)
+
+    no-columns : Columns (c .frame) named
+    unfolding column
+    no-columns =
         record {
-          rows =
-              record {
-                words = rules .words;
-                limit = rules .limit;
-                variables = omega (arith, b .blank .variables);
-                down = rules .down;
-              };
-          roots =
-              record {
-                limit = rules .limit;
-                room = omega (arith, b .notes-space, same, sets-behind (c .frame));
-                operators-limit = b .limit;
-                words = b .words;
-                effect = b .effect;
-              };
-          sets = omega (arith, b .notes-space, same);
+          words = notes-room;
+          apart = λ d e _ h some _. absurd (omega (arith, some, s .ahead e (omega (arith, h)) ∙ b .blank-notes e));
         }
 
-    -- the notes of the two passes are right at any state, since nothing is kept yet
-    pub noted :
-        {found : List ℕ}
-        → FoundColumns (c .frame) named found
-        → length found ≡ length named
-        → (t : St)
-        → Noted (c .frame) formulas effects found t
-    noted k kept t =
-        noted-blank formulas t
-        (sets-kept kept (k .elsewhere) (sets-right (c .frame) effects scratch named rules (s .sets))) (k .columns)
-        (λ j g h. k .elsewhere .behind j g ∙ s .ahead j h ∙ b .blank-notes j)
-        (λ j h. k .elsewhere .behind j (omega (arith, h, sets-behind (c .frame))) ∙ s .behind j h ∙ b .blank-notes j)
+    pub noted : (t : St) → Noted (c .frame) formulas effects named t
+    noted t =
+        noted-blank formulas t (sets-right (c .frame) effects scratch named rules (s .sets)) no-columns
+        (λ j _ h. s .ahead j h ∙ b .blank-notes j) none-kept
 
   pub first-taken :
       {before table records : List ℕ} {p : Progress}
@@ -93,27 +112,33 @@ module _ {c : Counts} {formulas effects operators originals scratch notes built 
       → Taken (c .frame) formulas effects operators (store table originals) scratch records p
   first-taken g = taken-none (c .frame) formulas effects operators (b .blank) g
 
-  pub next-asks :
-      {s : Store} {notes memo kept : List ℕ} {p : Progress}
-      → Leaves (p .full) (c .frame) formulas effects notes (size-at p) s
+  -- the next batch
+  pub next-batch :
+      {s : Store} {first named memo kept : List ℕ} {p : Progress}
+      → Known c effects operators first
       → p .operators < c .operators
+      → length named ≡ length notes
       → length kept ≡ length records
       → Taken (c .frame) formulas effects operators s memo kept p
-      → Takes (c .frame) formulas effects notes operators s memo kept p
-  next-asks {p = p} n h long k =
+      → Leaves (p .full) (c .frame) formulas effects named (size-at p) s
+      → (p .operators ≡ 0 → (j : ℕ) → sets-end (c .frame) ≤ j → getD named j 0 ≡ 0)
+      → TakesBatch c formulas effects operators first named s memo kept p
+  next-batch n h long same k l blank =
       record {
+        begins =
+            record {
+              known = n;
+              next = h;
+              along = record { stood = k .done; leaves = l };
+              notes-space = omega (arith, b .notes-space, long);
+              blank = blank;
+            };
         taken = k;
-        leaves = n;
-        words = omega (arith, b .words);
-        limit = omega (arith, b .limit);
-        room = omega (arith, b .space, long);
-        precondition = b .precondition (p .operators) h;
-        effect = b .effect (p .operators) h;
+        space = omega (arith, b .space, same);
       }
 
   -- behind all operators
-  module _ {s : Store} {memo kept : List ℕ} {p : Progress} (all : p .operators ≡ c .operators)
-      (k : Taken (c .frame) formulas effects operators s memo kept p) where
+  module _ {s : Store} {memo kept : List ℕ} {p : Progress} (all : p .operators ≡ c .operators) (k : Taken (c .frame) formulas effects operators s memo kept p) where
     pub last-asks : TakesGoal (c .frame) formulas (c .goal) s memo p
     last-asks = goal-asks (c .frame) formulas effects operators (c .operators) (c .goal) all k (b .goal)
 

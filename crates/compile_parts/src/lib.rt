@@ -1,4 +1,5 @@
 // Compiling in parts, over lent tables and tables of the caller's own: all that is built, then all that is written.
+mod batch;
 mod copy;
 mod last;
 mod whole;

@@ -1,18 +1,20 @@
 // All that is built: the formulas of the operators and of the goal, and the twins.
 use crate::Counts;
+use crate::batch::take_batch;
 use atom_sets::find_sets;
 use building::begin;
 use building::take_goal;
-use building::take_operator;
-use effect_columns::find_columns;
+use effect_batches::MOST_ROWS;
+use effect_batches::find_first;
 use formula_builder::Step;
 ghost use Rattle.formula_builder.specs.Inner.Held.{store};
 ghost use Rattle.building.specs.Inner.Taken.{FromStart};
 ghost use Rattle.compile_parts.specs.Inner.Builds.{Builds};
 
-// Notes sets of atoms and columns of the effect rows, then begins, takes the operators in order, and the goal. Rows are built in a table of
-// their own, which has their index; the changes of each operator are recorded for its rules. What is left in notes is left open. Costs two
-// passes over the effects, one of them with two bits a variable, one over the operators, and what its parts do: one walk over every operator.
+// Notes sets of atoms, finds the first operator that comes to each effect row, then begins, takes the operators in order, batch by batch, and the
+// goal. Rows are built in a table of their own, which has their index; the changes of each operator are recorded for its rules. What is left in
+// notes is left open. Costs two passes over the effects, one of them with two bits a variable, one over the operators, 8 KiB, cleared, and what
+// its parts do: one walk over every operator, and what each batch costs.
 pub fn build(
     counts: Counts,
     formulas: &[u16],
@@ -30,16 +32,18 @@ pub fn build(
     let frame = counts.frame;
     let count = counts.operators;
     find_sets(effects, frame, notes);
-    find_columns(effects, operators, count, frame, notes);
+    let mut first = [0u16; MOST_ROWS];
+    find_first(effects, operators, count, frame, &mut first);
     let mut at = begin(frame, built);
     while at.operators < count {
-        at = take_operator(
+        at = take_batch(
+            counts,
             formulas,
             effects,
-            notes,
             operators,
-            frame,
+            &first,
             at,
+            notes,
             built,
             originals,
             scratch,

@@ -33,7 +33,7 @@ const BOTH: u16 = 3;
 const UNDER: u16 = 4;
 
 // As many effect rows as there can be.
-const MOST_ROWS: usize = 4096;
+pub const MOST_ROWS: usize = 4096;
 
 // A batch: where it ends, and how many rows are to be filled.
 pub struct Batch {

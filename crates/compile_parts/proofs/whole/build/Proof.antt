@@ -1,25 +1,20 @@
--- `build` meets its contract: sets and columns are noted, then begin, the operators in order, and the goal. Assumes nothing.
+-- `build` meets its contract: sets and first operators are found, then begin, the operators batch by batch, and the goal. Assumes nothing.
+use borrow.Author.Needs.{needs}
 use Rattle.compile_parts.proofs.whole.build.Statement.{statement}
 use Rattle.compile_parts.proofs.whole.build.Tie as tie
-use Rattle.compile_parts.proofs.whole.build.Reads as reads
-use Rattle.compile_parts.proofs.whole.build.Lts as lts
-use Rattle.atom_sets.proofs.find_sets.Reads as find-sets-reads
-use Rattle.building.proofs.take_goal.Reads as take-goal-reads
-use Rattle.building.proofs.begin.Reads as begin-reads
-use Rattle.building.proofs.take_operator.Reads as take-operator-reads
-use Rattle.effect_columns.proofs.find_columns.Reads as find-columns-reads
-use Prim.Native.Nat.{_-_, _≤_}
+use Prim.Native.Nat.{ℕ, _-_, _≤_}
 use native.Mathlib.Omega.{arith}
 use mathlib.Core.Path.{_≡_, refl, _∙_}
-use lib.ListN.{length}
+use lib.ListN.{length, getD}
 use Rattle.formula_builder.specs.Inner.Held.{store}
+use Rattle.atom_sets.specs.Inner.Sets.{sets-end}
 use Rattle.changes.specs.Inner.Stands.{Leaves}
 use Rattle.changes.proofs.Standing.{leaves-same}
 use Rattle.building.specs.Inner.Taken.{size-at, Taken}
-use Rattle.compile_parts.proofs.Asked.{finds, finds-columns, noted, first-taken, next-asks, last-asks, all-built}
+use Rattle.compile_parts.proofs.Asked.{finds, finds-first, known, none-kept, noted, first-taken, next-batch, last-asks, all-built}
 
 abbrev Inv-loop : tie.InvT-loop
-Inv-loop counts formulas effects operators originals₀ scratch₀ notes₀ built₀ records₀ frame count at₀ originals scratch notes built records at =
+Inv-loop counts formulas effects operators originals₀ scratch₀ notes₀ built₀ records₀ frame count first at₀ originals scratch notes built records at =
     (at .operators ≤ count)
     × (length originals ≡ length originals₀)
     × (length scratch ≡ length scratch₀)
@@ -28,133 +23,95 @@ Inv-loop counts formulas effects operators originals₀ scratch₀ notes₀ buil
     × (length records ≡ length records₀)
     × Taken frame formulas effects operators (store built originals) scratch records at
     × Leaves (at .full) frame formulas effects notes (size-at at) (store built originals)
+    × (at .operators ≡ 0 → (j : ℕ) → sets-end frame ≤ j → getD notes j 0 ≡ 0)
 
 abbrev μ-loop : tie.MeasureT-loop
-μ-loop counts formulas effects operators originals₀ scratch₀ notes₀ built₀ records₀ frame count at₀ originals scratch notes built records at =
+μ-loop counts formulas effects operators originals₀ scratch₀ notes₀ built₀ records₀ frame count first at₀ originals scratch notes built records at =
     count - at .operators
 
 find-sets-requires : tie.Need-find-sets-requires Inv-loop μ-loop
-find-sets-requires c κs =
-    let at-entry = c .before .before .before .before .before .before .before .before .before .before in
-    let at-pre = at-entry in
-    finds (at-pre .pre)
+find-sets-requires c κs = finds (c .before .before .before .before .before .before .before .before .before .before .pre)
 
-find-columns-requires : tie.Need-find-columns-requires Inv-loop μ-loop
-find-columns-requires c κs =
-    let at-find-sets = c .before .before .before in
-    let at-pre = at-find-sets .before .before .before .before .before .before .before .before .before .before .before in
-    let sets = at-find-sets .find-sets in
-    finds-columns (at-pre .pre) (sets .ensures) (sets .kept .1 .1 .0)
+slice-aggregate-find-first : tie.Need-slice-aggregate-find-first Inv-loop μ-loop
+slice-aggregate-find-first c = search needs
+
+find-first-requires : tie.Need-find-first-requires Inv-loop μ-loop
+find-first-requires c κs = finds-first (c .before .before .before .before .before .before .before .before .before .before .before .before .before .before .pre)
 
 begin-requires : tie.Need-begin-requires Inv-loop μ-loop
-begin-requires c κs =
-    let at-entry = c .before .before .before .before .before .before .before .before .before .before .before .before .before .before .before .before .before .before in
-    let at-pre = at-entry in
-    at-pre .pre .fresh
+begin-requires c κs = c .before .before .before .before .before .before .before .before .before .before .before .before .before .before .before .before .before .pre .fresh
 
 loop-holds : tie.Need-loop-holds Inv-loop μ-loop
 loop-holds c =
-    let at-find-columns = c .before .before .before .before .before .before in
-    let at-find-sets = at-find-columns .before .before .before .before in
-    let at-pre = at-find-sets .before .before .before .before .before .before .before .before .before .before .before in
-    let asked = at-pre .pre in
-    let sets = at-find-sets .find-sets in
-    let columns = at-find-columns .find-columns in
+    let asked = c .before .before .before .before .before .before .before .before .before .before .before .before .before .before .before .before .before .before .before .before .pre in
+    let sets = c .before .before .before .before .before .before .before .before .before .find-sets in
     let begun = c .before .before .begin .ensures in
-    let found = noted asked (sets .ensures) (sets .kept .1 .1 .0) (columns .ensures) (columns .kept .1 .1 .1 .1 .0) _ in
-    (omega (arith, begun .none), refl, refl, refl, refl, refl, first-taken asked begun, leaves-same found)
+    let found = noted asked (sets .ensures) (sets .kept .1 .1 .0) _ in (
+      omega (arith, begun .none),
+      refl,
+      refl,
+      refl,
+      refl,
+      refl,
+      first-taken asked begun,
+      leaves-same found,
+      λ _. none-kept asked (sets .ensures) (sets .kept .1 .1 .0),
+    )
 
-take-operator-requires : tie.Need-take-operator-requires Inv-loop μ-loop
-take-operator-requires c κs =
-    let at-entry = c .before .before .before .before .before in
-    let at-if1 = at-entry in
-    let at-loop = at-if1 .before .before in
-    let at-pre =
-    at-loop .before .before .before .before .before .before .before .before .before .before .before .before .before .before .before .before .before .before .before .before .before .before
-    in
-    let so-far = at-loop .loop .inv in
-    next-asks (at-pre .pre) (so-far .7) (at-if1 .if1 .taken) (so-far .5) (so-far .6)
+slice-aggregate-take-batch : tie.Need-slice-aggregate-take-batch Inv-loop μ-loop
+slice-aggregate-take-batch c = search needs
+
+take-batch-requires : tie.Need-take-batch-requires Inv-loop μ-loop
+take-batch-requires c κs =
+    let so-far = c .before .before .before .before .before .before .before .before .loop .inv in
+    let asked = c .before .before .before .before .before .before .before .before .before .before .before .before .before .before .before .before .before .before .before .before .before .before .before .before .before .before .before .before .before .pre in
+    let firsts = c .before .before .before .before .before .before .before .before .before .before .before .before .before .before .find-first in
+    next-batch asked (known asked (firsts .ensures) (firsts .kept .1 .1 .1 .1 .0)) (c .before .before .before .before .before .before .if1 .taken) (so-far .3 ∙ c .before .before .before .before .before .before .before .before .before .before .before .before .before .before .before .before .before .before .find-sets .kept .1 .1 .0)
+    (so-far .5) (so-far .6) (so-far .7) (so-far .8)
 
 loop-less : tie.Need-loop-less Inv-loop μ-loop
-loop-less c =
-    let at-entry = c .before .before .before .before .before .before .before .before .before .before in
-    let at-take-operator = at-entry in
-    omega (arith, at-take-operator .take-operator .ensures .0 .next)
+loop-less c = omega (arith, c .before .before .before .before .before .before .before .before .before .before .take-batch .ensures .more, c .before .before .before .before .before .before .before .before .before .before .before .before .before .before .before .before .before .if1 .taken)
 
 loop-again : tie.Need-loop-again Inv-loop μ-loop
 loop-again c =
-    let at-entry = c .before .before .before .before .before .before .before .before .before .before in
-    let at-take-operator = at-entry in
-    let at-if1 = at-take-operator .before .before .before .before .before .before in
-    let at-loop = at-if1 .before .before in
-    let so-far = at-loop .loop .inv in
-    let took = at-take-operator .take-operator in
-    let kept = took .kept in (
-      omega (arith, took .ensures .0 .next, at-if1 .if1 .taken),
-      kept .1 .1 .1 .1 .1 .1 .1 .0 ∙ so-far .1,
-      kept .1 .1 .1 .1 .1 .1 .1 .1 .0 ∙ so-far .2,
-      kept .1 .1 .0 ∙ so-far .3,
-      kept .1 .1 .1 .1 .1 .1 .0 ∙ so-far .4,
-      kept .1 .1 .1 .1 .1 .1 .1 .1 .1 .0 ∙ so-far .5,
-      took .ensures .0 .taken,
-      took .ensures .1,
+    let so-far = c .before .before .before .before .before .before .before .before .before .before .before .before .before .before .before .before .before .before .before .loop .inv in
+    let took = c .before .before .before .before .before .before .before .before .before .before .take-batch in (
+      took .ensures .most,
+      took .kept .1 .1 .1 .1 .1 .1 .1 .1 .0 ∙ so-far .1,
+      took .kept .1 .1 .1 .1 .1 .1 .1 .1 .1 .0 ∙ so-far .2,
+      took .kept .1 .1 .1 .1 .1 .1 .0 ∙ so-far .3,
+      took .kept .1 .1 .1 .1 .1 .1 .1 .0 ∙ so-far .4,
+      took .kept .1 .1 .1 .1 .1 .1 .1 .1 .1 .1 .0 ∙ so-far .5,
+      took .ensures .taken,
+      took .ensures .leaves,
+      λ z. absurd (omega (arith, z, took .ensures .more)),
     )
 
 take-goal-requires : tie.Need-take-goal-requires Inv-loop μ-loop
 take-goal-requires c κs =
-    let at-entry = c .before .before .before .before .before in
-    let at-loop = at-entry in
-    let at-pre =
-    at-loop .before .before .before .before .before .before .before .before .before .before .before .before .before .before .before .before .before .before .before .before .before .before
-    in
-    let so-far = at-loop .loop .inv in
-    last-asks (at-pre .pre) (omega (arith, so-far .0)) (so-far .6)
+    let so-far = c .before .before .before .before .before .loop .inv in
+    last-asks (c .before .before .before .before .before .before .before .before .before .before .before .before .before .before .before .before .before .before .before .before .before .before .before .before .before .before .pre) (omega (arith, so-far .0, c .before .before .before .if1 .left)) (so-far .6)
 
 same-length : tie.Need-same-length Inv-loop μ-loop
-same-length c =
-    let at-take-goal = c .before .before .before .before .before .before in
-    let at-loop = at-take-goal .before .before .before .before .before .before in
-    at-take-goal .take-goal .kept .1 .1 .1 .1 .1 .0 ∙ at-loop .loop .inv .1
+same-length c = c .before .before .before .before .before .before .take-goal .kept .1 .1 .1 .1 .1 .0 ∙ c .before .before .before .before .before .before .before .before .before .before .before .before .loop .inv .1
 
 same-length-2 : tie.Need-same-length-2 Inv-loop μ-loop
-same-length-2 c =
-    let at-take-goal = c .before .before .before .before .before .before in
-    let at-loop = at-take-goal .before .before .before .before .before .before in
-    at-take-goal .take-goal .kept .1 .1 .1 .1 .1 .1 .0 ∙ at-loop .loop .inv .2
+same-length-2 c = c .before .before .before .before .before .before .take-goal .kept .1 .1 .1 .1 .1 .1 .0 ∙ c .before .before .before .before .before .before .before .before .before .before .before .before .loop .inv .2
 
 same-length-3 : tie.Need-same-length-3 Inv-loop μ-loop
-same-length-3 c =
-    let at-entry = c .before .before .before .before .before .before .before .before .before .before .before .before in
-    let at-loop = at-entry in
-    let at-find-columns = at-loop .before .before .before .before .before .before .before in
-    let at-find-sets = at-find-columns .before .before .before .before in
-    at-loop .loop .inv .3 ∙ at-find-columns .find-columns .kept .1 .1 .1 .1 .0 ∙ at-find-sets .find-sets .kept .1 .1 .0
+same-length-3 c = c .before .before .before .before .before .before .before .before .before .before .before .before .loop .inv .3 ∙ c .before .before .before .before .before .before .before .before .before .before .before .before .before .before .before .before .before .before .before .before .before .before .find-sets .kept .1 .1 .0
 
 same-length-4 : tie.Need-same-length-4 Inv-loop μ-loop
-same-length-4 c =
-    let at-take-goal = c .before .before .before .before .before .before in
-    let at-loop = at-take-goal .before .before .before .before .before .before in
-    let at-begin = at-loop .before .before .before in
-    at-take-goal .take-goal .kept .1 .1 .1 .1 .0 ∙ at-loop .loop .inv .4 ∙ at-begin .begin .kept .1 .0
+same-length-4 c = c .before .before .before .before .before .before .take-goal .kept .1 .1 .1 .1 .0 ∙ c .before .before .before .before .before .before .before .before .before .before .before .before .loop .inv .4 ∙ c .before .before .before .before .before .before .before .before .before .before .before .before .before .before .before .begin .kept .1 .0
 
 same-length-5 : tie.Need-same-length-5 Inv-loop μ-loop
-same-length-5 c =
-    let at-entry = c .before .before .before .before .before .before .before .before .before .before .before .before in
-    let at-loop = at-entry in
-    at-loop .loop .inv .5
+same-length-5 c = c .before .before .before .before .before .before .before .before .before .before .before .before .loop .inv .5
 
 returns : tie.Need-returns Inv-loop μ-loop
 returns c =
-    let at-entry = c .before .before .before .before .before .before in
-    let at-take-goal = at-entry in
-    let at-if1 = at-take-goal .before .before .before .before in
-    let at-loop = at-if1 .before .before in
-    let at-pre =
-    at-loop .before .before .before .before .before .before .before .before .before .before .before .before .before .before .before .before .before .before .before .before .before .before
-    in
-    let so-far = at-loop .loop .inv in
-    let goal = at-take-goal .take-goal in
-    all-built (at-pre .pre) (omega (arith, so-far .0, at-if1 .if1 .left)) (so-far .6) (goal .kept .1 .1 .1 .1 .1 .1 .0) (goal .ensures)
+    let so-far = c .before .before .before .before .before .before .before .before .before .before .before .before .loop .inv in
+    let goal = c .before .before .before .before .before .before .take-goal in
+    all-built (c .before .before .before .before .before .before .before .before .before .before .before .before .before .before .before .before .before .before .before .before .before .before .before .before .before .before .before .before .before .before .before .before .before .pre) (omega (arith, so-far .0, c .before .before .before .before .before .before .before .before .before .before .if1 .left)) (so-far .6) (goal .kept .1 .1 .1 .1 .1 .1 .0) (goal .ensures)
 
 pub build-spec : {M : Type 1} → statement M
 build-spec =
@@ -162,5 +119,19 @@ build-spec =
     (tie.spec
     Inv-loop
     μ-loop
-    find-sets-requires find-columns-requires begin-requires loop-holds take-operator-requires loop-less loop-again take-goal-requires same-length
-    same-length-2 same-length-3 same-length-4 same-length-5 returns)
+    find-sets-requires
+    slice-aggregate-find-first
+    find-first-requires
+    begin-requires
+    loop-holds
+    slice-aggregate-take-batch
+    take-batch-requires
+    loop-less
+    loop-again
+    take-goal-requires
+    same-length
+    same-length-2
+    same-length-3
+    same-length-4
+    same-length-5
+    returns)

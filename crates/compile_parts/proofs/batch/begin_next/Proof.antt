@@ -1,0 +1,38 @@
+-- `begin_next` meets its contract: without room it does nothing. Assumes nothing.
+use borrow.Author.Needs.{needs}
+use Rattle.compile_parts.proofs.batch.begin_next.Statement.{statement}
+use Rattle.compile_parts.proofs.batch.begin_next.Tie as tie
+use Rattle.compile_parts.proofs.Batched.{batch-asks, batch-begun, batch-full}
+
+returns : tie.Need-returns
+returns c = batch-full (c .before .before .before .before .before .before .before .before .before .pre)
+
+next-batch-requires : tie.Need-next-batch-requires
+next-batch-requires c κs = batch-asks (c .before .before .before .before .before .before .before .before .before .before .before .before .before .pre) (c .before .before .before .before .if1 .left)
+
+same-length : tie.Need-same-length
+same-length c = search needs
+
+same-length-2 : tie.Need-same-length-2
+same-length-2 c = search needs
+
+same-length-3 : tie.Need-same-length-3
+same-length-3 c = search needs
+
+same-length-4 : tie.Need-same-length-4
+same-length-4 c = search needs
+
+returns-2 : tie.Need-returns-2
+returns-2 c = batch-begun (c .before .before .before .before .before .before .before .before .before .before .before .before .before .before .before .before .before .before .before .before .before .before .pre) (c .before .before .before .before .before .before .before .before .before .before .before .before .before .if1 .left) (c .before .before .before .before .before .before .before .before .next-batch .ensures)
+
+pub begin-next-spec : {M : Type 1} → statement M
+begin-next-spec =
+    tie.close
+    (tie.spec
+    returns
+    next-batch-requires
+    same-length
+    same-length-2
+    same-length-3
+    same-length-4
+    returns-2)
