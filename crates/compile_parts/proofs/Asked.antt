@@ -24,7 +24,8 @@ use Rattle.compile_parts.specs.declared.Counts.{Counts}
 use Rattle.compile_parts.specs.Inner.Batches.{Known, TakesBatch}
 use Rattle.compile_parts.specs.Inner.Builds.{Builds}
 
-zero-at : (n j : ℕ) → _≡_ {A = ℕ} (getD (replicate n 0) j 0) 0
+-- every word of a table that is all 0
+pub zero-at : (n j : ℕ) → _≡_ {A = ℕ} (getD (replicate n 0) j 0) 0
 zero-at zero j = refl
 zero-at (suc n) zero = refl
 zero-at (suc n) (suc j) = zero-at n j

@@ -32,7 +32,8 @@ use Rattle.compile_parts.specs.Inner.Builds.{Builds}
 use Rattle.compile_parts.specs.Inner.Finishes.{Outputs, outputs, rules-of, Stands, Finishes, Ended, Finished}
 use Rattle.compiler.specs.Inner.Fills.{Counted, counts, lent-of, Begins, Roomy, Holds, Fills}
 use Rattle.compiler.specs.Tables.{Tables, tables, room-of}
-use Rattle.compiler.proofs.Cleared.{zero-at, zeros}
+use Rattle.compile_parts.proofs.Asked.{zero-at}
+use Rattle.compiler.proofs.Cleared.{zeros}
 use Rattle.compiler.proofs.Copied.{copied-rows}
 use Rattle.compiler.proofs.Source.{long, source, its-variables, few-effects}
 use Rattle.compiler.proofs.Recalled.{in-order}

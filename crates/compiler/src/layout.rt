@@ -8,7 +8,10 @@
 //
 //     notes      | 1 word an effect | 3 words an effect | 4 words an effect for each 32 variables | 2 or 3 words a variable
 //                  its column         its last join       the atoms that stand in it                for each column |
-//                  with as many columns as there is room for
+//                  with as many columns as there is room for, which are numbered anew for each batch of operators (crate effect_batches)
+//
+//     first      | 1 word an effect: the first operator that comes to it |      of build; and, of each batch while it begins,
+//     list       | 1 word an effect: the rows whose columns are filled   |      both for all that the limits allow, 8 KiB each
 //
 //                built      records     notes
 //     small      9.3 KiB    13.5 KiB    28 KiB     for 512 rows, 512 effects, 128 variables

@@ -8,7 +8,10 @@ returns : tie.Need-returns
 returns c = batch-full (c .before .before .before .before .before .before .before .before .before .pre)
 
 next-batch-requires : tie.Need-next-batch-requires
-next-batch-requires c κs = batch-asks (c .before .before .before .before .before .before .before .before .before .before .before .before .before .pre) (c .before .before .before .before .if1 .left)
+next-batch-requires c κs =
+    let at-if1 = c .before .before .before .before in
+    let at-pre = at-if1 .before .before .before .before .before .before .before .before .before in
+    batch-asks (at-pre .pre) (at-if1 .if1 .left)
 
 same-length : tie.Need-same-length
 same-length c = search needs
@@ -23,7 +26,11 @@ same-length-4 : tie.Need-same-length-4
 same-length-4 c = search needs
 
 returns-2 : tie.Need-returns-2
-returns-2 c = batch-begun (c .before .before .before .before .before .before .before .before .before .before .before .before .before .before .before .before .before .before .before .before .before .before .pre) (c .before .before .before .before .before .before .before .before .before .before .before .before .before .if1 .left) (c .before .before .before .before .before .before .before .before .next-batch .ensures)
+returns-2 c =
+    let at-next-batch = c .before .before .before .before .before .before .before .before in
+    let at-if1 = at-next-batch .before .before .before .before .before in
+    let at-pre = at-if1 .before .before .before .before .before .before .before .before .before in
+    batch-begun (at-pre .pre) (at-if1 .if1 .left) (at-next-batch .next-batch .ensures)
 
 pub begin-next-spec : {M : Type 1} → statement M
 begin-next-spec =

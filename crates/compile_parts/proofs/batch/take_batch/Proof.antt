@@ -26,26 +26,39 @@ abbrev μ-loop : tie.MeasureT-loop
     end - at .operators
 
 begin-next-requires : tie.Need-begin-next-requires Inv-loop μ-loop
-begin-next-requires c κs = c .before .before .before .before .before .before .before .before .before .before .before .before .before .pre .begins
+begin-next-requires c κs =
+    let at-pre = c .before .before .before .before .before .before .before .before .before .before .before .before .before in
+    at-pre .pre .begins
 
 loop-holds : tie.Need-loop-holds Inv-loop μ-loop
 loop-holds c =
-    let begun = c .before .before .before .before .before .before .before .before .begin-next .ensures in
-    (omega (arith, begun .more), refl, refl, refl, refl, refl, still-taken (c .before .before .before .before .before .before .before .before .before .before .before .before .before .before .before .before .before .before .before .before .before .before .pre) begun, begun .along .leaves)
+    let at-begin-next = c .before .before .before .before .before .before .before .before in
+    let at-pre = at-begin-next .before .before .before .before .before .before .before .before .before .before .before .before .before .before in
+    let begun = at-begin-next .begin-next .ensures in
+    (omega (arith, begun .more), refl, refl, refl, refl, refl, still-taken (at-pre .pre) begun, begun .along .leaves)
 
 take-operator-requires : tie.Need-take-operator-requires Inv-loop μ-loop
 take-operator-requires c κs =
-    let so-far = c .before .before .before .before .before .before .before .loop .inv in
-    next-asks (c .before .before .before .before .before .before .before .before .before .before .before .before .before .before .before .before .before .before .before .before .before .before .before .before .before .before .before .before .before .before .pre) (so-far .7) (omega (arith, c .before .before .before .before .before .if1 .taken, c .before .before .before .before .before .before .before .before .before .before .before .before .before .before .before .before .begin-next .ensures .most)) (so-far .5) (so-far .6)
+    let at-if1 = c .before .before .before .before .before in
+    let at-loop = at-if1 .before .before in
+    let at-begin-next = at-loop .before .before .before .before .before .before .before .before .before in
+    let at-pre = at-begin-next .before .before .before .before .before .before .before .before .before .before .before .before .before .before in
+    let so-far = at-loop .loop .inv in
+    next-asks (at-pre .pre) (so-far .7) (omega (arith, at-if1 .if1 .taken, at-begin-next .begin-next .ensures .most)) (so-far .5) (so-far .6)
 
 loop-less : tie.Need-loop-less Inv-loop μ-loop
-loop-less c = omega (arith, c .before .before .before .before .before .before .before .before .before .before .take-operator .ensures .0 .next)
+loop-less c =
+    let at-take-operator = c .before .before .before .before .before .before .before .before .before .before in
+    omega (arith, at-take-operator .take-operator .ensures .0 .next)
 
 loop-again : tie.Need-loop-again Inv-loop μ-loop
 loop-again c =
-    let so-far = c .before .before .before .before .before .before .before .before .before .before .before .before .before .before .before .before .before .before .loop .inv in
-    let took = c .before .before .before .before .before .before .before .before .before .before .take-operator in (
-      omega (arith, took .ensures .0 .next, c .before .before .before .before .before .before .before .before .before .before .before .before .before .before .before .before .if1 .taken),
+    let at-take-operator = c .before .before .before .before .before .before .before .before .before .before in
+    let at-if1 = at-take-operator .before .before .before .before .before .before in
+    let at-loop = at-if1 .before .before in
+    let so-far = at-loop .loop .inv in
+    let took = at-take-operator .take-operator in (
+      omega (arith, took .ensures .0 .next, at-if1 .if1 .taken),
       took .kept .1 .1 .0 ∙ so-far .1,
       took .kept .1 .1 .1 .1 .1 .1 .0 ∙ so-far .2,
       took .kept .1 .1 .1 .1 .1 .1 .1 .0 ∙ so-far .3,
@@ -56,24 +69,33 @@ loop-again c =
     )
 
 same-length : tie.Need-same-length Inv-loop μ-loop
-same-length c = c .before .before .loop .inv .1 ∙ c .before .before .before .before .before .before .before .before .before .before .before .begin-next .kept .1 .1 .1 .1 .1 .1 .0
+same-length c =
+    let at-begin-next = c .before .before .before .before .before .before .before .before .before .before .before in
+    c .before .before .loop .inv .1 ∙ at-begin-next .begin-next .kept .1 .1 .1 .1 .1 .1 .0
 
 same-length-2 : tie.Need-same-length-2 Inv-loop μ-loop
-same-length-2 c = c .before .before .loop .inv .2 ∙ c .before .before .before .before .before .before .before .before .before .before .before .begin-next .kept .1 .1 .1 .1 .1 .1 .1 .0
+same-length-2 c =
+    let at-begin-next = c .before .before .before .before .before .before .before .before .before .before .before in
+    c .before .before .loop .inv .2 ∙ at-begin-next .begin-next .kept .1 .1 .1 .1 .1 .1 .1 .0
 
 same-length-3 : tie.Need-same-length-3 Inv-loop μ-loop
-same-length-3 c = c .before .before .loop .inv .3 ∙ c .before .before .before .before .before .before .before .before .before .before .before .begin-next .kept .1 .1 .1 .1 .1 .1 .1 .1 .0
+same-length-3 c =
+    let at-begin-next = c .before .before .before .before .before .before .before .before .before .before .before in
+    c .before .before .loop .inv .3 ∙ at-begin-next .begin-next .kept .1 .1 .1 .1 .1 .1 .1 .1 .0
 
 same-length-4 : tie.Need-same-length-4 Inv-loop μ-loop
-same-length-4 c = c .before .before .loop .inv .4 ∙ c .before .before .before .before .before .before .before .before .before .before .before .begin-next .kept .1 .1 .1 .1 .1 .1 .1 .1 .1 .0
+same-length-4 c =
+    let at-begin-next = c .before .before .before .before .before .before .before .before .before .before .before in
+    c .before .before .loop .inv .4 ∙ at-begin-next .begin-next .kept .1 .1 .1 .1 .1 .1 .1 .1 .1 .0
 
 same-length-5 : tie.Need-same-length-5 Inv-loop μ-loop
 same-length-5 c = c .before .before .loop .inv .5
 
 returns : tie.Need-returns Inv-loop μ-loop
 returns c =
+    let at-begin-next = c .before .before .before .before .before .before .before .before .before .before .before in
     let so-far = c .before .before .loop .inv in
-    let begun = c .before .before .before .before .before .before .before .before .before .before .before .begin-next .ensures in
+    let begun = at-begin-next .begin-next .ensures in
     record {
       more = omega (arith, begun .more, c .if1 .left);
       most = omega (arith, begun .most, so-far .0);

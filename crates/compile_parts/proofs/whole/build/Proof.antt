@@ -30,21 +30,29 @@ abbrev μ-loop : tie.MeasureT-loop
     count - at .operators
 
 find-sets-requires : tie.Need-find-sets-requires Inv-loop μ-loop
-find-sets-requires c κs = finds (c .before .before .before .before .before .before .before .before .before .before .pre)
+find-sets-requires c κs =
+    let at-pre = c .before .before .before .before .before .before .before .before .before .before in
+    finds (at-pre .pre)
 
 slice-aggregate-find-first : tie.Need-slice-aggregate-find-first Inv-loop μ-loop
 slice-aggregate-find-first c = search needs
 
 find-first-requires : tie.Need-find-first-requires Inv-loop μ-loop
-find-first-requires c κs = finds-first (c .before .before .before .before .before .before .before .before .before .before .before .before .before .before .pre)
+find-first-requires c κs =
+    let at-pre = c .before .before .before .before .before .before .before .before .before .before .before .before .before .before in
+    finds-first (at-pre .pre)
 
 begin-requires : tie.Need-begin-requires Inv-loop μ-loop
-begin-requires c κs = c .before .before .before .before .before .before .before .before .before .before .before .before .before .before .before .before .before .pre .fresh
+begin-requires c κs =
+    let at-pre = c .before .before .before .before .before .before .before .before .before .before .before .before .before .before .before .before .before in
+    at-pre .pre .fresh
 
 loop-holds : tie.Need-loop-holds Inv-loop μ-loop
 loop-holds c =
-    let asked = c .before .before .before .before .before .before .before .before .before .before .before .before .before .before .before .before .before .before .before .before .pre in
-    let sets = c .before .before .before .before .before .before .before .before .before .find-sets in
+    let at-find-sets = c .before .before .before .before .before .before .before .before .before in
+    let at-pre = at-find-sets .before .before .before .before .before .before .before .before .before .before .before in
+    let asked = at-pre .pre in
+    let sets = at-find-sets .find-sets in
     let begun = c .before .before .begin .ensures in
     let found = noted asked (sets .ensures) (sets .kept .1 .1 .0) _ in (
       omega (arith, begun .none),
@@ -63,19 +71,29 @@ slice-aggregate-take-batch c = search needs
 
 take-batch-requires : tie.Need-take-batch-requires Inv-loop μ-loop
 take-batch-requires c κs =
-    let so-far = c .before .before .before .before .before .before .before .before .loop .inv in
-    let asked = c .before .before .before .before .before .before .before .before .before .before .before .before .before .before .before .before .before .before .before .before .before .before .before .before .before .before .before .before .before .pre in
-    let firsts = c .before .before .before .before .before .before .before .before .before .before .before .before .before .before .find-first in
-    next-batch asked (known asked (firsts .ensures) (firsts .kept .1 .1 .1 .1 .0)) (c .before .before .before .before .before .before .if1 .taken) (so-far .3 ∙ c .before .before .before .before .before .before .before .before .before .before .before .before .before .before .before .before .before .before .find-sets .kept .1 .1 .0)
+    let at-if1 = c .before .before .before .before .before .before in
+    let at-loop = at-if1 .before .before in
+    let at-find-first = at-loop .before .before .before .before .before .before in
+    let at-find-sets = at-find-first .before .before .before .before in
+    let at-pre = at-find-sets .before .before .before .before .before .before .before .before .before .before .before in
+    let so-far = at-loop .loop .inv in
+    let asked = at-pre .pre in
+    let firsts = at-find-first .find-first in
+    next-batch asked (known asked (firsts .ensures) (firsts .kept .1 .1 .1 .1 .0)) (at-if1 .if1 .taken) (so-far .3 ∙ at-find-sets .find-sets .kept .1 .1 .0)
     (so-far .5) (so-far .6) (so-far .7) (so-far .8)
 
 loop-less : tie.Need-loop-less Inv-loop μ-loop
-loop-less c = omega (arith, c .before .before .before .before .before .before .before .before .before .before .take-batch .ensures .more, c .before .before .before .before .before .before .before .before .before .before .before .before .before .before .before .before .before .if1 .taken)
+loop-less c =
+    let at-take-batch = c .before .before .before .before .before .before .before .before .before .before in
+    let at-if1 = at-take-batch .before .before .before .before .before .before .before in
+    omega (arith, at-take-batch .take-batch .ensures .more, at-if1 .if1 .taken)
 
 loop-again : tie.Need-loop-again Inv-loop μ-loop
 loop-again c =
-    let so-far = c .before .before .before .before .before .before .before .before .before .before .before .before .before .before .before .before .before .before .before .loop .inv in
-    let took = c .before .before .before .before .before .before .before .before .before .before .take-batch in (
+    let at-take-batch = c .before .before .before .before .before .before .before .before .before .before in
+    let at-loop = at-take-batch .before .before .before .before .before .before .before .before .before in
+    let so-far = at-loop .loop .inv in
+    let took = at-take-batch .take-batch in (
       took .ensures .most,
       took .kept .1 .1 .1 .1 .1 .1 .1 .1 .0 ∙ so-far .1,
       took .kept .1 .1 .1 .1 .1 .1 .1 .1 .1 .0 ∙ so-far .2,
@@ -89,29 +107,51 @@ loop-again c =
 
 take-goal-requires : tie.Need-take-goal-requires Inv-loop μ-loop
 take-goal-requires c κs =
-    let so-far = c .before .before .before .before .before .loop .inv in
-    last-asks (c .before .before .before .before .before .before .before .before .before .before .before .before .before .before .before .before .before .before .before .before .before .before .before .before .before .before .pre) (omega (arith, so-far .0, c .before .before .before .if1 .left)) (so-far .6)
+    let at-if1 = c .before .before .before in
+    let at-loop = at-if1 .before .before in
+    let at-pre = at-loop .before .before .before .before .before .before .before .before .before .before .before .before .before .before .before .before .before .before .before .before .before in
+    let so-far = at-loop .loop .inv in
+    last-asks (at-pre .pre) (omega (arith, so-far .0, at-if1 .if1 .left)) (so-far .6)
 
 same-length : tie.Need-same-length Inv-loop μ-loop
-same-length c = c .before .before .before .before .before .before .take-goal .kept .1 .1 .1 .1 .1 .0 ∙ c .before .before .before .before .before .before .before .before .before .before .before .before .loop .inv .1
+same-length c =
+    let at-take-goal = c .before .before .before .before .before .before in
+    let at-loop = at-take-goal .before .before .before .before .before .before in
+    at-take-goal .take-goal .kept .1 .1 .1 .1 .1 .0 ∙ at-loop .loop .inv .1
 
 same-length-2 : tie.Need-same-length-2 Inv-loop μ-loop
-same-length-2 c = c .before .before .before .before .before .before .take-goal .kept .1 .1 .1 .1 .1 .1 .0 ∙ c .before .before .before .before .before .before .before .before .before .before .before .before .loop .inv .2
+same-length-2 c =
+    let at-take-goal = c .before .before .before .before .before .before in
+    let at-loop = at-take-goal .before .before .before .before .before .before in
+    at-take-goal .take-goal .kept .1 .1 .1 .1 .1 .1 .0 ∙ at-loop .loop .inv .2
 
 same-length-3 : tie.Need-same-length-3 Inv-loop μ-loop
-same-length-3 c = c .before .before .before .before .before .before .before .before .before .before .before .before .loop .inv .3 ∙ c .before .before .before .before .before .before .before .before .before .before .before .before .before .before .before .before .before .before .before .before .before .before .find-sets .kept .1 .1 .0
+same-length-3 c =
+    let at-loop = c .before .before .before .before .before .before .before .before .before .before .before .before in
+    let at-find-sets = at-loop .before .before .before .before .before .before .before .before .before .before in
+    at-loop .loop .inv .3 ∙ at-find-sets .find-sets .kept .1 .1 .0
 
 same-length-4 : tie.Need-same-length-4 Inv-loop μ-loop
-same-length-4 c = c .before .before .before .before .before .before .take-goal .kept .1 .1 .1 .1 .0 ∙ c .before .before .before .before .before .before .before .before .before .before .before .before .loop .inv .4 ∙ c .before .before .before .before .before .before .before .before .before .before .before .before .before .before .before .begin .kept .1 .0
+same-length-4 c =
+    let at-take-goal = c .before .before .before .before .before .before in
+    let at-loop = at-take-goal .before .before .before .before .before .before in
+    let at-begin = at-loop .before .before .before in
+    at-take-goal .take-goal .kept .1 .1 .1 .1 .0 ∙ at-loop .loop .inv .4 ∙ at-begin .begin .kept .1 .0
 
 same-length-5 : tie.Need-same-length-5 Inv-loop μ-loop
-same-length-5 c = c .before .before .before .before .before .before .before .before .before .before .before .before .loop .inv .5
+same-length-5 c =
+    let at-loop = c .before .before .before .before .before .before .before .before .before .before .before .before in
+    at-loop .loop .inv .5
 
 returns : tie.Need-returns Inv-loop μ-loop
 returns c =
-    let so-far = c .before .before .before .before .before .before .before .before .before .before .before .before .loop .inv in
-    let goal = c .before .before .before .before .before .before .take-goal in
-    all-built (c .before .before .before .before .before .before .before .before .before .before .before .before .before .before .before .before .before .before .before .before .before .before .before .before .before .before .before .before .before .before .before .before .before .pre) (omega (arith, so-far .0, c .before .before .before .before .before .before .before .before .before .before .if1 .left)) (so-far .6) (goal .kept .1 .1 .1 .1 .1 .1 .0) (goal .ensures)
+    let at-take-goal = c .before .before .before .before .before .before in
+    let at-if1 = at-take-goal .before .before .before .before in
+    let at-loop = at-if1 .before .before in
+    let at-pre = at-loop .before .before .before .before .before .before .before .before .before .before .before .before .before .before .before .before .before .before .before .before .before in
+    let so-far = at-loop .loop .inv in
+    let goal = at-take-goal .take-goal in
+    all-built (at-pre .pre) (omega (arith, so-far .0, at-if1 .if1 .left)) (so-far .6) (goal .kept .1 .1 .1 .1 .1 .1 .0) (goal .ensures)
 
 pub build-spec : {M : Type 1} → statement M
 build-spec =

@@ -1,2 +1,0 @@
-pub mod Finds
-pub mod Settling
