@@ -30,7 +30,8 @@ zero-at zero j = refl
 zero-at (suc n) zero = refl
 zero-at (suc n) (suc j) = zero-at n j
 
-module _ {c : Counts} {formulas effects operators originals scratch notes built records : List ℕ} (b : Builds c formulas effects operators originals scratch notes built records) where
+module _ {c : Counts} {formulas effects operators originals scratch notes built records : List ℕ}
+    (b : Builds c formulas effects operators originals scratch notes built records) where
   rules : EffectSource (c .frame) effects scratch
   rules = b .blank .effect-source
 
@@ -139,7 +140,8 @@ module _ {c : Counts} {formulas effects operators originals scratch notes built 
       }
 
   -- behind all operators
-  module _ {s : Store} {memo kept : List ℕ} {p : Progress} (all : p .operators ≡ c .operators) (k : Taken (c .frame) formulas effects operators s memo kept p) where
+  module _ {s : Store} {memo kept : List ℕ} {p : Progress} (all : p .operators ≡ c .operators)
+      (k : Taken (c .frame) formulas effects operators s memo kept p) where
     pub last-asks : TakesGoal (c .frame) formulas (c .goal) s memo p
     last-asks = goal-asks (c .frame) formulas effects operators (c .operators) (c .goal) all k (b .goal)
 

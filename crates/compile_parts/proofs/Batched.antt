@@ -35,7 +35,8 @@ covered-here frame formulas effects operators n s u roots g =
     covered-built frame formulas effects operators n (λ k. image-at frame formulas plain (operator-at operators k .precondition)) s u
     (λ k. steady-image-at frame formulas plain (operator-at operators k .precondition)) roots g
 
-module _ {c : Counts} {formulas effects operators first notes scratch : List ℕ} {s : Store} {p : Progress} (b : BeginsNext c formulas effects operators first notes s scratch p) where
+module _ {c : Counts} {formulas effects operators first notes scratch : List ℕ} {s : Store} {p : Progress}
+    (b : BeginsNext c formulas effects operators first notes s scratch p) where
   pub batch-asks : p .full ≡ false → NextBatch (c .frame) formulas effects operators (p .operators) (c .operators) first notes (size-at p) s scratch
   batch-asks q =
       let known = b .known in
@@ -110,7 +111,8 @@ module _ {c : Counts} {formulas effects operators first notes scratch : List ℕ
   batch-full = record { more = b .next; most = omega arith; along = b .along }
 
 -- The operators before the batch stay taken, and each of its own may be.
-module _ {c : Counts} {formulas effects operators first notes scratch records : List ℕ} {s : Store} {p : Progress} (b : TakesBatch c formulas effects operators first notes s scratch records p) where
+module _ {c : Counts} {formulas effects operators first notes scratch records : List ℕ} {s : Store} {p : Progress}
+    (b : TakesBatch c formulas effects operators first notes s scratch records p) where
   pub still-taken :
       {notes' scratch' : List ℕ} {s' : Store} {end : ℕ}
       → BegunNext c formulas effects operators notes' s' scratch' p end

@@ -44,7 +44,8 @@ same-size x y q =
     (sym (held-twins x) ∙ ap (λ (z : St). length (z .twins)) q ∙ held-twins y)
 
 -- what a condition asks, and the test of a set
-module _ {frame : Frame} {formulas effects notes : List ℕ} {t : Target} {at : Size} {s : Store} {scratch : List ℕ} {e : ℕ} (a : FillsRow frame formulas effects notes t at s scratch e) where
+module _ {frame : Frame} {formulas effects notes : List ℕ} {t : Target} {at : Size} {s : Store} {scratch : List ℕ} {e : ℕ}
+    (a : FillsRow frame formulas effects notes t at s scratch e) where
   pub row-asks : Asks frame formulas effects notes t at s scratch e
   row-asks =
       record {
@@ -68,7 +69,8 @@ module _ {frame : Frame} {formulas effects notes : List ℕ} {t : Target} {at : 
       }
 
   -- the step is done, and leaves the state as it was
-  module _ {notes' : List ℕ} {after : Store} {scratch' : List ℕ} {r : Step} (long : length scratch' ≡ length scratch) (x : Conditions (condition-at frame formulas effects t e) frame formulas effects notes' at s after scratch' r) where
+  module _ {notes' : List ℕ} {after : Store} {scratch' : List ℕ} {r : Step} (long : length scratch' ≡ length scratch)
+      (x : Conditions (condition-at frame formulas effects t e) frame formulas effects notes' at s after scratch' r) where
     same : condition-at frame formulas effects t e (held at s) .st ≡ held at s
     same = a .covered .again t (a .plain) (a .variable)
 

@@ -192,7 +192,8 @@ place-behind frame c t =
     ahead (sets-end frame) (c * (width (frame .variables) * frame .variables) + (width (frame .variables) * t .variable + part t))
 
 -- The notes are right with new columns, in which nothing is kept.
-module _ (frame : Frame) {a b c : List ℕ} {last : ℕ} (first : length b ≡ length a) (second : length c ≡ length b) (x : Renumbered (frame .effects) a b last) (y : Forgot (sets-end frame) b c) where
+module _ (frame : Frame) {a b c : List ℕ} {last : ℕ} (first : length b ≡ length a) (second : length c ≡ length b)
+    (x : Renumbered (frame .effects) a b last) (y : Forgot (sets-end frame) b c) where
   long : length c ≡ length a
   long = second ∙ first
 

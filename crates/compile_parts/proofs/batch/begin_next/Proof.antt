@@ -13,18 +13,6 @@ next-batch-requires c κs =
     let at-pre = at-if1 .before .before .before .before .before .before .before .before .before in
     batch-asks (at-pre .pre) (at-if1 .if1 .left)
 
-same-length : tie.Need-same-length
-same-length c = search needs
-
-same-length-2 : tie.Need-same-length-2
-same-length-2 c = search needs
-
-same-length-3 : tie.Need-same-length-3
-same-length-3 c = search needs
-
-same-length-4 : tie.Need-same-length-4
-same-length-4 c = search needs
-
 returns-2 : tie.Need-returns-2
 returns-2 c =
     let at-next-batch = c .before .before .before .before .before .before .before .before in
@@ -36,10 +24,4 @@ pub begin-next-spec : {M : Type 1} → statement M
 begin-next-spec =
     tie.close
     (tie.spec
-    returns
-    next-batch-requires
-    same-length
-    same-length-2
-    same-length-3
-    same-length-4
-    returns-2)
+    returns next-batch-requires (λ c. search needs) (λ c. search needs) (λ c. search needs) (λ c. search needs) returns-2)

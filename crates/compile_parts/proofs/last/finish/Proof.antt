@@ -28,6 +28,7 @@ returns-2 c = rules-over (c .before .before .before .before .before .before .ass
 write-initial-requires : tie.Need-write-initial-requires
 write-initial-requires c κs =
     let at-entry = c .before .before .before .before .before .before .before .before .before .before in
+    let at-entry = at-entry in
     let at-if1 = at-entry in
     let at-pre = at-if1 .before .before .before .before .before .before .before .before .before .before in
     at-pre .pre .stands (at-if1 .if1 .left) .initial-ready
@@ -35,6 +36,7 @@ write-initial-requires c κs =
 mul-copy-words : tie.Need-mul-copy-words
 mul-copy-words c =
     let at-entry = c .before .before .before .before .before .before .before .before .before .before .before .before .before .before .before in
+    let at-entry = at-entry in
     let at-if1 = at-entry in
     let at-pre = at-if1 .before .before .before .before .before .before .before .before .before .before in
     omega (arith, at-pre .pre .stands (at-if1 .if1 .left) .limit)
@@ -42,6 +44,7 @@ mul-copy-words c =
 copy-words-requires : tie.Need-copy-words-requires
 copy-words-requires c κs =
     let at-entry = c .before .before .before .before .before .before .before .before .before .before .before .before .before .before .before in
+    let at-entry = at-entry in
     let at-if1 = at-entry in
     let at-pre = at-if1 .before .before .before .before .before .before .before .before .before .before in
     let stands = at-pre .pre .stands (at-if1 .if1 .left) in
@@ -50,6 +53,7 @@ copy-words-requires c κs =
 cast-t26 : tie.Need-cast-t26
 cast-t26 c =
     let at-entry = c .before .before .before .before .before .before .before .before .before .before .before .before .before .before .before .before .before .before .before in
+    let at-entry = at-entry in
     let at-if1 = at-entry in
     let at-pre = at-if1 .before .before .before .before .before .before .before .before .before .before in
     omega (arith, at-pre .pre .stands (at-if1 .if1 .left) .limit)
@@ -57,6 +61,7 @@ cast-t26 c =
 cast-t27 : tie.Need-cast-t27
 cast-t27 c =
     let at-entry = c .before .before .before .before .before .before .before .before .before .before .before .before .before .before .before .before .before .before .before .before in
+    let at-entry = at-entry in
     let at-if1 = at-entry in
     let at-pre = at-if1 .before .before .before .before .before .before .before .before .before .before in
     omega (arith, at-pre .pre .stands (at-if1 .if1 .left) .assembles .variables)
@@ -64,6 +69,7 @@ cast-t27 c =
 cast-t28 : tie.Need-cast-t28
 cast-t28 c =
     let at-entry = c .before .before .before .before .before .before .before .before .before .before .before .before in
+    let at-entry = at-entry in
     let at-if2 = at-entry in
     let at-assemble-operators = at-if2 .before .before .before .before .before in
     let at-if1 = at-assemble-operators .before .before .before .before in

@@ -31,20 +31,20 @@ abbrev μ-loop : tie.MeasureT-loop
 
 find-sets-requires : tie.Need-find-sets-requires Inv-loop μ-loop
 find-sets-requires c κs =
-    let at-pre = c .before .before .before .before .before .before .before .before .before .before in
+    let at-entry = c .before .before .before .before .before .before .before .before .before .before in
+    let at-pre = at-entry in
     finds (at-pre .pre)
-
-slice-aggregate-find-first : tie.Need-slice-aggregate-find-first Inv-loop μ-loop
-slice-aggregate-find-first c = search needs
 
 find-first-requires : tie.Need-find-first-requires Inv-loop μ-loop
 find-first-requires c κs =
-    let at-pre = c .before .before .before .before .before .before .before .before .before .before .before .before .before .before in
+    let at-entry = c .before .before .before .before .before .before .before .before .before .before .before .before .before .before in
+    let at-pre = at-entry in
     finds-first (at-pre .pre)
 
 begin-requires : tie.Need-begin-requires Inv-loop μ-loop
 begin-requires c κs =
-    let at-pre = c .before .before .before .before .before .before .before .before .before .before .before .before .before .before .before .before .before in
+    let at-entry = c .before .before .before .before .before .before .before .before .before .before .before .before .before .before .before .before .before in
+    let at-pre = at-entry in
     at-pre .pre .fresh
 
 loop-holds : tie.Need-loop-holds Inv-loop μ-loop
@@ -66,9 +66,6 @@ loop-holds c =
       λ _. none-kept asked (sets .ensures) (sets .kept .1 .1 .0),
     )
 
-slice-aggregate-take-batch : tie.Need-slice-aggregate-take-batch Inv-loop μ-loop
-slice-aggregate-take-batch c = search needs
-
 take-batch-requires : tie.Need-take-batch-requires Inv-loop μ-loop
 take-batch-requires c κs =
     let at-if1 = c .before .before .before .before .before .before in
@@ -84,13 +81,15 @@ take-batch-requires c κs =
 
 loop-less : tie.Need-loop-less Inv-loop μ-loop
 loop-less c =
-    let at-take-batch = c .before .before .before .before .before .before .before .before .before .before in
+    let at-entry = c .before .before .before .before .before .before .before .before .before .before in
+    let at-take-batch = at-entry in
     let at-if1 = at-take-batch .before .before .before .before .before .before .before in
     omega (arith, at-take-batch .take-batch .ensures .more, at-if1 .if1 .taken)
 
 loop-again : tie.Need-loop-again Inv-loop μ-loop
 loop-again c =
-    let at-take-batch = c .before .before .before .before .before .before .before .before .before .before in
+    let at-entry = c .before .before .before .before .before .before .before .before .before .before in
+    let at-take-batch = at-entry in
     let at-loop = at-take-batch .before .before .before .before .before .before .before .before .before in
     let so-far = at-loop .loop .inv in
     let took = at-take-batch .take-batch in (
@@ -107,9 +106,12 @@ loop-again c =
 
 take-goal-requires : tie.Need-take-goal-requires Inv-loop μ-loop
 take-goal-requires c κs =
-    let at-if1 = c .before .before .before in
+    let at-entry = c .before .before .before in
+    let at-if1 = at-entry in
     let at-loop = at-if1 .before .before in
-    let at-pre = at-loop .before .before .before .before .before .before .before .before .before .before .before .before .before .before .before .before .before .before .before .before .before in
+    let at-pre =
+    at-loop .before .before .before .before .before .before .before .before .before .before .before .before .before .before .before .before .before .before .before .before .before
+    in
     let so-far = at-loop .loop .inv in
     last-asks (at-pre .pre) (omega (arith, so-far .0, at-if1 .if1 .left)) (so-far .6)
 
@@ -127,7 +129,8 @@ same-length-2 c =
 
 same-length-3 : tie.Need-same-length-3 Inv-loop μ-loop
 same-length-3 c =
-    let at-loop = c .before .before .before .before .before .before .before .before .before .before .before .before in
+    let at-entry = c .before .before .before .before .before .before .before .before .before .before .before .before in
+    let at-loop = at-entry in
     let at-find-sets = at-loop .before .before .before .before .before .before .before .before .before .before in
     at-loop .loop .inv .3 ∙ at-find-sets .find-sets .kept .1 .1 .0
 
@@ -140,15 +143,19 @@ same-length-4 c =
 
 same-length-5 : tie.Need-same-length-5 Inv-loop μ-loop
 same-length-5 c =
-    let at-loop = c .before .before .before .before .before .before .before .before .before .before .before .before in
+    let at-entry = c .before .before .before .before .before .before .before .before .before .before .before .before in
+    let at-loop = at-entry in
     at-loop .loop .inv .5
 
 returns : tie.Need-returns Inv-loop μ-loop
 returns c =
-    let at-take-goal = c .before .before .before .before .before .before in
+    let at-entry = c .before .before .before .before .before .before in
+    let at-take-goal = at-entry in
     let at-if1 = at-take-goal .before .before .before .before in
     let at-loop = at-if1 .before .before in
-    let at-pre = at-loop .before .before .before .before .before .before .before .before .before .before .before .before .before .before .before .before .before .before .before .before .before in
+    let at-pre =
+    at-loop .before .before .before .before .before .before .before .before .before .before .before .before .before .before .before .before .before .before .before .before .before
+    in
     let so-far = at-loop .loop .inv in
     let goal = at-take-goal .take-goal in
     all-built (at-pre .pre) (omega (arith, so-far .0, at-if1 .if1 .left)) (so-far .6) (goal .kept .1 .1 .1 .1 .1 .1 .0) (goal .ensures)
@@ -159,19 +166,5 @@ build-spec =
     (tie.spec
     Inv-loop
     μ-loop
-    find-sets-requires
-    slice-aggregate-find-first
-    find-first-requires
-    begin-requires
-    loop-holds
-    slice-aggregate-take-batch
-    take-batch-requires
-    loop-less
-    loop-again
-    take-goal-requires
-    same-length
-    same-length-2
-    same-length-3
-    same-length-4
-    same-length-5
-    returns)
+    find-sets-requires (λ c. search needs) find-first-requires begin-requires loop-holds (λ c. search needs) take-batch-requires loop-less loop-again
+    take-goal-requires same-length same-length-2 same-length-3 same-length-4 same-length-5 returns)

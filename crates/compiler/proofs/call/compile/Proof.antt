@@ -22,42 +22,49 @@ use Rattle.compiler.proofs.Ways.{refuses-first, roomy, filled-over, var
 same-length : tie.Need-same-length
 same-length c =
     let at-entry = c .before .before .before .before .before .before .before .before .before .before .before .before .before .before in
+    let at-entry = at-entry in
     let at-clear-all = at-entry in
     at-clear-all .clear-all .kept .0
 
 same-length-2 : tie.Need-same-length-2
 same-length-2 c =
     let at-entry = c .before .before .before .before .before .before .before .before .before .before .before .before .before .before in
+    let at-entry = at-entry in
     let at-clear-all = at-entry in
     at-clear-all .clear-all .kept .1 .0
 
 same-length-3 : tie.Need-same-length-3
 same-length-3 c =
     let at-entry = c .before .before .before .before .before .before .before .before .before .before .before .before .before .before in
+    let at-entry = at-entry in
     let at-clear-all = at-entry in
     at-clear-all .clear-all .kept .1 .1 .0
 
 same-length-4 : tie.Need-same-length-4
 same-length-4 c =
     let at-entry = c .before .before .before .before .before .before .before .before .before .before .before .before .before .before in
+    let at-entry = at-entry in
     let at-clear-all = at-entry in
     at-clear-all .clear-all .kept .1 .1 .1 .0
 
 same-length-5 : tie.Need-same-length-5
 same-length-5 c =
     let at-entry = c .before .before .before .before .before .before .before .before .before .before .before .before .before .before in
+    let at-entry = at-entry in
     let at-clear-all = at-entry in
     at-clear-all .clear-all .kept .1 .1 .1 .1 .0
 
 same-length-6 : tie.Need-same-length-6
 same-length-6 c =
     let at-entry = c .before .before .before .before .before .before .before .before .before .before .before .before .before .before in
+    let at-entry = at-entry in
     let at-clear-all = at-entry in
     at-clear-all .clear-all .kept .1 .1 .1 .1 .1 .0
 
 returns : tie.Need-returns
 returns c =
     let at-entry = c .before .before .before .before .before .before .before .before .before .before .before .before .before .before in
+    let at-entry = at-entry in
     let at-clear-all = at-entry in
     let at-args =
     at-clear-all .before .before .before .before .before .before .before .before .before .before .before .before .before .before .before .before .before .before
@@ -69,6 +76,7 @@ returns c =
 counts-of-requires : tie.Need-counts-of-requires
 counts-of-requires c κs =
     let at-entry = c .before .before .before .before .before .before .before .before .before .before .before .before .before .before .before .before .before .before .before .before .before .before .before .before .before .before .before .before .before .before .before .before in
+    let at-entry = at-entry in
     let at-args = at-entry in
     let a = at-args .args in
     let l = lent (a .head) (a .initial .now) (a .twins .now) (a .formulas .now) (a .effects .now) (a .operators .now) in
@@ -87,6 +95,7 @@ fill-requires c κs =
 same-length-7 : tie.Need-same-length-7
 same-length-7 c =
     let at-entry = c .before .before .before .before .before .before .before .before .before .before .before .before in
+    let at-entry = at-entry in
     let at-clear-all2 = at-entry in
     let at-fill =
     at-clear-all2 .before .before .before .before .before .before .before .before .before .before .before .before .before .before .before .before .before .before .before .before
@@ -99,6 +108,7 @@ same-length-7 c =
 same-length-8 : tie.Need-same-length-8
 same-length-8 c =
     let at-entry = c .before .before .before .before .before .before .before .before .before .before .before .before in
+    let at-entry = at-entry in
     let at-clear-all2 = at-entry in
     let at-fill =
     at-clear-all2 .before .before .before .before .before .before .before .before .before .before .before .before .before .before .before .before .before .before .before .before
@@ -111,6 +121,7 @@ same-length-8 c =
 same-length-9 : tie.Need-same-length-9
 same-length-9 c =
     let at-entry = c .before .before .before .before .before .before .before .before .before .before .before .before in
+    let at-entry = at-entry in
     let at-clear-all2 = at-entry in
     let at-fill =
     at-clear-all2 .before .before .before .before .before .before .before .before .before .before .before .before .before .before .before .before .before .before .before .before
@@ -123,6 +134,7 @@ same-length-9 c =
 same-length-10 : tie.Need-same-length-10
 same-length-10 c =
     let at-entry = c .before .before .before .before .before .before .before .before .before .before .before .before in
+    let at-entry = at-entry in
     let at-clear-all2 = at-entry in
     let at-fill =
     at-clear-all2 .before .before .before .before .before .before .before .before .before .before .before .before .before .before .before .before .before .before .before .before
@@ -135,6 +147,7 @@ same-length-10 c =
 same-length-11 : tie.Need-same-length-11
 same-length-11 c =
     let at-entry = c .before .before .before .before .before .before .before .before .before .before .before .before in
+    let at-entry = at-entry in
     let at-clear-all2 = at-entry in
     let at-fill =
     at-clear-all2 .before .before .before .before .before .before .before .before .before .before .before .before .before .before .before .before .before .before .before .before
@@ -147,6 +160,7 @@ same-length-11 c =
 same-length-12 : tie.Need-same-length-12
 same-length-12 c =
     let at-entry = c .before .before .before .before .before .before .before .before .before .before .before .before in
+    let at-entry = at-entry in
     let at-clear-all2 = at-entry in
     let at-fill =
     at-clear-all2 .before .before .before .before .before .before .before .before .before .before .before .before .before .before .before .before .before .before .before .before
@@ -159,6 +173,7 @@ same-length-12 c =
 returns-2 : tie.Need-returns-2
 returns-2 c =
     let at-entry = c .before .before .before .before .before .before .before .before .before .before .before .before in
+    let at-entry = at-entry in
     let at-clear-all2 = at-entry in
     let at-if2 = at-clear-all2 .before .before .before .before .before .before .before in
     let at-fill = at-if2 .before .before .before .before .before .before .before .before .before .before .before .before .before in
@@ -190,6 +205,7 @@ compiled-head-requires c κs =
 same-length-13 : tie.Need-same-length-13
 same-length-13 c =
     let at-entry = c .before .before .before .before .before .before .before .before .before .before .before .before .before .before .before .before .before .before in
+    let at-entry = at-entry in
     let at-fill = at-entry in
     let at-clear-all =
     at-fill .before .before .before .before .before .before .before .before .before .before .before .before .before .before .before .before .before .before .before .before .before .before
@@ -199,6 +215,7 @@ same-length-13 c =
 same-length-14 : tie.Need-same-length-14
 same-length-14 c =
     let at-entry = c .before .before .before .before .before .before .before .before .before .before .before .before .before .before .before .before .before .before in
+    let at-entry = at-entry in
     let at-fill = at-entry in
     let at-clear-all =
     at-fill .before .before .before .before .before .before .before .before .before .before .before .before .before .before .before .before .before .before .before .before .before .before
@@ -208,6 +225,7 @@ same-length-14 c =
 same-length-15 : tie.Need-same-length-15
 same-length-15 c =
     let at-entry = c .before .before .before .before .before .before .before .before .before .before .before .before .before .before .before .before .before .before in
+    let at-entry = at-entry in
     let at-fill = at-entry in
     let at-clear-all =
     at-fill .before .before .before .before .before .before .before .before .before .before .before .before .before .before .before .before .before .before .before .before .before .before
@@ -217,6 +235,7 @@ same-length-15 c =
 same-length-16 : tie.Need-same-length-16
 same-length-16 c =
     let at-entry = c .before .before .before .before .before .before .before .before .before .before .before .before .before .before .before .before .before .before in
+    let at-entry = at-entry in
     let at-fill = at-entry in
     let at-clear-all =
     at-fill .before .before .before .before .before .before .before .before .before .before .before .before .before .before .before .before .before .before .before .before .before .before
@@ -226,6 +245,7 @@ same-length-16 c =
 same-length-17 : tie.Need-same-length-17
 same-length-17 c =
     let at-entry = c .before .before .before .before .before .before .before .before .before .before .before .before .before .before .before .before .before .before in
+    let at-entry = at-entry in
     let at-fill = at-entry in
     let at-clear-all =
     at-fill .before .before .before .before .before .before .before .before .before .before .before .before .before .before .before .before .before .before .before .before .before .before
@@ -235,6 +255,7 @@ same-length-17 c =
 same-length-18 : tie.Need-same-length-18
 same-length-18 c =
     let at-entry = c .before .before .before in
+    let at-entry = at-entry in
     let at-clear-words = at-entry in
     let at-fill = at-clear-words .before .before .before .before .before .before .before .before .before .before .before .before .before .before .before in
     let at-clear-all =

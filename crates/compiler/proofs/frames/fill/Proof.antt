@@ -20,42 +20,49 @@ fill-small-requires c κs =
 same-length : tie.Need-same-length
 same-length c =
     let at-entry = c .before .before .before .before .before .before .before .before .before .before .before .before .before .before in
+    let at-entry = at-entry in
     let at-fill-small = at-entry in
     at-fill-small .fill-small .kept .1 .1 .1 .1 .1 .0
 
 same-length-2 : tie.Need-same-length-2
 same-length-2 c =
     let at-entry = c .before .before .before .before .before .before .before .before .before .before .before .before .before .before in
+    let at-entry = at-entry in
     let at-fill-small = at-entry in
     at-fill-small .fill-small .kept .1 .1 .1 .1 .1 .1 .0
 
 same-length-3 : tie.Need-same-length-3
 same-length-3 c =
     let at-entry = c .before .before .before .before .before .before .before .before .before .before .before .before .before .before in
+    let at-entry = at-entry in
     let at-fill-small = at-entry in
     at-fill-small .fill-small .kept .1 .1 .1 .1 .1 .1 .1 .0
 
 same-length-4 : tie.Need-same-length-4
 same-length-4 c =
     let at-entry = c .before .before .before .before .before .before .before .before .before .before .before .before .before .before in
+    let at-entry = at-entry in
     let at-fill-small = at-entry in
     at-fill-small .fill-small .kept .1 .1 .1 .1 .1 .1 .1 .1 .0
 
 same-length-5 : tie.Need-same-length-5
 same-length-5 c =
     let at-entry = c .before .before .before .before .before .before .before .before .before .before .before .before .before .before in
+    let at-entry = at-entry in
     let at-fill-small = at-entry in
     at-fill-small .fill-small .kept .1 .1 .1 .1 .1 .1 .1 .1 .1 .0
 
 same-length-6 : tie.Need-same-length-6
 same-length-6 c =
     let at-entry = c .before .before .before .before .before .before .before .before .before .before .before .before .before .before in
+    let at-entry = at-entry in
     let at-fill-small = at-entry in
     at-fill-small .fill-small .kept .1 .1 .1 .1 .1 .1 .1 .1 .1 .1 .0
 
 returns : tie.Need-returns
 returns c =
     let at-entry = c .before .before .before .before .before .before .before .before .before .before .before .before .before .before in
+    let at-entry = at-entry in
     let at-fill-small = at-entry in
     let at-fewer-rows = at-fill-small .before .before .before .before .before .before .before in
     tried (at-fewer-rows .fewer-rows .ensures) (at-fill-small .fill-small .ensures) (not-true (at-fill-small .fill-small .result .full) (c .if1 .taken))
@@ -73,6 +80,7 @@ fill-large-requires c κs =
 same-length-7 : tie.Need-same-length-7
 same-length-7 c =
     let at-entry = c .before .before .before .before .before .before .before .before .before .before .before .before in
+    let at-entry = at-entry in
     let at-fill-large = at-entry in
     let at-fill-small =
     at-fill-large .before .before .before .before .before .before .before .before .before .before .before .before .before .before .before .before .before .before .before .before .before
@@ -82,6 +90,7 @@ same-length-7 c =
 same-length-8 : tie.Need-same-length-8
 same-length-8 c =
     let at-entry = c .before .before .before .before .before .before .before .before .before .before .before .before in
+    let at-entry = at-entry in
     let at-fill-large = at-entry in
     let at-fill-small =
     at-fill-large .before .before .before .before .before .before .before .before .before .before .before .before .before .before .before .before .before .before .before .before .before
@@ -91,6 +100,7 @@ same-length-8 c =
 same-length-9 : tie.Need-same-length-9
 same-length-9 c =
     let at-entry = c .before .before .before .before .before .before .before .before .before .before .before .before in
+    let at-entry = at-entry in
     let at-fill-large = at-entry in
     let at-fill-small =
     at-fill-large .before .before .before .before .before .before .before .before .before .before .before .before .before .before .before .before .before .before .before .before .before
@@ -100,6 +110,7 @@ same-length-9 c =
 same-length-10 : tie.Need-same-length-10
 same-length-10 c =
     let at-entry = c .before .before .before .before .before .before .before .before .before .before .before .before in
+    let at-entry = at-entry in
     let at-fill-large = at-entry in
     let at-fill-small =
     at-fill-large .before .before .before .before .before .before .before .before .before .before .before .before .before .before .before .before .before .before .before .before .before
@@ -109,6 +120,7 @@ same-length-10 c =
 same-length-11 : tie.Need-same-length-11
 same-length-11 c =
     let at-entry = c .before .before .before .before .before .before .before .before .before .before .before .before in
+    let at-entry = at-entry in
     let at-fill-large = at-entry in
     let at-fill-small =
     at-fill-large .before .before .before .before .before .before .before .before .before .before .before .before .before .before .before .before .before .before .before .before .before
@@ -118,6 +130,7 @@ same-length-11 c =
 same-length-12 : tie.Need-same-length-12
 same-length-12 c =
     let at-entry = c .before .before .before .before .before .before .before .before .before .before .before .before in
+    let at-entry = at-entry in
     let at-fill-large = at-entry in
     let at-fill-small =
     at-fill-large .before .before .before .before .before .before .before .before .before .before .before .before .before .before .before .before .before .before .before .before .before
@@ -127,6 +140,7 @@ same-length-12 c =
 returns-2 : tie.Need-returns-2
 returns-2 c =
     let at-entry = c .before .before .before .before .before .before .before .before .before .before .before .before in
+    let at-entry = at-entry in
     let at-fill-large = at-entry in
     let at-if1 = at-fill-large .before .before .before .before .before .before .before in
     let at-fill-small = at-if1 .before .before .before .before .before .before .before .before .before .before .before .before .before .before in

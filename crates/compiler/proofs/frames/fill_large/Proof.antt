@@ -12,12 +12,14 @@ use Rattle.compiler.proofs.Owned.{owns-large}
 build-requires : tie.Need-build-requires
 build-requires c κs =
     let at-entry = c .before .before .before .before .before .before .before .before .before .before .before .before .before .before .before in
+    let at-entry = at-entry in
     let at-pre = at-entry in
     owns-large (at-pre .pre .begins)
 
 finish-requires : tie.Need-finish-requires
 finish-requires c κs =
     let at-entry = c .before .before .before .before .before .before .before .before .before .before .before .before .before .before in
+    let at-entry = at-entry in
     let at-build = at-entry in
     let at-pre = at-build .before .before .before .before .before .before .before .before .before .before .before .before .before .before .before .before in
     let whole = at-build .build in
@@ -29,6 +31,7 @@ same-length c = c .before .before .before .before .before .before .before .befor
 same-length-2 : tie.Need-same-length-2
 same-length-2 c =
     let at-entry = c .before .before .before .before .before .before .before .before .before .before .before .before .before .before .before .before .before .before .before .before .before .before .before in
+    let at-entry = at-entry in
     let at-build = at-entry in
     at-build .build .kept .1 .1 .1 .1 .0
 
@@ -44,6 +47,7 @@ same-length-5 c = c .before .before .before .before .before .before .before .bef
 same-length-6 : tie.Need-same-length-6
 same-length-6 c =
     let at-entry = c .before .before .before .before .before .before .before .before .before .before .before .before .before .before .before .before .before .before .before .before .before .before .before in
+    let at-entry = at-entry in
     let at-build = at-entry in
     at-build .build .kept .1 .1 .1 .1 .1 .0
 

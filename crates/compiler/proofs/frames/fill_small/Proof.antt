@@ -32,6 +32,7 @@ build-requires c κs =
 finish-requires : tie.Need-finish-requires
 finish-requires c κs =
     let at-entry = c .before .before .before .before .before .before .before .before .before .before .before .before .before .before in
+    let at-entry = at-entry in
     let at-build = at-entry in
     let at-pre =
     at-build .before .before .before .before .before .before .before .before .before .before .before .before .before .before .before .before .before .before in
@@ -41,6 +42,7 @@ finish-requires c κs =
 same-length : tie.Need-same-length
 same-length c =
     let at-entry = c .before .before .before .before .before .before .before .before .before .before .before .before .before in
+    let at-entry = at-entry in
     let at-clear-all = at-entry in
     let at-finish = at-clear-all .before .before .before .before .before .before .before .before .before .before .before .before .before .before .before .before
     in
@@ -49,6 +51,7 @@ same-length c =
 same-length-2 : tie.Need-same-length-2
 same-length-2 c =
     let at-entry = c .before .before .before .before .before .before .before .before .before .before .before .before .before in
+    let at-entry = at-entry in
     let at-clear-all = at-entry in
     let at-build =
     at-clear-all .before .before .before .before .before .before .before .before .before .before .before .before .before .before .before .before .before .before .before .before .before .before .before .before .before .before .before .before .before .before .before
@@ -58,6 +61,7 @@ same-length-2 c =
 same-length-3 : tie.Need-same-length-3
 same-length-3 c =
     let at-entry = c .before .before .before .before .before .before .before .before .before .before .before .before .before in
+    let at-entry = at-entry in
     let at-clear-all = at-entry in
     let at-finish = at-clear-all .before .before .before .before .before .before .before .before .before .before .before .before .before .before .before .before
     in
@@ -66,6 +70,7 @@ same-length-3 c =
 same-length-4 : tie.Need-same-length-4
 same-length-4 c =
     let at-entry = c .before .before .before .before .before .before .before .before .before .before .before .before .before in
+    let at-entry = at-entry in
     let at-clear-all = at-entry in
     let at-finish = at-clear-all .before .before .before .before .before .before .before .before .before .before .before .before .before .before .before .before
     in
@@ -74,6 +79,7 @@ same-length-4 c =
 same-length-5 : tie.Need-same-length-5
 same-length-5 c =
     let at-entry = c .before .before .before .before .before .before .before .before .before .before .before .before .before in
+    let at-entry = at-entry in
     let at-clear-all = at-entry in
     let at-finish = at-clear-all .before .before .before .before .before .before .before .before .before .before .before .before .before .before .before .before
     in
@@ -82,6 +88,7 @@ same-length-5 c =
 same-length-6 : tie.Need-same-length-6
 same-length-6 c =
     let at-entry = c .before .before .before .before .before .before .before .before .before .before .before .before .before in
+    let at-entry = at-entry in
     let at-clear-all = at-entry in
     let at-build =
     at-clear-all .before .before .before .before .before .before .before .before .before .before .before .before .before .before .before .before .before .before .before .before .before .before .before .before .before .before .before .before .before .before .before
@@ -91,6 +98,7 @@ same-length-6 c =
 returns-2 : tie.Need-returns-2
 returns-2 c =
     let at-entry = c .before .before .before .before .before .before .before .before .before .before .before .before .before in
+    let at-entry = at-entry in
     let at-clear-all = at-entry in
     let at-finish = at-clear-all .before .before .before .before .before .before .before .before .before .before .before .before .before .before .before .before
     in
@@ -112,6 +120,7 @@ same-length-7 c = c .before .before .before .before .before .before .before .bef
 same-length-8 : tie.Need-same-length-8
 same-length-8 c =
     let at-entry = c .before .before .before .before .before .before .before .before .before .before .before .before .before .before .before .before .before .before .before .before .before .before .before .before in
+    let at-entry = at-entry in
     let at-build = at-entry in
     at-build .build .kept .1 .1 .1 .1 .0
 
@@ -127,6 +136,7 @@ same-length-11 c = c .before .before .before .before .before .before .before .be
 same-length-12 : tie.Need-same-length-12
 same-length-12 c =
     let at-entry = c .before .before .before .before .before .before .before .before .before .before .before .before .before .before .before .before .before .before .before .before .before .before .before .before in
+    let at-entry = at-entry in
     let at-build = at-entry in
     at-build .build .kept .1 .1 .1 .1 .1 .0
 

@@ -114,6 +114,7 @@ add-k-2 c =
 returns-3 : tie.Need-returns-3
 returns-3 c =
     let at-entry = c .before .before .before .before .before .before .before .before .before .before .before .before in
+    let at-entry = at-entry in
     let start = at-entry in
     place-none (framed (start .args .frame .now)) (start .args .notes .now) (start .args .t) (start .args .e)
 

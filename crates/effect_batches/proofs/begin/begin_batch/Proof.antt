@@ -7,47 +7,36 @@ use mathlib.Core.Path.{_∙_}
 use Rattle.atom_sets.specs.Inner.Sets.{sets-end}
 use Rattle.effect_batches.proofs.Numbers.{forgets, lists, noted-anew}
 
-sets-end-requires : tie.Need-sets-end-requires
-sets-end-requires c κs = search needs
-
-sub-most-columns : tie.Need-sub-most-columns
-sub-most-columns c = search needs
-
-most-columns-requires : tie.Need-most-columns-requires
-most-columns-requires c κs = search needs
-
-size-batch-requires : tie.Need-size-batch-requires
-size-batch-requires c κs = search needs
-
 forget-requires : tie.Need-forget-requires
 forget-requires c κs =
-    let start = c .before .before .before .before .before .before .before .before .before .before .before .before in
-    let sets-end = c .before .before .before .before .before .before .sets-end in
-    let size-batch = c .before .before .before .size-batch in
+    let at-size-batch = c .before .before .before in
+    let at-sets-end = at-size-batch .before .before .before in
+    let at-entry = at-sets-end .before .before .before .before .before .before in
+    let start = at-entry in
+    let sets-end = at-sets-end .sets-end in
+    let size-batch = at-size-batch .size-batch in
     forgets (start .pre) (sets-end .ensures .0) (size-batch .kept .1 .1 .1 .1 .1 .1 .1 .0) (size-batch .ensures .renumbered)
 
 list-rows-requires : tie.Need-list-rows-requires
 list-rows-requires c κs =
-    let start = c .before .before .before .before .before .before .before .before .before .before .before .before .before .before .before .before .before in
-    let forget = c .before .before .before .before .forget in
-    let size-batch = c .before .before .before .before .before .before .before .before .size-batch in
+    let at-forget = c .before .before .before .before in
+    let at-size-batch = at-forget .before .before .before .before in
+    let at-entry = at-size-batch .before .before .before .before .before .before .before .before .before in
+    let start = at-entry in
+    let forget = at-forget .forget in
+    let size-batch = at-size-batch .size-batch in
     lists (start .pre) (forget .kept .1 .1 .0 ∙ size-batch .kept .1 .1 .1 .1 .1 .1 .1 .0)
-
-add-t13 : tie.Need-add-t13
-add-t13 c = search needs
-
-same-length : tie.Need-same-length
-same-length c = search needs
-
-same-length-2 : tie.Need-same-length-2
-same-length-2 c = search needs
 
 returns : tie.Need-returns
 returns c =
-    let size-batch = c .before .before .before .before .before .before .before .before .before .before .before .size-batch in
-    let start = c .before .before .before .before .before .before .before .before .before .before .before .before .before .before .before .before .before .before .before .before in
-    let forget = c .before .before .before .before .before .before .before .forget in
-    let sets-end = c .before .before .before .before .before .before .before .before .before .before .before .before .before .before .sets-end in
+    let at-forget = c .before .before .before .before .before .before .before in
+    let at-size-batch = at-forget .before .before .before .before in
+    let at-sets-end = at-size-batch .before .before .before in
+    let at-entry = at-sets-end .before .before .before .before .before .before in
+    let size-batch = at-size-batch .size-batch in
+    let start = at-entry in
+    let forget = at-forget .forget in
+    let sets-end = at-sets-end .sets-end in
     let list-rows = c .before .before .list-rows in
     record {
       more = omega (arith, size-batch .ensures .some);
@@ -62,13 +51,5 @@ pub begin-batch-spec : {M : Type 1} → statement M
 begin-batch-spec =
     tie.close
     (tie.spec
-    sets-end-requires
-    sub-most-columns
-    most-columns-requires
-    size-batch-requires
-    forget-requires
-    list-rows-requires
-    add-t13
-    same-length
-    same-length-2
-    returns)
+    (λ c κs. search needs) (λ c. search needs) (λ c κs. search needs) (λ c κs. search needs) forget-requires list-rows-requires (λ c. search needs)
+    (λ c. search needs) (λ c. search needs) returns)

@@ -11,16 +11,10 @@ returns c =
     let if1 = c .if1 in
     record { blank = start .pre .blank (if1 .taken); ahead = λ j h. refl }
 
-clear-between-requires : tie.Need-clear-between-requires
-clear-between-requires c κs = search needs
-
-same-length : tie.Need-same-length
-same-length c = search needs
-
 returns-2 : tie.Need-returns-2
 returns-2 c =
     let clear-between = c .before .before .clear-between in
     forgot (clear-between .kept .0) (clear-between .ensures)
 
 pub forget-spec : {M : Type 1} → statement M
-forget-spec = tie.close (tie.spec returns clear-between-requires same-length returns-2)
+forget-spec = tie.close (tie.spec returns (λ c κs. search needs) (λ c. search needs) returns-2)

@@ -8,8 +8,5 @@ use mathlib.Core.Bool.{true≢false}
 returns : tie.Need-returns
 returns c = λ q. absurd (true≢false (sym q))
 
-returns-2 : tie.Need-returns-2
-returns-2 c = search needs
-
 pub halved-spec : {M : Type 1} → statement M
-halved-spec = tie.close (tie.spec returns returns-2)
+halved-spec = tie.close (tie.spec returns (λ c. search needs))

@@ -5,12 +5,6 @@ use Rattle.effect_batches.proofs.begin.list_row.Tie as tie
 use native.Mathlib.Omega.{arith}
 use Rattle.effect_batches.proofs.Numbers.{listed-next}
 
-mul-w : tie.Need-mul-w
-mul-w c = search needs
-
-shared-slice-read-w : tie.Need-shared-slice-read-w
-shared-slice-read-w c = search needs
-
 cast-w : tie.Need-cast-w
 cast-w c =
     let shared-slice-known = c .shared-slice-known in
@@ -23,12 +17,6 @@ returns c = λ n h. record { once = omega arith; listed = λ x. x }
 returns-2 : tie.Need-returns-2
 returns-2 c = λ n h. record { once = omega arith; listed = λ x. x }
 
-mul-c : tie.Need-mul-c
-mul-c c = search needs
-
-shared-slice-read-c : tie.Need-shared-slice-read-c
-shared-slice-read-c c = search needs
-
 cast-c : tie.Need-cast-c
 cast-c c =
     let shared-slice-known2 = c .shared-slice-known2 in
@@ -40,21 +28,6 @@ returns-3 c = λ n h. record { once = omega arith; listed = λ x. x }
 
 returns-4 : tie.Need-returns-4
 returns-4 c = λ n h. record { once = omega arith; listed = λ x. x }
-
-cast-list : tie.Need-cast-list
-cast-list c = search needs
-
-mul-list : tie.Need-mul-list
-mul-list c = search needs
-
-slice-write-list : tie.Need-slice-write-list
-slice-write-list c = search needs
-
-add-result : tie.Need-add-result
-add-result c = search needs
-
-same-length : tie.Need-same-length
-same-length c = search needs
 
 returns-5 : tie.Need-returns-5
 returns-5 c =
@@ -73,19 +46,5 @@ pub list-row-spec : {M : Type 1} → statement M
 list-row-spec =
     tie.close
     (tie.spec
-    mul-w
-    shared-slice-read-w
-    cast-w
-    returns
-    returns-2
-    mul-c
-    shared-slice-read-c
-    cast-c
-    returns-3
-    returns-4
-    cast-list
-    mul-list
-    slice-write-list
-    add-result
-    same-length
-    returns-5)
+    (λ c. search needs) (λ c. search needs) cast-w returns returns-2 (λ c. search needs) (λ c. search needs) cast-c returns-3 returns-4
+    (λ c. search needs) (λ c. search needs) (λ c. search needs) (λ c. search needs) (λ c. search needs) returns-5)

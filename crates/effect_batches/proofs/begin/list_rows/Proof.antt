@@ -39,9 +39,6 @@ add-e c =
     let start = c .before .before .before .before .before .before .before .before .before in
     omega (arith, start .pre .limit)
 
-loop-less : tie.Need-loop-less Inv-loop μ-loop
-loop-less c = omega arith
-
 loop-again : tie.Need-loop-again Inv-loop μ-loop
 loop-again c =
     let list-row = c .before .before .list-row in
@@ -66,10 +63,4 @@ list-rows-spec =
     (tie.spec
     Inv-loop
     μ-loop
-    loop-holds
-    list-row-requires
-    add-e
-    loop-less
-    loop-again
-    same-length
-    returns)
+    loop-holds list-row-requires add-e (λ c. omega arith) loop-again same-length returns)

@@ -33,14 +33,14 @@ loop-holds c =
     let number-batch = c .before .before .number-batch in
     (refl, omega (arith, start .pre .next), omega (arith, start .pre .next), renumbered-here (number-batch .ensures))
 
-halved-requires : tie.Need-halved-requires Inv-loop μ-loop
-halved-requires c κs = search needs
-
 number-batch-requires-2 : tie.Need-number-batch-requires-2 Inv-loop μ-loop
 number-batch-requires-2 c κs =
-    let loop = c .before .before .before .loop in
-    let number-batch = c .before .before .before .before .before .before .number-batch in
-    let start = c .before .before .before .before .before .before .before .before .before .before .before .before in
+    let at-loop = c .before .before .before in
+    let at-number-batch = at-loop .before .before .before in
+    let at-entry = at-number-batch .before .before .before .before .before .before in
+    let loop = at-loop .loop in
+    let number-batch = at-number-batch .number-batch in
+    let start = at-entry in
     (room-then (loop .inv .0 ∙ number-batch .kept .1 .1 .1 .1 .1 .1 .0) (start .pre .room), roots-fewer (omega (arith, loop .inv .2)) (start .pre .roots))
 
 loop-less : tie.Need-loop-less Inv-loop μ-loop
@@ -85,12 +85,4 @@ size-batch-spec =
     (tie.spec
     Inv-loop
     μ-loop
-    sub-size
-    number-batch-requires
-    loop-holds
-    halved-requires
-    number-batch-requires-2
-    loop-less
-    loop-again
-    same-length
-    returns)
+    sub-size number-batch-requires loop-holds (λ c κs. search needs) number-batch-requires-2 loop-less loop-again same-length returns)

@@ -19,9 +19,6 @@ abbrev μ-loop : tie.MeasureT-loop
 μ-loop formulas effects notes₀ list n at table₀ originals₀ scratch₀ words atoms a₀ notes table originals scratch a =
     atoms - a
 
-words-of-requires : tie.Need-words-of-requires Inv-loop μ-loop
-words-of-requires c κs = search needs
-
 mul-atoms : tie.Need-mul-atoms Inv-loop μ-loop
 mul-atoms c =
     let start = c .before .before .before .before .before .before .before .before .before in
@@ -35,33 +32,43 @@ loop-holds c =
 
 cast-t19 : tie.Need-cast-t19 Inv-loop μ-loop
 cast-t19 c =
-    let start = c .before .before .before .before .before .before .before .before .before .before .before in
+    let at-entry = c .before .before .before .before .before .before .before .before .before .before .before in
+    let start = at-entry in
     let loop-test = c .loop-test in
     omega (arith, start .pre .stands .ready .variables, loop-test .taken)
 
 fill-atom-requires : tie.Need-fill-atom-requires Inv-loop μ-loop
 fill-atom-requires c κs =
-    let words-of = c .before .before .before .before .before .before .before .before .words-of in
-    let start = c .before .before .before .before .before .before .before .before .before .before .before .before .before .before .before .before in
-    let loop = c .before .before .before .before .before .before .loop in
-    let loop-test = c .before .before .before .before .before .loop-test in
+    let at-loop-test = c .before .before .before .before .before in
+    let at-loop = at-loop-test .before in
+    let at-words-of = at-loop .before .before in
+    let at-entry = at-words-of .before .before .before .before .before .before .before .before in
+    let words-of = at-words-of .words-of in
+    let start = at-entry in
+    let loop = at-loop .loop in
+    let loop-test = at-loop-test .loop-test in
     atom-fills _ (words-of .ensures) (start .pre) (loop .inv .4) refl (omega (arith, loop-test .taken))
 
 add-a : tie.Need-add-a Inv-loop μ-loop
 add-a c =
-    let start = c .before .before .before .before .before .before .before .before .before .before .before .before .before .before .before .before .before .before .before .before .before .before .before .before .before in
-    let loop-test = c .before .before .before .before .before .before .before .before .before .before .before .before .before .before .loop-test in
+    let at-loop-test = c .before .before .before .before .before .before .before .before .before .before .before .before .before .before in
+    let at-entry = at-loop-test .before .before .before .before .before .before .before .before .before .before .before in
+    let start = at-entry in
+    let loop-test = at-loop-test .loop-test in
     omega (arith, start .pre .stands .ready .variables, loop-test .taken)
 
 loop-less : tie.Need-loop-less Inv-loop μ-loop
 loop-less c =
-    let loop-test = c .before .before .before .before .before .before .before .before .before .before .before .before .before .before .loop-test in
+    let at-loop-test = c .before .before .before .before .before .before .before .before .before .before .before .before .before .before in
+    let loop-test = at-loop-test .loop-test in
     omega (arith, loop-test .taken)
 
 loop-again : tie.Need-loop-again Inv-loop μ-loop
 loop-again c =
-    let fill-atom = c .before .before .before .before .before .before .before .before .fill-atom in
-    let loop = c .before .before .before .before .before .before .before .before .before .before .before .before .before .before .before .loop in (
+    let at-fill-atom = c .before .before .before .before .before .before .before .before in
+    let at-loop = at-fill-atom .before .before .before .before .before .before .before in
+    let fill-atom = at-fill-atom .fill-atom in
+    let loop = at-loop .loop in (
       fill-atom .kept .1 .1 .0 ∙ loop .inv .0,
       fill-atom .kept .1 .1 .1 .1 .1 .1 .1 .1 .0 ∙ loop .inv .1,
       fill-atom .kept .1 .1 .1 .1 .1 .1 .1 .1 .1 .0 ∙ loop .inv .2,
@@ -93,16 +100,5 @@ fill-columns-spec =
     (tie.spec
     Inv-loop
     μ-loop
-    words-of-requires
-    mul-atoms
-    loop-holds
-    cast-t19
-    fill-atom-requires
-    add-a
-    loop-less
-    loop-again
-    same-length
-    same-length-2
-    same-length-3
-    same-length-4
-    returns)
+    (λ c κs. search needs) mul-atoms loop-holds cast-t19 fill-atom-requires add-a loop-less loop-again same-length same-length-2 same-length-3
+    same-length-4 returns)

@@ -28,28 +28,29 @@ loop-holds c =
     let start = c .before .before .before .before .before .before .before in
     (refl, omega arith, meet-roots .ensures (start .args .effects .now))
 
-sub-i : tie.Need-sub-i Inv-loop μ-loop
-sub-i c = omega arith
-
 hand-on-requires : tie.Need-hand-on-requires Inv-loop μ-loop
 hand-on-requires c κs =
-    let start = c .before .before .before .before .before .before .before .before .before .before in
+    let at-meet-roots = c .before .before .before .before .before in
+    let at-entry = at-meet-roots .before .before .before .before .before in
+    let start = at-entry in
     let loop = c .before .before .loop in
-    let meet-roots = c .before .before .before .before .before .meet-roots in
+    let meet-roots = at-meet-roots .meet-roots in
     record {
       row = row-kept (start .pre .rows) _ (omega (arith, loop .inv .1));
       effect = omega (arith, start .pre .words, meet-roots .kept .1 .1 .0, loop .inv .0, loop .inv .1);
     }
 
-loop-less : tie.Need-loop-less Inv-loop μ-loop
-loop-less c = omega arith
-
 loop-again : tie.Need-loop-again Inv-loop μ-loop
 loop-again c =
+    let at-loop = c .before .before .before .before .before in
+    let at-entry = at-loop .before .before .before .before .before .before .before .before in
     let hand-on = c .before .before .hand-on in
-    let loop = c .before .before .before .before .before .loop in
-    let start = c .before .before .before .before .before .before .before .before .before .before .before .before .before in
-    (hand-on .kept .1 .1 .0 ∙ loop .inv .0, omega (arith, loop .inv .1), hand-on .ensures .stays (start .args .operators .now) (start .args .count) (loop .inv .2))
+    let loop = at-loop .loop in
+    let start = at-entry in (
+      hand-on .kept .1 .1 .0 ∙ loop .inv .0,
+      omega (arith, loop .inv .1),
+      hand-on .ensures .stays (start .args .operators .now) (start .args .count) (loop .inv .2),
+    )
 
 same-length : tie.Need-same-length Inv-loop μ-loop
 same-length c =
@@ -68,11 +69,4 @@ find-first-spec =
     (tie.spec
     Inv-loop
     μ-loop
-    meet-roots-requires
-    loop-holds
-    sub-i
-    hand-on-requires
-    loop-less
-    loop-again
-    same-length
-    returns)
+    meet-roots-requires loop-holds (λ c. omega arith) hand-on-requires (λ c. omega arith) loop-again same-length returns)

@@ -28,9 +28,6 @@ effect-of-requires c κs =
     let start = c .before .before .before .before in
     omega (arith, start .pre .roots .words)
 
-cast-meet : tie.Need-cast-meet Inv-loop μ-loop
-cast-meet c = search needs
-
 add-meet : tie.Need-add-meet Inv-loop μ-loop
 add-meet c =
     let start = c .before .before .before .before .before .before in
@@ -53,9 +50,6 @@ add-k c =
     let start = c .before .before .before .before .before .before .before .before .before in
     omega (arith, start .pre .roots .limit)
 
-loop-less : tie.Need-loop-less Inv-loop μ-loop
-loop-less c = omega arith
-
 loop-again : tie.Need-loop-again Inv-loop μ-loop
 loop-again c =
     let meet = c .before .before .meet in
@@ -77,14 +71,4 @@ meet-roots-spec =
     (tie.spec
     Inv-loop
     μ-loop
-    loop-holds
-    effect-of-requires
-    cast-meet
-    add-meet
-    cast-meet-2
-    meet-requires
-    add-k
-    loop-less
-    loop-again
-    same-length
-    returns)
+    loop-holds effect-of-requires (λ c. search needs) add-meet cast-meet-2 meet-requires add-k (λ c. omega arith) loop-again same-length returns)

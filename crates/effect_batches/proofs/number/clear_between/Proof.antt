@@ -37,9 +37,6 @@ add-i c =
     let start = c .before .before in
     omega (arith, start .pre .1)
 
-loop-less : tie.Need-loop-less Inv-loop μ-loop
-loop-less c = omega arith
-
 loop-again : tie.Need-loop-again Inv-loop μ-loop
 loop-again c =
     let loop = c .before .loop in
@@ -62,11 +59,4 @@ clear-between-spec =
     (tie.spec
     Inv-loop
     μ-loop
-    loop-holds
-    mul-notes
-    slice-write-notes
-    add-i
-    loop-less
-    loop-again
-    same-length
-    returns)
+    loop-holds mul-notes slice-write-notes add-i (λ c. omega arith) loop-again same-length returns)

@@ -27,49 +27,54 @@ loop-holds c = (refl, omega arith, numbered-none _ _ _ _)
 
 add-o : tie.Need-add-o Inv-loop μ-loop
 add-o c =
-    let start = c .before .before .before .before .before .before .before .before .before .before in
+    let at-entry = c .before .before .before .before .before .before .before .before .before .before in
+    let start = at-entry in
     omega (arith, start .pre .roots .limit)
 
 effect-of-requires : tie.Need-effect-of-requires Inv-loop μ-loop
 effect-of-requires c κs =
-    let start = c .before .before .before .before .before .before .before .before .before .before in
+    let at-entry = c .before .before .before .before .before .before .before .before .before .before in
+    let start = at-entry in
     omega (arith, start .pre .roots .words)
-
-cast-name : tie.Need-cast-name Inv-loop μ-loop
-cast-name c = search needs
 
 add-name : tie.Need-add-name Inv-loop μ-loop
 add-name c =
-    let start = c .before .before .before .before .before .before .before .before .before .before .before in
+    let at-entry = c .before .before .before .before .before .before .before .before .before .before .before in
+    let start = at-entry in
     omega (arith, start .pre .roots .limit)
 
 cast-name-2 : tie.Need-cast-name-2 Inv-loop μ-loop
 cast-name-2 c =
-    let start = c .before .before .before .before .before .before .before .before .before .before .before in
+    let at-entry = c .before .before .before .before .before .before .before .before .before .before .before in
+    let start = at-entry in
     omega (arith, start .pre .roots .limit)
 
 name-requires : tie.Need-name-requires Inv-loop μ-loop
 name-requires c κs =
-    let start = c .before .before .before .before .before .before .before .before .before .before .before .before in
-    let loop = c .before .before .before .loop in
+    let at-loop = c .before .before .before in
+    let at-clear-between = at-loop .before .before .before in
+    let at-entry = at-clear-between .before .before .before .before .before .before in
+    let start = at-entry in
+    let loop = at-loop .loop in
     let effect-of = c .before .effect-of in
-    let clear-between = c .before .before .before .before .before .before .clear-between in
+    let clear-between = at-clear-between .clear-between in
     root-asks (start .args .from + loop .k) (effect-of .result) (start .pre) (omega arith) (effect-of .ensures)
     (loop .inv .0 ∙ clear-between .kept .0) (omega (arith, loop .inv .2 .once, start .pre .roots .limit))
 
 add-k : tie.Need-add-k Inv-loop μ-loop
 add-k c =
-    let start = c .before .before .before .before .before .before .before .before .before .before .before .before .before .before .before in
+    let at-entry = c .before .before .before .before .before .before .before .before .before .before .before .before .before .before .before in
+    let start = at-entry in
     omega (arith, start .pre .roots .limit)
-
-loop-less : tie.Need-loop-less Inv-loop μ-loop
-loop-less c = omega arith
 
 loop-again : tie.Need-loop-again Inv-loop μ-loop
 loop-again c =
-    let start = c .before .before .before .before .before .before .before .before .before .before .before .before .before .before .before in
-    let loop = c .before .before .before .before .before .before .loop in
-    let effect-of = c .before .before .before .before .effect-of in
+    let at-effect-of = c .before .before .before .before in
+    let at-loop = at-effect-of .before .before in
+    let at-entry = at-loop .before .before .before .before .before .before .before .before .before in
+    let start = at-entry in
+    let loop = at-loop .loop in
+    let effect-of = at-effect-of .effect-of in
     let name = c .before .before .name in
     let low = root-below (start .args .from + loop .k) (effect-of .result) (start .pre .roots) (omega arith) (effect-of .ensures) in
     (name .kept .1 .1 .1 .1 .1 .0 ∙ loop .inv .0, omega arith, numbered-then (omega arith) (loop .inv .2) (name .ensures (start .args .rows) low))
@@ -92,16 +97,5 @@ name-roots-spec =
     (tie.spec
     Inv-loop
     μ-loop
-    clear-between-requires
-    loop-holds
-    add-o
-    effect-of-requires
-    cast-name
-    add-name
-    cast-name-2
-    name-requires
-    add-k
-    loop-less
-    loop-again
-    same-length
-    returns)
+    clear-between-requires loop-holds add-o effect-of-requires (λ c. search needs) add-name cast-name-2 name-requires add-k (λ c. omega arith)
+    loop-again same-length returns)

@@ -29,18 +29,21 @@ name-below-requires c κs =
 
 add-i : tie.Need-add-i Inv-loop μ-loop
 add-i c =
-    let start = c .before .before .before .before .before .before .before .before .before .before in
+    let at-entry = c .before .before .before .before .before .before .before .before .before .before in
+    let start = at-entry in
     omega (arith, start .pre .0 .rows .limit)
-
-loop-less : tie.Need-loop-less Inv-loop μ-loop
-loop-less c = omega arith
 
 loop-again : tie.Need-loop-again Inv-loop μ-loop
 loop-again c =
+    let at-loop = c .before .before .before .before .before .before in
+    let at-entry = at-loop .before .before .before .before in
     let name-below = c .before .before .name-below in
-    let loop = c .before .before .before .before .before .before .loop in
-    let start = c .before .before .before .before .before .before .before .before .before .before in
-    (name-below .kept .1 .1 .1 .1 .1 .1 .0 ∙ loop .inv .0, omega arith, numbered-then (omega arith) (loop .inv .2) (name-below .ensures (start .args .frame .effects) (omega arith)))
+    let loop = at-loop .loop in
+    let start = at-entry in (
+      name-below .kept .1 .1 .1 .1 .1 .1 .0 ∙ loop .inv .0,
+      omega arith,
+      numbered-then (omega arith) (loop .inv .2) (name-below .ensures (start .args .frame .effects) (omega arith)),
+    )
 
 same-length : tie.Need-same-length Inv-loop μ-loop
 same-length c =
@@ -58,10 +61,4 @@ name-rows-spec =
     (tie.spec
     Inv-loop
     μ-loop
-    loop-holds
-    name-below-requires
-    add-i
-    loop-less
-    loop-again
-    same-length
-    returns)
+    loop-holds name-below-requires add-i (λ c. omega arith) loop-again same-length returns)

@@ -16,9 +16,6 @@ name-rows-requires c κs =
     let start = c .before .before .before .before .before .before .before .before .before in
     (room-then (name-roots .kept .1 .1 .1 .1 .1 .1 .0) (start .pre .0), omega (arith, name-roots .ensures .1, start .pre .1 .limit))
 
-same-length : tie.Need-same-length
-same-length c = search needs
-
 returns : tie.Need-returns
 returns c =
     let name-roots = c .before .before .before .before .before .before .name-roots in
@@ -26,4 +23,4 @@ returns c =
     renumbered-then (name-roots .ensures .0) (name-rows .ensures)
 
 pub number-batch-spec : {M : Type 1} → statement M
-number-batch-spec = tie.close (tie.spec name-roots-requires name-rows-requires same-length returns)
+number-batch-spec = tie.close (tie.spec name-roots-requires name-rows-requires (λ c. search needs) returns)
