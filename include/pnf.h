@@ -86,7 +86,7 @@ enum {
  * Measured by tests/client/stack.c, on 4,096 formulas and 4,096 effects nested as deep as they
  * go: pnf_compile takes 4,219,472 bytes, pnf_run 192,344, pnf_read 52,824.
  */
-#define PNF_STACK_BYTES (11u * 512u * 1024u)
+#define PNF_STACK_BYTES (14u * 512u * 1024u)
 
 /*
  * Reads a task file into its tables.
