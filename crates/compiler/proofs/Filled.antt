@@ -30,7 +30,7 @@ use Rattle.assembling.specs.Inner.Assembles.{Holding}
 use Rattle.compile_parts.specs.declared.Filled.{Filled}
 use Rattle.compile_parts.specs.Inner.Builds.{Builds}
 use Rattle.compile_parts.specs.Inner.Finishes.{Outputs, outputs, rules-of, Stands, Finishes, Ended, Finished}
-use Rattle.compiler.specs.Inner.Fills.{Counted, counts, lent-of, Begins, Roomy, Holds, Fills}
+use Rattle.compiler.specs.Inner.Fills.{Counted, counts, lent-of, Begins, Holds}
 use Rattle.compiler.specs.Tables.{Tables, tables, room-of}
 use Rattle.compile_parts.proofs.Asked.{zero-at}
 use Rattle.compiler.proofs.Cleared.{zeros}
@@ -289,7 +289,7 @@ module _ {g : Counted} {x : Tables} (b : Begins g x) where
           → Holds (lent-of g) x (tables (y .values) (mid .originals) (y .table) (y .effects) (y .operators) memo2) z
       filled i e o q = it-holds (k .done q .whole) (k .done q) i e o
 
-      misfits : Allows (g .frame .variables) (room-of x) (g .frame .rows) (g .frame .twins) (g .room) → z .full ≡ true → Fits (finished (task-of (lent-of g))) (room-of x) → ⊥
+      pub misfits : Allows (g .frame .variables) (room-of x) (g .frame .rows) (g .frame .twins) (g .room) → z .full ≡ true → Fits (finished (task-of (lent-of g))) (room-of x) → ⊥
       misfits a q fit = go (r .full) refl
         where
           few : length (assembled (task-of (lent-of g)) .effects) ≤ g .room
@@ -298,16 +298,3 @@ module _ {g : Counted} {x : Tables} (b : Begins g x) where
           go : (full : Bool) → r .full ≡ full → ⊥
           go true p = built-over a p fit
           go false p = k .over q .misfit p (rw (rules-are p) few)
-
--- all of it, with as much room as is allowed
-pub fills :
-    {g : Counted} {x : Tables} {mid : Store} {memo records : List ℕ} {r : Step} {y : Outputs} {z : Filled} {memo2 : List ℕ}
-    → Roomy g x
-    → FromStart (g .frame) (g .formulas) (g .effects) (g .operators) (g .count) (g .goal) mid memo records r
-    → Finished (counts g) r (g .initial) (g .operators) (mid .originals) (mid .table) records (written-of x) y z
-    → length (mid .originals) ≡ length (x .twins)
-    → length (y .effects) ≡ length (x .effects)
-    → length (y .operators) ≡ length (x .operators)
-    → Fills g x (tables (y .values) (mid .originals) (y .table) (y .effects) (y .operators) memo2) z
-fills b f k i e o =
-    record { done = filled (b .begins) f k i e o; over = misfits (b .begins) f k (b .allows) }

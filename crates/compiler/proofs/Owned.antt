@@ -32,9 +32,7 @@ module _ {g : Counted} {x : Tables} where
 
   pub owns-small :
       BeginsSmall g x
-      → g .frame .effects ≤ 512
-      → g .frame .variables ≤ 128
       → Builds (counts g) (g .formulas) (g .effects) (g .operators) (x .twins) (x .scratch) (replicate 14336 0) (replicate 4736 0) (replicate 6912 0)
-  owns-small s e v =
-      let room = sets-room (g .frame) 16 512 (omega (arith, v)) e in
-      build-asks (s .begins) 14336 4736 (omega (arith, room)) (omega (arith, s .few, v))
+  owns-small s =
+      let room = sets-room (g .frame) 16 512 (omega (arith, s .few-variables)) (s .few-effects) in
+      build-asks (s .begins) 14336 4736 (omega (arith, room)) (omega (arith, s .few-rows, s .few-variables))

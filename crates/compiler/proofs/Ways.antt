@@ -141,13 +141,15 @@ module _ {l : Lent} {x : Tables} (p : Passed l (room-of x)) where
       abbrev fills-it : Fills (counted (counts-by (l .head) (c .frame .rows) (c .frame .twins) (c .room)) (l .initial) (l .formulas) (l .effects) (l .operators)) x y r
       fills-it = rw (k .same) at f
 
-      pub filled-over : {z : Tables} → r .full ≡ true → Blanked x z → compile-left (Refused 15) z ≡ compiling l (room-of x)
-      filled-over q b =
+      pub filled-over : Blanked x x → r .full ≡ true → compile-left (Refused 15) y ≡ compiling l (room-of x)
+      filled-over b q =
+          let again : Blanked x y = rw (fills-it .tries .over q) b in
           refuses l 15
-          (by-room l (room-of x) (p .passes) (p .untwinned) (p .memo) (λ fit. fills-it .over q (rw (same-task l (p .untwinned)) fit))) b
+          (by-room l (room-of x) (p .passes) (p .untwinned) (p .memo) (λ fit. fills-it .misfit q (rw (same-task l (p .untwinned)) fit)))
+          again
 
       held : r .full ≡ false → Holds (without l) x y r
-      held q = fills-it .done q
+      held q = fills-it .tries .done q
 
       pub variables-fit : r .full ≡ false → l .head .variables + r .twins ≤ 512
       unfolding head-of

@@ -61,7 +61,6 @@ pub fn compile(
         scratch,
     );
     if p.full {
-        clear_all(values, originals, table, out, written, scratch);
         return CompileAnswer::Refused(NO_ROOM);
     }
     clear_words(scratch);

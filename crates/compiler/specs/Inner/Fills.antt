@@ -86,10 +86,12 @@ pub record Roomy (g : Counted) (x : Tables) : Type 0 where
   pub begins : Begins g x
   pub allows : Allows (g .frame .variables) (room-of x) (g .frame .rows) (g .frame .twins) (g .room)
 
--- Few rows are asked for.
+-- Few rows are asked for, of few effects and variables.
 pub record BeginsSmall (g : Counted) (x : Tables) : Type 0 where
   pub begins : Begins g x
-  pub few : g .frame .rows ≤ 512
+  pub few-rows : g .frame .rows ≤ 512
+  pub few-effects : g .frame .effects ≤ 512
+  pub few-variables : g .frame .variables ≤ 128
 
 -- the head of the compiled task: operators keep their number
 abbrev pub head-after : Head → Filled → Head
@@ -113,12 +115,12 @@ pub record Holds (l : Lent) (x y : Tables) (r : Filled) : Type 0 where
   pub effects : y .effects ≡ padded (length (x .effects)) (words-of (finished (task-of l) .effects))
   pub operators : y .operators ≡ padded (length (x .operators)) (operator-words (finished (task-of l) .operators))
 
--- They hold it, or it does not fit: what stands in the tables is then left open, since `compile` clears all six (`compiling`).
-pub record Fills (g : Counted) (x y : Tables) (r : Filled) : Type 0 where
-  pub done : r .full ≡ false → Holds (lent-of g) x y r
-  pub over : r .full ≡ true → Fits (finished (task-of (lent-of g))) (room-of x) → ⊥
-
--- A try with less room than is lent: they hold it, or nothing is known of it, and they are as they came.
+-- They hold it, or are as they came.
 pub record Tries (g : Counted) (x y : Tables) (r : Filled) : Type 0 where
   pub done : r .full ≡ false → Holds (lent-of g) x y r
   pub over : r .full ≡ true → y ≡ x
+
+-- They hold it, or it does not fit, and they are as they came.
+pub record Fills (g : Counted) (x y : Tables) (r : Filled) : Type 0 where
+  pub tries : Tries g x y r
+  pub misfit : r .full ≡ true → Fits (finished (task-of (lent-of g))) (room-of x) → ⊥

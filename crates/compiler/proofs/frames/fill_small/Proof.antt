@@ -1,4 +1,4 @@
--- `fill_small` meets its contract: a small source alone, with a small frame. Assumes nothing.
+-- `fill_small` meets its contract: a small source, with a small frame. Assumes nothing.
 use borrow.Author.Needs.{needs}
 use Rattle.compiler.proofs.frames.fill_small.Statement.{statement}
 use Rattle.compiler.proofs.frames.fill_small.Tie as tie
@@ -7,121 +7,79 @@ use Rattle.compiler.proofs.frames.fill_small.Lts as lts
 use Rattle.compile_parts.proofs.build.Reads as build-reads
 use Rattle.compile_parts.proofs.finish.Reads as finish-reads
 use Rattle.compile_parts.proofs.no_room.Reads as no-room-reads
-use Rattle.compiler.proofs.sizes.is_small.Reads as is-small-reads
 use Rattle.compiler.proofs.clear.clear_all.Reads as clear-all-reads
-use borrow.Author.Tests.{not-false}
-use mathlib.Core.Path.{refl, sym, ap, _∙_}
-use mathlib.Core.Bool.{true≢false}
-use Rattle.compile_parts.specs.declared.Filled.{Filled}
+use mathlib.Core.Path.{_∙_}
 use Rattle.compiler.proofs.Filled.{finish-asks, filled}
 use Rattle.compiler.proofs.Owned.{owns-small}
-use Rattle.compiler.proofs.Cleared.{as-long, cleared-again}
-
-returns : tie.Need-returns
-returns c = record { done = λ q. absurd (true≢false (sym (ap (λ (r : Filled). r .full) (c .no-room .ensures)) ∙ q)); over = λ _. refl }
+use Rattle.compiler.proofs.Cleared.{as-long}
+use Rattle.compiler.proofs.Tried.{tried-over, tried-done}
 
 build-requires : tie.Need-build-requires
 build-requires c κs =
-    let at-if1 = c .before .before .before .before .before in
-    let at-is-small = at-if1 .before in
-    let at-pre = at-is-small .before .before .before .before .before .before .before .before .before .before .before in
-    let small = at-is-small .is-small .ensures in
-    owns-small (at-pre .pre) (small .few-effects (not-false (at-is-small .is-small .result) (at-if1 .if1 .left)))
-    (small .few-variables (not-false (at-is-small .is-small .result) (at-if1 .if1 .left)))
+    let at-pre = c .before .before .before .before .before .before .before .before .before .before .before .before .before .before .before in
+    owns-small (at-pre .pre)
 
 finish-requires : tie.Need-finish-requires
 finish-requires c κs =
-    let at-entry = c .before .before .before .before .before .before .before .before .before .before .before .before .before .before in
-    let at-entry = at-entry in
-    let at-build = at-entry in
-    let at-pre =
-    at-build .before .before .before .before .before .before .before .before .before .before .before .before .before .before .before .before .before .before in
+    let at-build = c .before .before .before .before .before .before .before .before .before .before .before .before .before .before in
+    let at-pre = at-build .before .before .before .before .before .before .before .before .before .before .before .before .before .before .before .before in
     let whole = at-build .build in
     finish-asks (at-pre .pre .begins) (whole .ensures) (whole .kept .1 .1 .1 .1 .1 .1 .1 .1 .0)
 
 same-length : tie.Need-same-length
 same-length c =
-    let at-entry = c .before .before .before .before .before .before .before .before .before .before .before .before .before in
-    let at-entry = at-entry in
-    let at-clear-all = at-entry in
-    let at-finish = at-clear-all .before .before .before .before .before .before .before .before .before .before .before .before .before .before .before .before
-    in
+    let at-clear-all = c .before .before .before .before .before .before .before .before .before .before .before .before .before in
+    let at-finish = at-clear-all .before .before .before .before .before .before .before .before .before .before .before .before .before .before .before .before in
     at-clear-all .clear-all .kept .0 ∙ at-finish .finish .kept .1 .1 .1 .1 .1 .1 .1 .0
 
 same-length-2 : tie.Need-same-length-2
 same-length-2 c =
-    let at-entry = c .before .before .before .before .before .before .before .before .before .before .before .before .before in
-    let at-entry = at-entry in
-    let at-clear-all = at-entry in
-    let at-build =
-    at-clear-all .before .before .before .before .before .before .before .before .before .before .before .before .before .before .before .before .before .before .before .before .before .before .before .before .before .before .before .before .before .before .before
-    in
+    let at-clear-all = c .before .before .before .before .before .before .before .before .before .before .before .before .before in
+    let at-build = at-clear-all .before .before .before .before .before .before .before .before .before .before .before .before .before .before .before .before .before .before .before .before .before .before .before .before .before .before .before .before .before .before .before in
     at-clear-all .clear-all .kept .1 .0 ∙ at-build .build .kept .1 .1 .1 .1 .0
 
 same-length-3 : tie.Need-same-length-3
 same-length-3 c =
-    let at-entry = c .before .before .before .before .before .before .before .before .before .before .before .before .before in
-    let at-entry = at-entry in
-    let at-clear-all = at-entry in
-    let at-finish = at-clear-all .before .before .before .before .before .before .before .before .before .before .before .before .before .before .before .before
-    in
+    let at-clear-all = c .before .before .before .before .before .before .before .before .before .before .before .before .before in
+    let at-finish = at-clear-all .before .before .before .before .before .before .before .before .before .before .before .before .before .before .before .before in
     at-clear-all .clear-all .kept .1 .1 .0 ∙ at-finish .finish .kept .1 .1 .1 .1 .1 .1 .1 .1 .0
 
 same-length-4 : tie.Need-same-length-4
 same-length-4 c =
-    let at-entry = c .before .before .before .before .before .before .before .before .before .before .before .before .before in
-    let at-entry = at-entry in
-    let at-clear-all = at-entry in
-    let at-finish = at-clear-all .before .before .before .before .before .before .before .before .before .before .before .before .before .before .before .before
-    in
+    let at-clear-all = c .before .before .before .before .before .before .before .before .before .before .before .before .before in
+    let at-finish = at-clear-all .before .before .before .before .before .before .before .before .before .before .before .before .before .before .before .before in
     at-clear-all .clear-all .kept .1 .1 .1 .0 ∙ at-finish .finish .kept .1 .1 .1 .1 .1 .1 .1 .1 .1 .0
 
 same-length-5 : tie.Need-same-length-5
 same-length-5 c =
-    let at-entry = c .before .before .before .before .before .before .before .before .before .before .before .before .before in
-    let at-entry = at-entry in
-    let at-clear-all = at-entry in
-    let at-finish = at-clear-all .before .before .before .before .before .before .before .before .before .before .before .before .before .before .before .before
-    in
+    let at-clear-all = c .before .before .before .before .before .before .before .before .before .before .before .before .before in
+    let at-finish = at-clear-all .before .before .before .before .before .before .before .before .before .before .before .before .before .before .before .before in
     at-clear-all .clear-all .kept .1 .1 .1 .1 .0 ∙ at-finish .finish .kept .1 .1 .1 .1 .1 .1 .1 .1 .1 .1 .0
 
 same-length-6 : tie.Need-same-length-6
 same-length-6 c =
-    let at-entry = c .before .before .before .before .before .before .before .before .before .before .before .before .before in
-    let at-entry = at-entry in
-    let at-clear-all = at-entry in
-    let at-build =
-    at-clear-all .before .before .before .before .before .before .before .before .before .before .before .before .before .before .before .before .before .before .before .before .before .before .before .before .before .before .before .before .before .before .before
-    in
+    let at-clear-all = c .before .before .before .before .before .before .before .before .before .before .before .before .before in
+    let at-build = at-clear-all .before .before .before .before .before .before .before .before .before .before .before .before .before .before .before .before .before .before .before .before .before .before .before .before .before .before .before .before .before .before .before in
     at-clear-all .clear-all .kept .1 .1 .1 .1 .1 .0 ∙ at-build .build .kept .1 .1 .1 .1 .1 .0
 
-returns-2 : tie.Need-returns-2
-returns-2 c =
-    let at-entry = c .before .before .before .before .before .before .before .before .before .before .before .before .before in
-    let at-entry = at-entry in
-    let at-clear-all = at-entry in
-    let at-finish = at-clear-all .before .before .before .before .before .before .before .before .before .before .before .before .before .before .before .before
-    in
+returns : tie.Need-returns
+returns c =
+    let at-clear-all = c .before .before .before .before .before .before .before .before .before .before .before .before .before in
+    let at-finish = at-clear-all .before .before .before .before .before .before .before .before .before .before .before .before .before .before .before .before in
     let at-build = at-finish .before .before .before .before .before .before .before .before .before .before .before .before .before .before .before in
-    let at-pre =
-    at-build .before .before .before .before .before .before .before .before .before .before .before .before .before .before .before .before .before .before in
+    let at-pre = at-build .before .before .before .before .before .before .before .before .before .before .before .before .before .before .before .before in
     let whole = at-build .build in
     let last = at-finish .finish in
     let long = as-long (last .kept .1 .1 .1 .1 .1 .1 .1 .0) (whole .kept .1 .1 .1 .1 .0) (last .kept .1 .1 .1 .1 .1 .1 .1 .1 .0)
     (last .kept .1 .1 .1 .1 .1 .1 .1 .1 .1 .0) (last .kept .1 .1 .1 .1 .1 .1 .1 .1 .1 .1 .0) (whole .kept .1 .1 .1 .1 .1 .0) in
-    record {
-      done = λ q. absurd (true≢false (sym (ap (λ (r : Filled). r .full) (c .no-room2 .ensures)) ∙ q));
-      over = λ _. cleared-again (at-pre .pre .begins .blank) long (at-clear-all .clear-all .ensures);
-    }
+    tried-over (at-pre .pre .begins) long (at-clear-all .clear-all .ensures) (c .no-room .ensures)
 
 same-length-7 : tie.Need-same-length-7
 same-length-7 c = c .before .before .before .before .before .before .before .before .before .finish .kept .1 .1 .1 .1 .1 .1 .1 .0
 
 same-length-8 : tie.Need-same-length-8
 same-length-8 c =
-    let at-entry = c .before .before .before .before .before .before .before .before .before .before .before .before .before .before .before .before .before .before .before .before .before .before .before .before in
-    let at-entry = at-entry in
-    let at-build = at-entry in
+    let at-build = c .before .before .before .before .before .before .before .before .before .before .before .before .before .before .before .before .before .before .before .before .before .before .before .before in
     at-build .build .kept .1 .1 .1 .1 .0
 
 same-length-9 : tie.Need-same-length-9
@@ -135,31 +93,24 @@ same-length-11 c = c .before .before .before .before .before .before .before .be
 
 same-length-12 : tie.Need-same-length-12
 same-length-12 c =
-    let at-entry = c .before .before .before .before .before .before .before .before .before .before .before .before .before .before .before .before .before .before .before .before .before .before .before .before in
-    let at-entry = at-entry in
-    let at-build = at-entry in
+    let at-build = c .before .before .before .before .before .before .before .before .before .before .before .before .before .before .before .before .before .before .before .before .before .before .before .before in
     at-build .build .kept .1 .1 .1 .1 .1 .0
 
-returns-3 : tie.Need-returns-3
-returns-3 c =
-    let at-entry = c .before .before .before .before .before .before .before .before .before in
-    let at-finish = at-entry in
+returns-2 : tie.Need-returns-2
+returns-2 c =
+    let at-finish = c .before .before .before .before .before .before .before .before .before in
     let at-build = at-finish .before .before .before .before .before .before .before .before .before .before .before .before .before .before .before in
-    let at-pre =
-    at-build .before .before .before .before .before .before .before .before .before .before .before .before .before .before .before .before .before .before in
+    let at-pre = at-build .before .before .before .before .before .before .before .before .before .before .before .before .before .before .before .before in
     let whole = at-build .build in
     let last = at-finish .finish in
-    record {
-      done = filled (at-pre .pre .begins) (whole .ensures) (last .ensures) (whole .kept .1 .1 .1 .1 .0) (last .kept .1 .1 .1 .1 .1 .1 .1 .1 .1 .0)
-          (last .kept .1 .1 .1 .1 .1 .1 .1 .1 .1 .1 .0);
-      over = λ q. absurd (true≢false (sym q ∙ c .if2 .left));
-    }
+    tried-done (c .if1 .left)
+    (filled (at-pre .pre .begins) (whole .ensures) (last .ensures) (whole .kept .1 .1 .1 .1 .0) (last .kept .1 .1 .1 .1 .1 .1 .1 .1 .1 .0)
+    (last .kept .1 .1 .1 .1 .1 .1 .1 .1 .1 .1 .0))
 
 pub fill-small-spec : {M : Type 1} → statement M
 fill-small-spec =
     tie.close
     (tie.spec
-    (λ c κs. search needs) (λ c κs. search needs) returns (λ c. search needs) (λ c. search needs) (λ c. search needs) build-requires
-    (λ c. search needs) (λ c. search needs) finish-requires (λ c κs. search needs) (λ c κs. search needs) same-length same-length-2 same-length-3
-    same-length-4 same-length-5 same-length-6 returns-2 same-length-7 same-length-8 same-length-9 same-length-10 same-length-11 same-length-12
-    returns-3)
+    (λ c. search needs) (λ c. search needs) (λ c. search needs) build-requires (λ c. search needs) (λ c. search needs) finish-requires
+    (λ c κs. search needs) (λ c κs. search needs) same-length same-length-2 same-length-3 same-length-4 same-length-5 same-length-6 returns
+    same-length-7 same-length-8 same-length-9 same-length-10 same-length-11 same-length-12 returns-2)
