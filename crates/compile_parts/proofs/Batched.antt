@@ -1,8 +1,8 @@
 -- A batch of operators begins where those before it are built. Assumes nothing.
-use Prim.Native.Nat.{ℕ, _≤_, _<_}
+use Prim.Native.Nat.{ℕ, _<_}
 use native.Mathlib.Omega.{arith}
-use mathlib.Core.Path.{_≡_, refl, sym, _∙_}
-use mathlib.Core.Bool.{true, false, true≢false}
+use mathlib.Core.Path.{_≡_, sym, _∙_}
+use mathlib.Core.Bool.{false}
 use mathlib.Core.List.{List}
 use lib.ListN.{length}
 use Rattle.task.specs.Table.{operator-at}
@@ -22,7 +22,7 @@ use Rattle.effect_batches.specs.Inner.Filling.{AllCovered}
 use Rattle.effect_batches.specs.Inner.Next.{NextBatch, BegunBatch}
 use Rattle.effect_batches.proofs.Covering.{covered-built}
 use Rattle.compile_parts.specs.declared.Counts.{Counts}
-use Rattle.compile_parts.specs.Inner.Batches.{Known, Along, BeginsNext, BegunNext, TakesBatch}
+use Rattle.compile_parts.specs.Inner.Batches.{BeginsNext, BegunNext, TakesBatch}
 
 -- What n operators came to is covered where they are built.
 covered-here :

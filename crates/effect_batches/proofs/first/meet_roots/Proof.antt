@@ -3,7 +3,7 @@ use Rattle.effect_batches.proofs.first.meet_roots.Statement.{statement}
 use Rattle.effect_batches.proofs.first.meet_roots.Tie as tie
 use native.Mathlib.Omega.{arith}
 use borrow.Author.Needs.{needs}
-use mathlib.Core.Path.{_≡_, refl, ap, _∙_}
+use mathlib.Core.Path.{_≡_, refl, _∙_}
 use Prim.Native.Nat.{ℕ, _-_}
 use mathlib.Core.List.{List}
 use lib.ListN.{length}
