@@ -10,8 +10,7 @@ use Rattle.task.specs.Table.{operator-at}
 returns : tie.Need-returns
 returns c =
     let at-write-records = c .before .before .before .before .before .before in
-    let at-entry = at-write-records .before .before .before .before .before .before .before .before in
-    let start = at-entry in
+    let start = at-write-records .before .before .before .before .before .before .before .before in
     let a = start .args in
     let rules = at-write-records .write-records .ensures in (
       rules .0,

@@ -24,8 +24,7 @@ abbrev μ-loop : tie.MeasureT-loop
 
 loop-holds : tie.Need-loop-holds Inv-loop μ-loop
 loop-holds c =
-    let at-entry = c .before .before .before in
-    let s = at-entry in (
+    let s = c .before .before .before in (
       omega arith,
       s .pre .in-order .order,
       refl,
@@ -44,8 +43,7 @@ read-row-requires c κs =
 write-changes-requires : tie.Need-write-changes-requires Inv-loop μ-loop
 write-changes-requires c κs =
     let at-loop = c .before .before .before in
-    let at-entry = at-loop .before .before .before .before in
-    let s = at-entry in
+    let s = at-loop .before .before .before .before in
     let below = change-below (s .args .records .now) (at-loop .loop .i) (s .pre .in-order) (at-loop .loop .inv .0) (c .before .before .loop-test .taken)
     (c .before .read-row .ensures) in
     (record { rows = at-loop .loop .inv .3; variables = s .pre .ready .variables }, omega (arith, below, s .pre .each-placed))
@@ -64,8 +62,7 @@ loop-again c =
     let at-read-row = c .before .before .before .before in
     let at-loop-test = at-read-row .before in
     let at-loop = at-loop-test .before in
-    let at-entry = at-loop .before .before .before .before in
-    let s = at-entry in
+    let s = at-loop .before .before .before .before in
     let w = at-read-row .read-row .result in
     let below = change-below (s .args .records .now) (at-loop .loop .i) (s .pre .in-order) (at-loop .loop .inv .0) (at-loop-test .loop-test .taken)
     (at-read-row .read-row .ensures) in (
@@ -84,8 +81,7 @@ same-length c = c .before .loop .inv .2
 
 returns : tie.Need-returns Inv-loop μ-loop
 returns c =
-    let at-entry = c .before .before .before .before .before in
-    let s = at-entry in (
+    let s = c .before .before .before .before .before in (
       c .before .loop .inv .3,
       λ twins p.
           records-all (s .args .frame .variables) twins (s .args .records .now) (s .args .k) (c .before .loop .i) (s .args .end)

@@ -12,8 +12,7 @@ returns : tie.Need-returns
 returns c =
     let at-assemble-placed = c .before .before .before .before in
     let at-find-places = at-assemble-placed .before .before .before .before .before in
-    let at-entry = at-find-places .before .before .before .before .before .before .before in
-    let s = at-entry in
+    let s = at-find-places .before .before .before .before .before .before .before in
     at-assemble-placed .assemble-placed .ensures (take (s .args .frame .twins) (s .args .originals .now)) (at-find-places .find-places .ensures .0)
 
 pub assemble-operators-spec : {M : Type 1} → statement M

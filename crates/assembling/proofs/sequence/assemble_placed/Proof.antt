@@ -18,8 +18,7 @@ abbrev μ-loop : tie.MeasureT-loop
 
 loop-holds : tie.Need-loop-holds Inv-loop μ-loop
 loop-holds c =
-    let at-entry = c .before .before .before .before .before in
-    let s = at-entry in
+    let s = c .before .before .before .before .before in
     let a = s .pre .0 in (
       omega arith,
       refl,
@@ -39,8 +38,7 @@ assemble-operator-requires : tie.Need-assemble-operator-requires Inv-loop μ-loo
 assemble-operator-requires c κs =
     let at-loop-test = c .before .before .before in
     let at-loop = at-loop-test .before in
-    let at-entry = at-loop .before .before .before .before .before .before in
-    let s = at-entry in
+    let s = at-loop .before .before .before .before .before .before in
     let inv = at-loop .loop .inv in
     asks-operator (c .before .before .read-row .result) (s .pre .0) (s .pre .1) (at-loop-test .loop-test .taken) (c .before .before .read-row .ensures) (inv .3)
     (inv .5) (inv .1) (inv .2)
@@ -63,8 +61,7 @@ returns c =
     let at-read-row = at-assemble-operator .before .before .before in
     let at-loop-test = at-read-row .before in
     let at-loop = at-loop-test .before in
-    let at-entry = at-loop .before .before .before .before .before .before in
-    let s = at-entry in
+    let s = at-loop .before .before .before .before .before .before in
     let at = at-loop .loop in
     let w = at-read-row .read-row in
     let done = at-assemble-operator .assemble-operator in
@@ -89,8 +86,7 @@ loop-again c =
     let at-read-row = at-assemble-operator .before .before .before in
     let at-loop-test = at-read-row .before in
     let at-loop = at-loop-test .before in
-    let at-entry = at-loop .before .before .before .before .before .before in
-    let s = at-entry in
+    let s = at-loop .before .before .before .before .before .before in
     let at = at-loop .loop in
     let w = at-read-row .read-row in
     let done = at-assemble-operator .assemble-operator in (
@@ -112,8 +108,7 @@ same-length-4 c = c .before .loop .inv .2
 
 returns-2 : tie.Need-returns-2 Inv-loop μ-loop
 returns-2 c =
-    let at-entry = c .before .before .before .before .before .before .before in
-    let s = at-entry in
+    let s = c .before .before .before .before .before .before .before in
     let at = c .before .loop in
     λ twins p.
     assembling-done (s .args .frame .variables) twins (s .args .operators .now) (s .args .records .now) (at .o) (s .args .count)

@@ -18,8 +18,8 @@ use Rattle.atom_sets.proofs.Finds.{both-lower, under-lower, row-within,
 set-start-requires-2 : tie.Need-set-start-requires-2
 set-start-requires-2 c κs =
     let at-read-row = c .before .before .before .before .before in
-    let at-entry = at-read-row .before .before .before in
-    let s = at-entry in let r = at-read-row .read-row in row-within (s .pre) (r .result) (r .ensures) (r .result .a)
+    let s = at-read-row .before .before .before in
+    let r = at-read-row .read-row in row-within (s .pre) (r .result) (r .ensures) (r .result .a)
     (omega (arith, both-lower (s .pre) (r .result) (r .ensures) (c .before .if1 .taken)))
 
 -- src/pass.rt:95:13
@@ -27,8 +27,8 @@ set-start-requires-3 : tie.Need-set-start-requires-3
 set-start-requires-3 c κs =
     let at-if1 = c .before .before .before in
     let at-read-row = at-if1 .before .before .before .before in
-    let at-entry = at-read-row .before .before .before in
-    let s = at-entry in let r = at-read-row .read-row in row-within (s .pre) (r .result) (r .ensures) (r .result .b)
+    let s = at-read-row .before .before .before in
+    let r = at-read-row .read-row in row-within (s .pre) (r .result) (r .ensures) (r .result .b)
     (omega (arith, both-lower (s .pre) (r .result) (r .ensures) (at-if1 .if1 .taken)))
 
 -- src/pass.rt:96:9
@@ -39,8 +39,8 @@ unite-requires c κs =
     let at-set-start = at-if1 .before .before in
     let at-set-words = at-set-start .before in
     let at-read-row = at-set-words .before in
-    let at-entry = at-read-row .before .before .before in
-    let s = at-entry in let r = at-read-row .read-row in let low = both-lower (s .pre) (r .result) (r .ensures) (at-if1 .if1 .taken) in (
+    let s = at-read-row .before .before .before in
+    let r = at-read-row .read-row in let low = both-lower (s .pre) (r .result) (r .ensures) (at-if1 .if1 .taken) in (
       omega (arith, whole-fours (s .args .frame), at-set-words .set-words .ensures),
       row-room (s .pre) (r .result) (r .ensures) (at-set-words .set-words .ensures .0) (at-set-start .set-start .ensures) (r .result .a) (low .0)
           (at-set-start2 .set-start2 .ensures),
@@ -57,8 +57,8 @@ returns c =
     let at-set-start = at-if1 .before .before in
     let at-set-words = at-set-start .before in
     let at-read-row = at-set-words .before in
-    let at-entry = at-read-row .before .before .before in
-    let s = at-entry in let r = at-read-row .read-row in found-both (s .pre) (r .result) (r .ensures) (at-set-words .set-words .ensures .0)
+    let s = at-read-row .before .before .before in
+    let r = at-read-row .read-row in found-both (s .pre) (r .result) (r .ensures) (at-set-words .set-words .ensures .0)
     (at-set-start .set-start .ensures) (at-if1 .if1 .taken) (at-set-start2 .set-start2 .ensures) (at-set-start3 .set-start3 .ensures)
     (c .before .before .unite .ensures)
 
@@ -66,8 +66,8 @@ returns c =
 set-start-requires-4 : tie.Need-set-start-requires-4
 set-start-requires-4 c κs =
     let at-read-row = c .before .before .before .before .before .before .before in
-    let at-entry = at-read-row .before .before .before in
-    let s = at-entry in let r = at-read-row .read-row in row-within (s .pre) (r .result) (r .ensures) (r .result .b)
+    let s = at-read-row .before .before .before in
+    let r = at-read-row .read-row in row-within (s .pre) (r .result) (r .ensures) (r .result .b)
     (omega (arith, under-lower (s .pre) (r .result) (r .ensures) (c .before .if2 .taken)))
 
 -- src/pass.rt:101:9
@@ -77,8 +77,8 @@ copy-requires c κs =
     let at-set-start = at-if2 .before .before .before .before in
     let at-set-words = at-set-start .before in
     let at-read-row = at-set-words .before in
-    let at-entry = at-read-row .before .before .before in
-    let s = at-entry in let r = at-read-row .read-row in (
+    let s = at-read-row .before .before .before in
+    let r = at-read-row .read-row in (
       omega (arith, whole-fours (s .args .frame), at-set-words .set-words .ensures),
       row-room (s .pre) (r .result) (r .ensures) (at-set-words .set-words .ensures .0) (at-set-start .set-start .ensures) (r .result .b)
           (under-lower (s .pre) (r .result) (r .ensures) (at-if2 .if2 .taken)) (c .before .set-start4 .ensures),
@@ -92,16 +92,16 @@ returns-2 c =
     let at-set-start = at-if2 .before .before .before .before in
     let at-set-words = at-set-start .before in
     let at-read-row = at-set-words .before in
-    let at-entry = at-read-row .before .before .before in
-    let s = at-entry in let r = at-read-row .read-row in found-under (s .pre) (r .result) (r .ensures) (at-set-words .set-words .ensures .0)
+    let s = at-read-row .before .before .before in
+    let r = at-read-row .read-row in found-under (s .pre) (r .result) (r .ensures) (at-set-words .set-words .ensures .0)
     (at-set-start .set-start .ensures) (at-if2 .if2 .taken) (at-set-start4 .set-start4 .ensures) (c .before .before .copy .ensures)
 
 -- src/pass.rt:105:9
 returns-3 : tie.Need-returns-3
 returns-3 c =
     let at-read-row = c .before .before .before .before .before .before .before .before in
-    let at-entry = at-read-row .before .before .before in
-    let s = at-entry in let r = at-read-row .read-row in found-empty (s .pre) (r .result) (r .ensures) (c .if3 .taken)
+    let s = at-read-row .before .before .before in
+    let r = at-read-row .read-row in found-empty (s .pre) (r .result) (r .ensures) (c .if3 .taken)
 
 -- src/pass.rt:107:5
 put-atom-requires : tie.Need-put-atom-requires
@@ -110,8 +110,8 @@ put-atom-requires c κs =
     let at-if2 = at-if3 .before .before in
     let at-if1 = at-if2 .before .before in
     let at-read-row = at-if1 .before .before .before .before in
-    let at-entry = at-read-row .before .before .before in
-    let s = at-entry in let r = at-read-row .read-row in
+    let s = at-read-row .before .before .before in
+    let r = at-read-row .read-row in
     (atom-within (s .pre) (r .result) (r .ensures) (at-if1 .if1 .left) (at-if2 .if2 .left) (at-if3 .if3 .left), s .pre .finds .room)
 
 -- src/pass.rt:86:1
@@ -121,8 +121,8 @@ returns-4 c =
     let at-if2 = at-if3 .before .before in
     let at-if1 = at-if2 .before .before in
     let at-read-row = at-if1 .before .before .before .before in
-    let at-entry = at-read-row .before .before .before in
-    let s = at-entry in let r = at-read-row .read-row in found-atom (s .pre) (r .result) (r .ensures) (at-if1 .if1 .left) (at-if2 .if2 .left)
+    let s = at-read-row .before .before .before in
+    let r = at-read-row .read-row in found-atom (s .pre) (r .result) (r .ensures) (at-if1 .if1 .left) (at-if2 .if2 .left)
     (at-if3 .if3 .left) (c .before .before .put-atom .ensures)
 
 pub set-of-spec : {M : Type 1} → statement M

@@ -10,8 +10,7 @@ use Rattle.changes.proofs.Standing.{leaves-same}
 
 returns : tie.Need-returns
 returns c =
-    let at-entry = c .before .before .before .before .before .before .before .before .before .before .before in
-    let start = at-entry in
+    let start = c .before .before .before .before .before .before .before .before .before .before .before in
     let a = start .args in (
       took-full (a .frame) (a .formulas .now) (a .effects .now) (a .operators .now) (start .pre) (c .before .if1 .taken) (c .no-room .ensures),
       leaves-stopped (c .no-room .ensures),
@@ -22,8 +21,7 @@ build-operator-requires c κs =
     let at-effect-of = c .before .before .before .before .before in
     let at-precondition-of = at-effect-of .before in
     let at-if1 = at-precondition-of .before in
-    let at-entry = at-if1 .before .before .before .before .before .before .before .before .before .before in
-    let start = at-entry in
+    let start = at-if1 .before .before .before .before .before .before .before .before .before .before in
     let a = start .args in (
       asks-operator (a .frame) (a .formulas .now) (a .effects .now) (a .operators .now) (start .pre) (at-if1 .if1 .left)
           (at-precondition-of .precondition-of .ensures) (at-effect-of .effect-of .ensures),
@@ -62,8 +60,7 @@ returns-2 c =
     let at-effect-of = at-build-operator .before .before .before .before .before .before in
     let at-precondition-of = at-effect-of .before in
     let at-if1 = at-precondition-of .before in
-    let at-entry = at-if1 .before .before .before .before .before .before .before .before .before .before in
-    let start = at-entry in
+    let start = at-if1 .before .before .before .before .before .before .before .before .before .before in
     let a = start .args in
     let built = at-build-operator .build-operator in (
       took-over (a .frame) (a .formulas .now) (a .effects .now) (a .operators .now) (start .pre) (at-if1 .if1 .left)
@@ -104,8 +101,7 @@ returns-3 c =
     let at-effect-of = at-build-operator .before .before .before .before .before .before in
     let at-precondition-of = at-effect-of .before in
     let at-if1 = at-precondition-of .before in
-    let at-entry = at-if1 .before .before .before .before .before .before .before .before .before .before in
-    let start = at-entry in
+    let start = at-if1 .before .before .before .before .before .before .before .before .before .before in
     let a = start .args in
     let built = at-build-operator .build-operator in (
       took-many (a .frame) (a .formulas .now) (a .effects .now) (a .operators .now) (start .pre) (at-if1 .if1 .left)
@@ -153,8 +149,7 @@ returns-4 c =
     let at-effect-of = at-build-operator .before .before .before .before .before .before in
     let at-precondition-of = at-effect-of .before in
     let at-if1 = at-precondition-of .before in
-    let at-entry = at-if1 .before .before .before .before .before .before .before .before .before .before in
-    let start = at-entry in
+    let start = at-if1 .before .before .before .before .before .before .before .before .before .before in
     let a = start .args in
     let built = at-build-operator .build-operator in (
       took (a .frame) (a .formulas .now) (a .effects .now) (a .operators .now) (start .pre) (at-if1 .if1 .left) (at-precondition-of .precondition-of .ensures)

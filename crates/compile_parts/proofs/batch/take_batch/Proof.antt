@@ -27,8 +27,7 @@ abbrev μ-loop : tie.MeasureT-loop
 
 begin-next-requires : tie.Need-begin-next-requires Inv-loop μ-loop
 begin-next-requires c κs =
-    let at-entry = c .before .before .before .before .before .before .before .before .before .before .before .before .before in
-    let at-pre = at-entry in
+    let at-pre = c .before .before .before .before .before .before .before .before .before .before .before .before .before in
     at-pre .pre .begins
 
 loop-holds : tie.Need-loop-holds Inv-loop μ-loop
@@ -49,14 +48,12 @@ take-operator-requires c κs =
 
 loop-less : tie.Need-loop-less Inv-loop μ-loop
 loop-less c =
-    let at-entry = c .before .before .before .before .before .before .before .before .before .before in
-    let at-take-operator = at-entry in
+    let at-take-operator = c .before .before .before .before .before .before .before .before .before .before in
     omega (arith, at-take-operator .take-operator .ensures .0 .next)
 
 loop-again : tie.Need-loop-again Inv-loop μ-loop
 loop-again c =
-    let at-entry = c .before .before .before .before .before .before .before .before .before .before in
-    let at-take-operator = at-entry in
+    let at-take-operator = c .before .before .before .before .before .before .before .before .before .before in
     let at-if1 = at-take-operator .before .before .before .before .before .before in
     let at-loop = at-if1 .before .before in
     let so-far = at-loop .loop .inv in
@@ -73,26 +70,22 @@ loop-again c =
 
 same-length : tie.Need-same-length Inv-loop μ-loop
 same-length c =
-    let at-entry = c .before .before .before .before .before .before .before .before .before .before .before in
-    let at-begin-next = at-entry in
+    let at-begin-next = c .before .before .before .before .before .before .before .before .before .before .before in
     c .before .before .loop .inv .1 ∙ at-begin-next .begin-next .kept .1 .1 .1 .1 .1 .1 .0
 
 same-length-2 : tie.Need-same-length-2 Inv-loop μ-loop
 same-length-2 c =
-    let at-entry = c .before .before .before .before .before .before .before .before .before .before .before in
-    let at-begin-next = at-entry in
+    let at-begin-next = c .before .before .before .before .before .before .before .before .before .before .before in
     c .before .before .loop .inv .2 ∙ at-begin-next .begin-next .kept .1 .1 .1 .1 .1 .1 .1 .0
 
 same-length-3 : tie.Need-same-length-3 Inv-loop μ-loop
 same-length-3 c =
-    let at-entry = c .before .before .before .before .before .before .before .before .before .before .before in
-    let at-begin-next = at-entry in
+    let at-begin-next = c .before .before .before .before .before .before .before .before .before .before .before in
     c .before .before .loop .inv .3 ∙ at-begin-next .begin-next .kept .1 .1 .1 .1 .1 .1 .1 .1 .0
 
 same-length-4 : tie.Need-same-length-4 Inv-loop μ-loop
 same-length-4 c =
-    let at-entry = c .before .before .before .before .before .before .before .before .before .before .before in
-    let at-begin-next = at-entry in
+    let at-begin-next = c .before .before .before .before .before .before .before .before .before .before .before in
     c .before .before .loop .inv .4 ∙ at-begin-next .begin-next .kept .1 .1 .1 .1 .1 .1 .1 .1 .1 .0
 
 same-length-5 : tie.Need-same-length-5 Inv-loop μ-loop
@@ -100,8 +93,7 @@ same-length-5 c = c .before .before .loop .inv .5
 
 returns : tie.Need-returns Inv-loop μ-loop
 returns c =
-    let at-entry = c .before .before .before .before .before .before .before .before .before .before .before in
-    let at-begin-next = at-entry in
+    let at-begin-next = c .before .before .before .before .before .before .before .before .before .before .before in
     let so-far = c .before .before .loop .inv in
     let begun = at-begin-next .begin-next .ensures in
     record {

@@ -31,20 +31,17 @@ abbrev μ-loop : tie.MeasureT-loop
 
 find-sets-requires : tie.Need-find-sets-requires Inv-loop μ-loop
 find-sets-requires c κs =
-    let at-entry = c .before .before .before .before .before .before .before .before .before .before in
-    let at-pre = at-entry in
+    let at-pre = c .before .before .before .before .before .before .before .before .before .before in
     finds (at-pre .pre)
 
 find-first-requires : tie.Need-find-first-requires Inv-loop μ-loop
 find-first-requires c κs =
-    let at-entry = c .before .before .before .before .before .before .before .before .before .before .before .before .before .before in
-    let at-pre = at-entry in
+    let at-pre = c .before .before .before .before .before .before .before .before .before .before .before .before .before .before in
     finds-first (at-pre .pre)
 
 begin-requires : tie.Need-begin-requires Inv-loop μ-loop
 begin-requires c κs =
-    let at-entry = c .before .before .before .before .before .before .before .before .before .before .before .before .before .before .before .before .before in
-    let at-pre = at-entry in
+    let at-pre = c .before .before .before .before .before .before .before .before .before .before .before .before .before .before .before .before .before in
     at-pre .pre .fresh
 
 loop-holds : tie.Need-loop-holds Inv-loop μ-loop
@@ -81,15 +78,13 @@ take-batch-requires c κs =
 
 loop-less : tie.Need-loop-less Inv-loop μ-loop
 loop-less c =
-    let at-entry = c .before .before .before .before .before .before .before .before .before .before in
-    let at-take-batch = at-entry in
+    let at-take-batch = c .before .before .before .before .before .before .before .before .before .before in
     let at-if1 = at-take-batch .before .before .before .before .before .before .before in
     omega (arith, at-take-batch .take-batch .ensures .more, at-if1 .if1 .taken)
 
 loop-again : tie.Need-loop-again Inv-loop μ-loop
 loop-again c =
-    let at-entry = c .before .before .before .before .before .before .before .before .before .before in
-    let at-take-batch = at-entry in
+    let at-take-batch = c .before .before .before .before .before .before .before .before .before .before in
     let at-loop = at-take-batch .before .before .before .before .before .before .before .before .before in
     let so-far = at-loop .loop .inv in
     let took = at-take-batch .take-batch in (
@@ -106,8 +101,7 @@ loop-again c =
 
 take-goal-requires : tie.Need-take-goal-requires Inv-loop μ-loop
 take-goal-requires c κs =
-    let at-entry = c .before .before .before in
-    let at-if1 = at-entry in
+    let at-if1 = c .before .before .before in
     let at-loop = at-if1 .before .before in
     let at-pre =
     at-loop .before .before .before .before .before .before .before .before .before .before .before .before .before .before .before .before .before .before .before .before .before
@@ -129,8 +123,7 @@ same-length-2 c =
 
 same-length-3 : tie.Need-same-length-3 Inv-loop μ-loop
 same-length-3 c =
-    let at-entry = c .before .before .before .before .before .before .before .before .before .before .before .before in
-    let at-loop = at-entry in
+    let at-loop = c .before .before .before .before .before .before .before .before .before .before .before .before in
     let at-find-sets = at-loop .before .before .before .before .before .before .before .before .before .before in
     at-loop .loop .inv .3 ∙ at-find-sets .find-sets .kept .1 .1 .0
 
@@ -143,14 +136,12 @@ same-length-4 c =
 
 same-length-5 : tie.Need-same-length-5 Inv-loop μ-loop
 same-length-5 c =
-    let at-entry = c .before .before .before .before .before .before .before .before .before .before .before .before in
-    let at-loop = at-entry in
+    let at-loop = c .before .before .before .before .before .before .before .before .before .before .before .before in
     at-loop .loop .inv .5
 
 returns : tie.Need-returns Inv-loop μ-loop
 returns c =
-    let at-entry = c .before .before .before .before .before .before in
-    let at-take-goal = at-entry in
+    let at-take-goal = c .before .before .before .before .before .before in
     let at-if1 = at-take-goal .before .before .before .before in
     let at-loop = at-if1 .before .before in
     let at-pre =

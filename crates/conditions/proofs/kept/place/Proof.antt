@@ -67,8 +67,7 @@ mul-k c =
 
 mul-k-2 : tie.Need-mul-k-2
 mul-k-2 c =
-    let at-entry = c .before .before .before .before .before in
-    let at-width-of = at-entry in
+    let at-width-of = c .before .before .before .before .before in
     let at-column = at-width-of .before .before .before .before in
     let start = at-column .before .before in
     omega (

@@ -11,8 +11,7 @@ forget-requires : tie.Need-forget-requires
 forget-requires c κs =
     let at-size-batch = c .before .before .before in
     let at-sets-end = at-size-batch .before .before .before in
-    let at-entry = at-sets-end .before .before .before .before .before .before in
-    let start = at-entry in
+    let start = at-sets-end .before .before .before .before .before .before in
     let sets-end = at-sets-end .sets-end in
     let size-batch = at-size-batch .size-batch in
     forgets (start .pre) (sets-end .ensures .0) (size-batch .kept .1 .1 .1 .1 .1 .1 .1 .0) (size-batch .ensures .renumbered)
@@ -21,8 +20,7 @@ list-rows-requires : tie.Need-list-rows-requires
 list-rows-requires c κs =
     let at-forget = c .before .before .before .before in
     let at-size-batch = at-forget .before .before .before .before in
-    let at-entry = at-size-batch .before .before .before .before .before .before .before .before .before in
-    let start = at-entry in
+    let start = at-size-batch .before .before .before .before .before .before .before .before .before in
     let forget = at-forget .forget in
     let size-batch = at-size-batch .size-batch in
     lists (start .pre) (forget .kept .1 .1 .0 ∙ size-batch .kept .1 .1 .1 .1 .1 .1 .1 .0)
@@ -32,9 +30,8 @@ returns c =
     let at-forget = c .before .before .before .before .before .before .before in
     let at-size-batch = at-forget .before .before .before .before in
     let at-sets-end = at-size-batch .before .before .before in
-    let at-entry = at-sets-end .before .before .before .before .before .before in
+    let start = at-sets-end .before .before .before .before .before .before in
     let size-batch = at-size-batch .size-batch in
-    let start = at-entry in
     let forget = at-forget .forget in
     let sets-end = at-sets-end .sets-end in
     let list-rows = c .before .before .list-rows in

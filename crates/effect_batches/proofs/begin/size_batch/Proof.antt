@@ -37,10 +37,9 @@ number-batch-requires-2 : tie.Need-number-batch-requires-2 Inv-loop μ-loop
 number-batch-requires-2 c κs =
     let at-loop = c .before .before .before in
     let at-number-batch = at-loop .before .before .before in
-    let at-entry = at-number-batch .before .before .before .before .before .before in
+    let start = at-number-batch .before .before .before .before .before .before in
     let loop = at-loop .loop in
     let number-batch = at-number-batch .number-batch in
-    let start = at-entry in
     (room-then (loop .inv .0 ∙ number-batch .kept .1 .1 .1 .1 .1 .1 .0) (start .pre .room), roots-fewer (omega (arith, loop .inv .2)) (start .pre .roots))
 
 loop-less : tie.Need-loop-less Inv-loop μ-loop

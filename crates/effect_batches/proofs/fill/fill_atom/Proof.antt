@@ -30,8 +30,7 @@ mul-e c =
 
 shared-slice-read-e : tie.Need-shared-slice-read-e Inv-loop μ-loop
 shared-slice-read-e c =
-    let at-entry = c .before .before .before .before .before .before .before .before .before .before in
-    let start = at-entry in
+    let start = c .before .before .before .before .before .before .before .before .before .before in
     omega (arith, start .pre .fills .room)
 
 cast-e : tie.Need-cast-e Inv-loop μ-loop
@@ -42,26 +41,23 @@ cast-e c =
 
 fill-row-requires : tie.Need-fill-row-requires Inv-loop μ-loop
 fill-row-requires c κs =
-    let at-loop = c .before .before .before .before .before .before in
-    let at-entry = at-loop .before .before .before .before .before .before .before .before in
-    let loop = at-loop .loop in
-    let start = at-entry in
+    let loop = c .before .before .before .before .before .before .loop in
+    let start = c .before .before .before .before .before .before .before .before .before .before .before .before .before .before in
     row-fills (loop .k) (omega arith) (start .pre) (loop .inv .4)
 
 add-k : tie.Need-add-k Inv-loop μ-loop
 add-k c =
-    let at-loop-test = c .before .before .before .before .before .before .before .before .before .before .before .before .before .before in
-    let at-entry = at-loop-test .before .before .before .before .before .before .before .before .before in
-    let start = at-entry in
-    let loop-test = at-loop-test .loop-test in
+    let start = c .before .before .before .before .before .before .before .before .before .before .before .before .before .before .before .before .before .before .before .before .before .before .before in
+    let loop-test = c .before .before .before .before .before .before .before .before .before .before .before .before .before .before .loop-test in
     omega (arith, start .pre .fills .room, loop-test .taken)
+
+loop-less : tie.Need-loop-less Inv-loop μ-loop
+loop-less c = omega arith
 
 loop-again : tie.Need-loop-again Inv-loop μ-loop
 loop-again c =
-    let at-fill-row = c .before .before .before .before .before .before .before .before in
-    let at-loop = at-fill-row .before .before .before .before .before .before .before in
-    let fill-row = at-fill-row .fill-row in
-    let loop = at-loop .loop in (
+    let fill-row = c .before .before .before .before .before .before .before .before .fill-row in
+    let loop = c .before .before .before .before .before .before .before .before .before .before .before .before .before .before .before .loop in (
       fill-row .kept .1 .1 .0 ∙ loop .inv .0,
       fill-row .kept .1 .1 .1 .1 .1 .1 .1 .0 ∙ loop .inv .1,
       fill-row .kept .1 .1 .1 .1 .1 .1 .1 .1 .0 ∙ loop .inv .2,
@@ -90,5 +86,16 @@ fill-atom-spec =
     (tie.spec
     Inv-loop
     μ-loop
-    loop-holds mul-e shared-slice-read-e cast-e fill-row-requires add-k (λ c. omega arith) loop-again same-length same-length-2 same-length-3
-    same-length-4 returns)
+    loop-holds
+    mul-e
+    shared-slice-read-e
+    cast-e
+    fill-row-requires
+    add-k
+    loop-less
+    loop-again
+    same-length
+    same-length-2
+    same-length-3
+    same-length-4
+    returns)

@@ -32,8 +32,7 @@ loop-holds c =
 
 cast-t19 : tie.Need-cast-t19 Inv-loop μ-loop
 cast-t19 c =
-    let at-entry = c .before .before .before .before .before .before .before .before .before .before .before in
-    let start = at-entry in
+    let start = c .before .before .before .before .before .before .before .before .before .before .before in
     let loop-test = c .loop-test in
     omega (arith, start .pre .stands .ready .variables, loop-test .taken)
 
@@ -42,9 +41,8 @@ fill-atom-requires c κs =
     let at-loop-test = c .before .before .before .before .before in
     let at-loop = at-loop-test .before in
     let at-words-of = at-loop .before .before in
-    let at-entry = at-words-of .before .before .before .before .before .before .before .before in
+    let start = at-words-of .before .before .before .before .before .before .before .before in
     let words-of = at-words-of .words-of in
-    let start = at-entry in
     let loop = at-loop .loop in
     let loop-test = at-loop-test .loop-test in
     atom-fills _ (words-of .ensures) (start .pre) (loop .inv .4) refl (omega (arith, loop-test .taken))
@@ -52,8 +50,7 @@ fill-atom-requires c κs =
 add-a : tie.Need-add-a Inv-loop μ-loop
 add-a c =
     let at-loop-test = c .before .before .before .before .before .before .before .before .before .before .before .before .before .before in
-    let at-entry = at-loop-test .before .before .before .before .before .before .before .before .before .before .before in
-    let start = at-entry in
+    let start = at-loop-test .before .before .before .before .before .before .before .before .before .before .before in
     let loop-test = at-loop-test .loop-test in
     omega (arith, start .pre .stands .ready .variables, loop-test .taken)
 

@@ -12,21 +12,18 @@ lacks-requires c κs =
 
 returns : tie.Need-returns
 returns c =
-    let at-entry = c .before .before .before .before .before .before .before .before .before .before .before in
-    let start = at-entry in
+    let start = c .before .before .before .before .before .before .before .before .before .before .before in
     filled-none (start .pre .stands)
 
 condition-requires : tie.Need-condition-requires
 condition-requires c κs =
-    let at-entry = c .before .before .before .before .before .before .before .before .before .before .before .before .before .before .before .before .before in
-    let start = at-entry in
+    let start = c .before .before .before .before .before .before .before .before .before .before .before .before .before .before .before .before .before in
     row-asks (start .pre)
 
 returns-2 : tie.Need-returns-2
 returns-2 c =
     let at-condition = c .before .before .before .before .before .before .before .before in
-    let at-entry = at-condition .before .before .before .before .before .before .before .before .before .before .before .before .before .before .before .before .before .before in
-    let start = at-entry in
+    let start = at-condition .before .before .before .before .before .before .before .before .before .before .before .before .before .before .before .before .before .before in
     let condition = at-condition .condition in
     row-filled (start .pre) (condition .kept .1 .1 .1 .1 .1 .1 .1 .1 .1 .1 .0) (condition .ensures)
 

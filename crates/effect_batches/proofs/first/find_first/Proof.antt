@@ -31,8 +31,7 @@ loop-holds c =
 hand-on-requires : tie.Need-hand-on-requires Inv-loop μ-loop
 hand-on-requires c κs =
     let at-meet-roots = c .before .before .before .before .before in
-    let at-entry = at-meet-roots .before .before .before .before .before in
-    let start = at-entry in
+    let start = at-meet-roots .before .before .before .before .before in
     let loop = c .before .before .loop in
     let meet-roots = at-meet-roots .meet-roots in
     record {
@@ -43,10 +42,9 @@ hand-on-requires c κs =
 loop-again : tie.Need-loop-again Inv-loop μ-loop
 loop-again c =
     let at-loop = c .before .before .before .before .before in
-    let at-entry = at-loop .before .before .before .before .before .before .before .before in
+    let start = at-loop .before .before .before .before .before .before .before .before in
     let hand-on = c .before .before .hand-on in
-    let loop = at-loop .loop in
-    let start = at-entry in (
+    let loop = at-loop .loop in (
       hand-on .kept .1 .1 .0 ∙ loop .inv .0,
       omega (arith, loop .inv .1),
       hand-on .ensures .stays (start .args .operators .now) (start .args .count) (loop .inv .2),

@@ -7,8 +7,7 @@ use Rattle.effect_batches.proofs.Covering.{batch-fills}
 fill-columns-requires : tie.Need-fill-columns-requires
 fill-columns-requires c κs =
     let at-begin-batch = c .before .before .before .before .before .before .before .before in
-    let at-entry = at-begin-batch .before .before .before .before .before .before .before .before .before .before .before in
-    let start = at-entry in
+    let start = at-begin-batch .before .before .before .before .before .before .before .before .before .before .before in
     let begin-batch = at-begin-batch .begin-batch in
     batch-fills (start .pre) (begin-batch .ensures)
 

@@ -16,14 +16,12 @@ returns-2 c =
 
 returns-3 : tie.Need-returns-3
 returns-3 c =
-    let at-entry = c .before .before .before .before .before .before .before .before .before .before in
-    let start = at-entry in
+    let start = c .before .before .before .before .before .before .before .before .before .before in
     λ n h. numbered-none n 1 (start .args .last) (start .args .notes .now)
 
 returns-4 : tie.Need-returns-4
 returns-4 c =
-    let at-entry = c .before .before .before .before .before .before .before .before .before .before in
-    let start = at-entry in
+    let start = c .before .before .before .before .before .before .before .before .before .before in
     λ n h. numbered-next n (start .pre .within) h
 
 pub name-spec : {M : Type 1} → statement M

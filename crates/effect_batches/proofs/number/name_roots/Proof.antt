@@ -27,34 +27,29 @@ loop-holds c = (refl, omega arith, numbered-none _ _ _ _)
 
 add-o : tie.Need-add-o Inv-loop μ-loop
 add-o c =
-    let at-entry = c .before .before .before .before .before .before .before .before .before .before in
-    let start = at-entry in
+    let start = c .before .before .before .before .before .before .before .before .before .before in
     omega (arith, start .pre .roots .limit)
 
 effect-of-requires : tie.Need-effect-of-requires Inv-loop μ-loop
 effect-of-requires c κs =
-    let at-entry = c .before .before .before .before .before .before .before .before .before .before in
-    let start = at-entry in
+    let start = c .before .before .before .before .before .before .before .before .before .before in
     omega (arith, start .pre .roots .words)
 
 add-name : tie.Need-add-name Inv-loop μ-loop
 add-name c =
-    let at-entry = c .before .before .before .before .before .before .before .before .before .before .before in
-    let start = at-entry in
+    let start = c .before .before .before .before .before .before .before .before .before .before .before in
     omega (arith, start .pre .roots .limit)
 
 cast-name-2 : tie.Need-cast-name-2 Inv-loop μ-loop
 cast-name-2 c =
-    let at-entry = c .before .before .before .before .before .before .before .before .before .before .before in
-    let start = at-entry in
+    let start = c .before .before .before .before .before .before .before .before .before .before .before in
     omega (arith, start .pre .roots .limit)
 
 name-requires : tie.Need-name-requires Inv-loop μ-loop
 name-requires c κs =
     let at-loop = c .before .before .before in
     let at-clear-between = at-loop .before .before .before in
-    let at-entry = at-clear-between .before .before .before .before .before .before in
-    let start = at-entry in
+    let start = at-clear-between .before .before .before .before .before .before in
     let loop = at-loop .loop in
     let effect-of = c .before .effect-of in
     let clear-between = at-clear-between .clear-between in
@@ -63,16 +58,14 @@ name-requires c κs =
 
 add-k : tie.Need-add-k Inv-loop μ-loop
 add-k c =
-    let at-entry = c .before .before .before .before .before .before .before .before .before .before .before .before .before .before .before in
-    let start = at-entry in
+    let start = c .before .before .before .before .before .before .before .before .before .before .before .before .before .before .before in
     omega (arith, start .pre .roots .limit)
 
 loop-again : tie.Need-loop-again Inv-loop μ-loop
 loop-again c =
     let at-effect-of = c .before .before .before .before in
     let at-loop = at-effect-of .before .before in
-    let at-entry = at-loop .before .before .before .before .before .before .before .before .before in
-    let start = at-entry in
+    let start = at-loop .before .before .before .before .before .before .before .before .before in
     let loop = at-loop .loop in
     let effect-of = at-effect-of .effect-of in
     let name = c .before .before .name in

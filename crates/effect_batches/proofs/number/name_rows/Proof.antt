@@ -29,17 +29,15 @@ name-below-requires c κs =
 
 add-i : tie.Need-add-i Inv-loop μ-loop
 add-i c =
-    let at-entry = c .before .before .before .before .before .before .before .before .before .before in
-    let start = at-entry in
+    let start = c .before .before .before .before .before .before .before .before .before .before in
     omega (arith, start .pre .0 .rows .limit)
 
 loop-again : tie.Need-loop-again Inv-loop μ-loop
 loop-again c =
     let at-loop = c .before .before .before .before .before .before in
-    let at-entry = at-loop .before .before .before .before in
+    let start = at-loop .before .before .before .before in
     let name-below = c .before .before .name-below in
-    let loop = at-loop .loop in
-    let start = at-entry in (
+    let loop = at-loop .loop in (
       name-below .kept .1 .1 .1 .1 .1 .1 .0 ∙ loop .inv .0,
       omega arith,
       numbered-then (omega arith) (loop .inv .2) (name-below .ensures (start .args .frame .effects) (omega arith)),

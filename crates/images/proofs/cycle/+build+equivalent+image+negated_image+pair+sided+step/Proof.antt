@@ -106,8 +106,7 @@ step-below t = and 7 step-kinds.ps (falls 7 step-kinds.ps _<_ μ-step t) step.Pr
 
 build-mul-scratch : (t : ℕ) → build-lts.Need-mul-scratch (step-below t, step.Post, word-of-reads.Asked, word-of-reads.Learnt) (build-at t) build.Post
 build-mul-scratch t c =
-    let at-entry = c .before .before .before .before .before .before .before .before .before .before .before .before .before .before .before .before .before .before in
-    let start = at-entry in
+    let start = c .before .before .before .before .before .before .before .before .before .before .before .before .before .before .before .before .before .before in
     omega (
       arith,
       c .word-of .ensures,
@@ -117,8 +116,7 @@ build-mul-scratch t c =
 
 build-slice-write-scratch : (t : ℕ) → build-lts.Need-slice-write-scratch (step-below t, step.Post, word-of-reads.Asked, word-of-reads.Learnt) (build-at t) build.Post
 build-slice-write-scratch t c =
-    let at-entry = c .before .before .before .before .before .before .before .before in
-    let made = at-entry in
+    let made = c .before .before .before .before .before .before .before .before in
     let start = made .before .before .before .before .before .before .before .before .before .before in
     omega (
       arith,
@@ -130,8 +128,7 @@ build-slice-write-scratch t c =
 
 build-returns-2 : (t : ℕ) → build-lts.Need-returns-2 (step-below t, step.Post, word-of-reads.Asked, word-of-reads.Learnt) (build-at t) build.Post
 build-returns-2 t c =
-    let at-entry = c .before .before .before .before .before .before .before .before in
-    let made = at-entry in
+    let made = c .before .before .before .before .before .before .before .before in
     let start = made .before .before .before .before .before .before .before .before .before .before in
     rw (c .word-of .ensures)
     (images-noted (side (start .args .not)) (start .pre .1 .formula) (omega (arith, start .pre .1 .source .memo, made .step .kept .1 .1 .1 .1 .1 .1 .1 .1 .0))
@@ -140,8 +137,7 @@ build-returns-2 t c =
 
 equivalent-returns : (t : ℕ) → equivalent-lts.Need-returns (pair-below t, pair.Post, join-reads.Asked, join-reads.Learnt) (equivalent-at t) equivalent.Post
 equivalent-returns t c =
-    let at-entry = c .before .before .before .before .before .before .before in
-    let left = at-entry in
+    let left = c .before .before .before .before .before .before .before in
     let start = left .before .before .before .before .before .before .before .before .before .before in
     left-full (equivalent-joins (framed (start .args .frame .now)) (start .args .formulas .now) (start .args .i) (start .args .not)) (left .pair .ensures)
     (eq-eqb _ 65535 (c .if1 .taken))
@@ -157,8 +153,7 @@ equivalent-pair-requires-2 t c κs =
 
 equivalent-returns-2 : (t : ℕ) → equivalent-lts.Need-returns-2 (pair-below t, pair.Post, join-reads.Asked, join-reads.Learnt) (equivalent-at t) equivalent.Post
 equivalent-returns-2 t c =
-    let at-entry = c .before .before .before .before .before .before .before in
-    let right = at-entry in
+    let right = c .before .before .before .before .before .before .before in
     let one = right .before .before .before .before .before .before in
     let left = one .before .before .before .before .before .before .before in
     let start = left .before .before .before .before .before .before .before .before .before .before in
@@ -201,8 +196,7 @@ negated-image-returns t c =
 
 pair-sided-requires : (t : ℕ) → pair-lts.Need-sided-requires (read-row-reads.Asked, read-row-reads.Learnt, sided-below t, sided.Post, join-reads.Asked, join-reads.Learnt) (pair-at t) pair.Post
 pair-sided-requires t c κs =
-    let at-entry = c .before .before .before .before .before .before in
-    let read = at-entry in
+    let read = c .before .before .before .before .before .before in
     let start = read .before .before .before .before .before in (
       omega (arith, start .pre .0, left-lower (start .pre .1) (read .read-row .result) (read .read-row .ensures)),
       asks-left (start .pre .1) (read .read-row .result) (read .read-row .ensures),
@@ -210,8 +204,7 @@ pair-sided-requires t c κs =
 
 pair-returns : (t : ℕ) → pair-lts.Need-returns (read-row-reads.Asked, read-row-reads.Learnt, sided-below t, sided.Post, join-reads.Asked, join-reads.Learnt) (pair-at t) pair.Post
 pair-returns t c =
-    let at-entry = c .before .before .before .before .before .before .before in
-    let left = at-entry in
+    let left = c .before .before .before .before .before .before .before in
     let read = left .before .before .before .before .before .before .before in
     let start = read .before .before .before .before .before in
     left-full (pair-joins (start .pre .1) (read .read-row .result) (read .read-row .ensures) (start .args .left) (start .args .right) (start .args .or))
@@ -219,8 +212,7 @@ pair-returns t c =
 
 pair-sided-requires-2 : (t : ℕ) → pair-lts.Need-sided-requires-2 (read-row-reads.Asked, read-row-reads.Learnt, sided-below t, sided.Post, join-reads.Asked, join-reads.Learnt) (pair-at t) pair.Post
 pair-sided-requires-2 t c κs =
-    let at-entry = c .before .before .before .before .before .before in
-    let one = at-entry in
+    let one = c .before .before .before .before .before .before in
     let left = one .before .before .before .before .before .before .before in
     let read = left .before .before .before .before .before .before .before in
     let start = read .before .before .before .before .before in (
@@ -231,8 +223,7 @@ pair-sided-requires-2 t c κs =
 
 pair-returns-2 : (t : ℕ) → pair-lts.Need-returns-2 (read-row-reads.Asked, read-row-reads.Learnt, sided-below t, sided.Post, join-reads.Asked, join-reads.Learnt) (pair-at t) pair.Post
 pair-returns-2 t c =
-    let at-entry = c .before .before .before .before .before .before .before in
-    let right = at-entry in
+    let right = c .before .before .before .before .before .before .before in
     let one = right .before .before .before .before .before .before .before in
     let left = one .before .before .before .before .before .before .before in
     let read = left .before .before .before .before .before .before .before in
@@ -318,8 +309,7 @@ step-equivalent-requires t c κs =
 
 step-returns-3 : (t : ℕ) → step-lts.Need-returns-3 (read-row-reads.Asked, read-row-reads.Learnt, leaf-reads.Asked, leaf-reads.Learnt, sided-below t, sided.Post, equivalent-below t, equivalent.Post, pair-below t, pair.Post) (step-at t) step.Post
 step-returns-3 t c =
-    let at-entry = c .before .before .before .before .before .before in
-    let made = at-entry in
+    let made = c .before .before .before .before .before .before in
     let two = made .before .before .before .before .before .before in
     let read = two .before .before .before .before .before .before in
     let start = read .before .before .before .before .before in
@@ -336,8 +326,7 @@ step-pair-requires t c κs =
 
 step-returns-4 : (t : ℕ) → step-lts.Need-returns-4 (read-row-reads.Asked, read-row-reads.Learnt, leaf-reads.Asked, leaf-reads.Learnt, sided-below t, sided.Post, equivalent-below t, equivalent.Post, pair-below t, pair.Post) (step-at t) step.Post
 step-returns-4 t c =
-    let at-entry = c .before .before .before .before .before .before in
-    let made = at-entry in
+    let made = c .before .before .before .before .before .before in
     let three = made .before .before .before .before .before .before .before .before in
     let two = three .before .before in
     let one = two .before .before in

@@ -22,8 +22,7 @@ slice-write-out c = omega (arith, c .before .before .before .pre, c .before .bef
 
 loop-again : tie.Need-loop-again Inv-loop μ-loop
 loop-again c =
-    let at-entry = c .before .before .before in
-    let s = at-entry in
+    let s = c .before .before .before in
     copied-more (s .args .source .now) (s .args .out .now) (s .args .v) (s .pre .0) (s .pre .1) (c .before .before .loop .out) (c .before .before .loop .i)
     (c .before .before .loop .inv) (c .before .loop-test .taken)
 

@@ -56,8 +56,7 @@ add-k c =
 loop-again : tie.Need-loop-again Inv-loop μ-loop
 loop-again c =
     let at-loop = c .before .before .before in
-    let at-entry = at-loop .before in
-    let s = at-entry in
+    let s = at-loop .before in
     opposed-more (s .args .source .now) (s .args .originals .now) (s .args .out .now) (s .args .v) (s .args .w) (s .pre) (at-loop .loop .out) (at-loop .loop .k)
     (at-loop .loop .inv) (c .before .before .loop-test .taken)
 

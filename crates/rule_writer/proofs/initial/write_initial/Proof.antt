@@ -7,8 +7,7 @@ use Rattle.rule_writer.proofs.Values.{values-written}
 returns : tie.Need-returns
 returns c =
     let at-copy = c .before .before .before .before .before .before in
-    let at-entry = at-copy .before .before .before .before .before in
-    let s = at-entry in
+    let s = at-copy .before .before .before .before .before in
     values-written (s .args .source .now) (s .args .originals .now) (s .args .out .now) (s .args .v) (s .args .w) (s .pre) (at-copy .copy .last .1 .0)
     (c .before .before .oppose .last .1 .1 .0) (at-copy .copy .ensures) (c .before .before .oppose .ensures)
 

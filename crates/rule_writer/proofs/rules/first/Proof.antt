@@ -12,8 +12,7 @@ returns c =
 returns-2 : tie.Need-returns-2
 returns-2 c =
     let at-if1 = c .before .before .before .before in
-    let at-entry = at-if1 .before .before in
-    let s = at-entry in
+    let s = at-if1 .before .before in
     rw (c .before .before .conjunct .ensures) (first-done (s .args .room) (s .args .at) (s .args .table .now) (s .args .r) (s .pre) (at-if1 .if1 .left))
 
 pub first-spec : {M : Type 1} → statement M

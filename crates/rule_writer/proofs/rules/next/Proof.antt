@@ -13,8 +13,7 @@ returns-2 : tie.Need-returns-2
 returns-2 c =
     let at-conjunct = c .before .before .before .before .before .before in
     let at-if1 = at-conjunct .before .before in
-    let at-entry = at-if1 .before .before in
-    let s = at-entry in
+    let s = at-if1 .before .before in
     rw (c .before .before .store .ensures, at-conjunct .conjunct .ensures)
     (next-done (s .args .room) (s .args .at) (s .args .table .now) (s .args .r) (s .pre) (at-if1 .if1 .left))
 

@@ -7,8 +7,7 @@ use Rattle.rule_writer.proofs.Writing.{writes-none, writes-as, twin-the
 returns : tie.Need-returns
 returns c =
     let at-if1 = c .before .before .before .before .before .before in
-    let at-entry = at-if1 .before .before .before in
-    let s = at-entry in
+    let s = at-if1 .before .before .before in
     writes-as (twin-there (s .args .frame) (s .args .k) (s .args .r) (at-if1 .if1 .taken)) (c .before .before .write-rule .ensures)
 
 returns-2 : tie.Need-returns-2

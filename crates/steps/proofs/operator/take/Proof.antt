@@ -9,15 +9,14 @@ use Rattle.steps.proofs.operator.take.Tie as tie
 
 holds-requires : tie.Need-holds-requires
 holds-requires c κs =
-    let at-entry = c .before .before .before .before .before .before .before .before .before in
-    let start = at-entry in valuable (start .pre) (asked-below (start .pre) (start .args .number) (c .before .before .asked .ensures))
+    let start = c .before .before .before .before .before .before .before .before .before in
+    valuable (start .pre) (asked-below (start .pre) (start .args .number) (c .before .before .asked .ensures))
 
 returns : tie.Need-returns
 returns c =
     let at-holds = c .before .before .before .before .before in
     let at-asked = at-holds .before .before .before in
-    let at-entry = at-asked .before .before .before .before .before .before .before in
-    let start = at-entry in
+    let start = at-asked .before .before .before .before .before .before .before in
     let n = start .args .number in
     let p = at-asked .asked .ensures in
     let held = at-holds .holds .ensures in (
@@ -39,8 +38,8 @@ effect-of-requires c κs =
 add-carry-out : tie.Need-add-carry-out
 add-carry-out c =
     let at-asked = c .before .before .before .before .before .before .before .before .before in
-    let at-entry = at-asked .before .before .before .before .before .before .before in
-    let start = at-entry in omega (arith, asked-below (start .pre) (start .args .number) (at-asked .asked .ensures))
+    let start = at-asked .before .before .before .before .before .before .before in
+    omega (arith, asked-below (start .pre) (start .args .number) (at-asked .asked .ensures))
 
 carry-out-requires : tie.Need-carry-out-requires
 carry-out-requires c κs =
@@ -48,8 +47,7 @@ carry-out-requires c κs =
     let at-stop-of = at-if1 .before in
     let at-holds = at-stop-of .before .before .before .before in
     let at-asked = at-holds .before .before .before in
-    let at-entry = at-asked .before .before .before .before .before .before .before in
-    let start = at-entry in
+    let start = at-asked .before .before .before .before .before .before .before in
     let held = at-holds .holds in
     rw (c .before .before .effect-of .ensures)
     (conditions-ready (start .pre) (start .args .number) (at-asked .asked .ensures) (held .ensures .0) (at-stop-of .stop-of .ensures) (at-if1 .if1 .left)
@@ -77,8 +75,7 @@ returns-2 c =
     let at-stop-of = at-if1 .before in
     let at-holds = at-stop-of .before .before .before .before in
     let at-asked = at-holds .before .before .before in
-    let at-entry = at-asked .before .before .before .before .before .before .before in
-    let start = at-entry in
+    let start = at-asked .before .before .before .before .before .before .before in
     let n = start .args .number in
     let p = at-asked .asked .ensures in
     let held = at-holds .holds in

@@ -39,8 +39,8 @@ returns-2 : tie.Need-returns-2 Inv-loop μ-loop
 returns-2 c =
     let at-loop-test = c .before .before .before in
     let at-loop = at-loop-test .before in
-    let at-entry = at-loop .before in
-    let s = at-entry in let l = at-loop .loop in every-stops _ _ _ (at-loop-test .loop-test .taken)
+    let s = at-loop .before in
+    let l = at-loop .loop in every-stops _ _ _ (at-loop-test .loop-test .taken)
     (named-before (s .args .twins .now) (l .k) (l .named) (l .inv .2) (s .args .bound) (s .pre .1) (c .before .if1 .left) (c .if2 .taken))
 
 array-write-named : tie.Need-array-write-named Inv-loop μ-loop
@@ -49,8 +49,8 @@ array-write-named c = omega (arith, c .before .if1 .left, c .before .before .bef
 loop-again : tie.Need-loop-again Inv-loop μ-loop
 loop-again c =
     let at-loop = c .before .before .before .before in
-    let at-entry = at-loop .before in
-    let s = at-entry in let l = at-loop .loop in (
+    let s = at-loop .before in
+    let l = at-loop .loop in (
       omega arith,
       every-more _ _ (l .inv .1)
           (named-now (s .args .twins .now) (l .k) (l .named) (l .inv .2) (s .args .bound) (s .pre .1) (c .before .if1 .left) (c .if2 .left)),

@@ -56,8 +56,8 @@ returns-2 c =
     let at-read-word = c .before .before .before .before in
     let at-loop-test = at-read-word .before in
     let at-loop = at-loop-test .before in
-    let at-entry = at-loop .before .before .before in
-    let s = at-entry in let a = s .args in let l = at-loop .loop in twins-broken (a .bound) (a .count) (a .file .now) (a .at) (a .twins .now) (l .twins) (l .k)
+    let s = at-loop .before .before .before in
+    let a = s .args in let l = at-loop .loop in twins-broken (a .bound) (a .count) (a .file .now) (a .at) (a .twins .now) (l .twins) (l .k)
     (l .place) (s .pre .0) (l .inv .0) (at-loop-test .loop-test .taken)
     (sym (at-read-word .read-word .ensures) ∙ ap (field-told (a .file .now)) (c .before .before .f .given .1))
     (twin-high (a .bound) (s .pre .1) (l .twins) (l .k) _ (omega (arith, s .pre .0, l .inv .0 .size, at-loop-test .loop-test .taken)) (c .if1 .taken))
@@ -74,8 +74,8 @@ returns-3 c =
     let at-read-word = at-f .before .before in
     let at-loop-test = at-read-word .before in
     let at-loop = at-loop-test .before in
-    let at-entry = at-loop .before .before .before in
-    let s = at-entry in let a = s .args in let l = at-loop .loop in twins-broken (a .bound) (a .count) (a .file .now) (a .at) (a .twins .now) (l .twins) (l .k)
+    let s = at-loop .before .before .before in
+    let a = s .args in let l = at-loop .loop in twins-broken (a .bound) (a .count) (a .file .now) (a .at) (a .twins .now) (l .twins) (l .k)
     (l .place) (s .pre .0) (l .inv .0) (at-loop-test .loop-test .taken)
     (sym (at-read-word .read-word .ensures) ∙ ap (field-told (a .file .now)) (at-f .f .given .1))
     (twin-before (a .bound) (s .pre .1) (l .twins) (l .k) _ (omega (arith, s .pre .0, l .inv .0 .size, at-loop-test .loop-test .taken)) (l .named) (l .inv .1)
@@ -98,8 +98,8 @@ loop-again c =
     let at-read-word = at-f .before .before in
     let at-loop-test = at-read-word .before in
     let at-loop = at-loop-test .before in
-    let at-entry = at-loop .before .before .before in
-    let s = at-entry in let a = s .args in let l = at-loop .loop in let fits : l .k < length (l .twins) = omega
+    let s = at-loop .before .before .before in
+    let a = s .args in let l = at-loop .loop in let fits : l .k < length (l .twins) = omega
     (arith, s .pre .0, l .inv .0 .size, at-loop-test .loop-test .taken) in (
       twins-more (a .bound) (a .count) (a .file .now) (a .at) (a .twins .now) (l .twins) (l .k) (l .place) (s .pre .0) (l .inv .0)
           (at-loop-test .loop-test .taken) (sym (at-read-word .read-word .ensures) ∙ ap (field-told (a .file .now)) (at-f .f .given .1))

@@ -18,8 +18,8 @@ returns c = sym (field-absent (c .before .before .args .bit) (drop (c .before .b
 returns-2 : tie.Need-returns-2
 returns-2 c =
     let at-if1 = c .before .before .before in
-    let at-entry = at-if1 .before .before in
-    let s = at-entry in ap (field-told (s .args .file .now)) (c .enum-told .given .1) ∙ sym
+    let s = at-if1 .before .before in
+    ap (field-told (s .args .file .now)) (c .enum-told .given .1) ∙ sym
     (field-refused (s .args .bit) (drop (s .args .at) (s .args .file .now)) (at-if1 .if1 .left)
     (sym (c .before .before .read-word .ensures) ∙ ap (field-told (s .args .file .now)) (c .enum-told .given .1)))
 
@@ -28,8 +28,8 @@ returns-3 : tie.Need-returns-3
 returns-3 c =
     let at-read-word = c .before .before .before .before in
     let at-if1 = at-read-word .before in
-    let at-entry = at-if1 .before .before in
-    let s = at-entry in sym
+    let s = at-if1 .before .before in
+    sym
     (field-zero (s .args .bit) (drop (s .args .at) (s .args .file .now)) (at-if1 .if1 .left) (c .if2 .taken)
     (sym (at-read-word .read-word .ensures) ∙ ap (field-told (s .args .file .now)) (c .before .before .f .given .1)))
 
@@ -38,8 +38,8 @@ returns-4 : tie.Need-returns-4
 returns-4 c =
     let at-read-word = c .before .before .before .before in
     let at-if1 = at-read-word .before in
-    let at-entry = at-if1 .before .before in
-    let s = at-entry in sym
+    let s = at-if1 .before .before in
+    sym
     (field-there (s .args .bit) (drop (s .args .at) (s .args .file .now)) (at-if1 .if1 .left) (c .if2 .left)
     (sym (at-read-word .read-word .ensures) ∙ ap (field-told (s .args .file .now)) (c .before .before .f .given .1)))
 

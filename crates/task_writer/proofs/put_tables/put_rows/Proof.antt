@@ -26,8 +26,7 @@ row-at-requires c κs = row-there (c .before .before .before .before .args .tabl
 put-row-requires : tie.Need-put-row-requires Inv-loop μ-loop
 put-row-requires c κs =
     let at-loop = c .before .before .before in
-    let at-entry = at-loop .before .before .before in
-    let start = at-entry in
+    let start = at-loop .before .before .before in
     let at = at-loop .loop in
     rw (c .before .row-at .ensures) (
       omega (arith, start .pre .room, at .inv .within, at .inv .small, c .before .before .loop-test .taken),
@@ -38,8 +37,8 @@ add-i : tie.Need-add-i Inv-loop μ-loop
 add-i c =
     let at-loop-test = c .before .before .before .before .before in
     let at-loop = at-loop-test .before in
-    let at-entry = at-loop .before .before .before in
-    let start = at-entry in omega (arith, start .pre .room, at-loop .loop .inv .within, at-loop-test .loop-test .taken)
+    let start = at-loop .before .before .before in
+    omega (arith, start .pre .room, at-loop .loop .inv .within, at-loop-test .loop-test .taken)
 
 loop-less : tie.Need-loop-less Inv-loop μ-loop
 loop-less c = omega (arith, c .before .before .before .before .before .loop-test .taken)
