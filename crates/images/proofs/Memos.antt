@@ -222,17 +222,19 @@ module _ {p : Polarity} {m left right : Build ℕ} {frame : Frame} {formulas : L
         (images-bind (λ b. join p (l .row) b) y g
         (images-leaf (steady-join p (l .row) (r .row)) (y .memo g) b)))
 
--- The memo has formula i.
+-- The memo has formula i, in word k.
 pub images-known :
-    {frame : Frame} {formulas : List ℕ} {at : Size} {before : Store} {scratch : List ℕ} {i : ℕ} (p : Polarity)
+    {frame : Frame} {formulas : List ℕ} {at : Size} {before : Store} {scratch : List ℕ} {i k : ℕ} (p : Polarity)
     → Asks frame formulas at before scratch i
-    → (getD scratch (memo-place frame p i) 0 ≡ 0 → ⊥)
+    → k ≡ memo-place frame p i
+    → (getD scratch k 0 ≡ 0 → ⊥)
     → Images (image-at frame formulas p i) frame formulas at before before scratch scratch
-    (stepped (at .rows) (at .twins) (getD scratch (memo-place frame p i) 0 - 1))
+    (stepped (at .rows) (at .twins) (getD scratch k 0 - 1))
 unfolding held
-images-known {frame} {at = at} {before = before} {scratch} {i} p a some =
-    let w = getD scratch (memo-place frame p i) 0 in
-    let k = a .memo .known p i (w - 1) (a .formula) (omega arith) in
+images-known {frame} {at = at} {before = before} {scratch} {i} {k} p a e some =
+    let w = getD scratch k 0 in
+    let here : w ≡ w - 1 + 1 = omega arith in
+    let k = a .memo .known p i (w - 1) (a .formula) (ap (λ x. getD scratch x 0) (sym e) ∙ here) in
     let b : w - 1 < at .rows = rw (length-upto (at .rows) (row-at (before .table))) at (k .below) in
     let rows = a .ready .rows in
     record {

@@ -193,12 +193,17 @@ fn equivalent(
     requires { ⌜ AsksPair (framed (now frame)) (now formulas) (sized (now rows) (now twins)) (store (now table) (now originals)) (now scratch) i ⌝ }
     ensures { λ r. ⌜ Images (equivalent-at (framed (now (frame .entry))) (now (formulas .entry)) i not) (framed (now (frame .entry))) (now (formulas .entry)) (sized (now (rows .entry)) (now (twins .entry))) (store (now (table .entry)) (now (originals .entry))) (store (now (table .exit)) (now (originals .exit))) (now (scratch .entry)) (now (scratch .exit)) (stepped (now (rows .exit)) (now (twins .exit)) r) ⌝ }
 {
-    let l = pair(
+    let w = read_row(formulas, i);
+    let a = w.a as usize;
+    let b = w.b as usize;
+    let x = image(formulas, a, frame, rows, twins, table, originals, scratch);
+    if x == NO_ROOM {
+        return x;
+    }
+    let y = sided(
         formulas,
-        i,
-        false,
+        b,
         not,
-        false,
         frame,
         rows,
         twins,
@@ -206,15 +211,21 @@ fn equivalent(
         originals,
         scratch,
     );
+    if y == NO_ROOM {
+        return y;
+    }
+    let l = join(rows, table, frame[ROWS], false, x, y);
     if l == NO_ROOM {
         return l;
     }
-    let r = pair(
+    let z = negated_image(formulas, a, frame, rows, twins, table, originals, scratch);
+    if z == NO_ROOM {
+        return z;
+    }
+    let v = sided(
         formulas,
-        i,
-        true,
+        b,
         !not,
-        false,
         frame,
         rows,
         twins,
@@ -222,6 +233,10 @@ fn equivalent(
         originals,
         scratch,
     );
+    if v == NO_ROOM {
+        return v;
+    }
+    let r = join(rows, table, frame[ROWS], false, z, v);
     if r == NO_ROOM {
         return r;
     }
@@ -277,7 +292,7 @@ fn pair(
     join(rows, table, frame[ROWS], or, l, r)
 }
 
-// The image of formula i, or its negated image.
+// The image of formula i, or its negated image, by a flag. The memo is looked at here, before a call is made.
 pub fn sided(
     formulas: &[u16],
     i: usize,
@@ -292,8 +307,20 @@ pub fn sided(
     requires { ⌜ Asks (framed (now frame)) (now formulas) (sized (now rows) (now twins)) (store (now table) (now originals)) (now scratch) i ⌝ }
     ensures { λ r. ⌜ Images (image-at (framed (now (frame .entry))) (now (formulas .entry)) (side not) i) (framed (now (frame .entry))) (now (formulas .entry)) (sized (now (rows .entry)) (now (twins .entry))) (store (now (table .entry)) (now (originals .entry))) (store (now (table .exit)) (now (originals .exit))) (now (scratch .entry)) (now (scratch .exit)) (stepped (now (rows .exit)) (now (twins .exit)) r) ⌝ }
 {
-    if not {
-        return negated_image(formulas, i, frame, rows, twins, table, originals, scratch);
+    let k = word_of(frame, i, not);
+    let known = scratch[k];
+    if known != 0 {
+        return known - 1;
     }
-    image(formulas, i, frame, rows, twins, table, originals, scratch)
+    build(
+        formulas,
+        i,
+        not,
+        frame,
+        rows,
+        twins,
+        table,
+        originals,
+        scratch,
+    )
 }

@@ -34,7 +34,8 @@ use borrow.Author.Needs.{needs}
 use borrow.Author.Tests.{eq-eqb, ne-eqb}
 use Prim.Native.Nat.{_+_, _*_}
 use native.Mathlib.Omega.{arith}
-use mathlib.Core.Path.{refl}
+use mathlib.Core.Path.{refl, _∙_}
+use mathlib.Core.Bool.{true, false, not}
 use Rattle.normal_form.specs.Builder.{plain, negated}
 use Rattle.formula_builder.specs.Inner.Held.{side, framed}
 use Rattle.images.proofs.Rows.{negated-operand, of-not, of-pair, of-equivalent}
@@ -57,7 +58,7 @@ abbrev μ-pair : Measures 7 pair-kinds.ps ℕ
 μ-pair κs a = 6 * a .1 .0
 
 abbrev μ-sided : Measures 7 sided-kinds.ps ℕ
-μ-sided κs a = 6 * a .1 .0 + 5
+μ-sided κs a = 6 * a .1 .0 + 4
 
 abbrev μ-step : Measures 7 step-kinds.ps ℕ
 μ-step κs a = 6 * a .1 .0 + 2
@@ -135,64 +136,385 @@ build-returns-2 t c =
     (made .step .ensures)
     (ne-eqb _ 65535 (c .before .if1 .left)))
 
-equivalent-returns : (t : ℕ) → equivalent-lts.Need-returns (pair-below t, pair.Post, join-reads.Asked, join-reads.Learnt) (equivalent-at t) equivalent.Post
+equivalent-image-requires : (t : ℕ) → equivalent-lts.Need-image-requires (read-row-reads.Asked, read-row-reads.Learnt, image-below t, image.Post, sided-below t, sided.Post, join-reads.Asked, join-reads.Learnt, negated-image-below t, negated-image.Post) (equivalent-at t) equivalent.Post
+equivalent-image-requires t c κs =
+    let read = c .before .before .before .before .before .before .before in
+    let start = read .before .before .before .before .before in
+    let asks = start .pre .1 in
+    let w = read .read-row .result in
+    let same = read .read-row .ensures in
+    (omega (arith, start .pre .0, left-lower asks w same), asks-left asks w same)
+
+equivalent-same-length-10 : (t : ℕ) → equivalent-lts.Need-same-length-10 (read-row-reads.Asked, read-row-reads.Learnt, image-below t, image.Post, sided-below t, sided.Post, join-reads.Asked, join-reads.Learnt, negated-image-below t, negated-image.Post) (equivalent-at t) equivalent.Post
+equivalent-same-length-10 t c =
+    let four = c .before .before .before .before .before .before .before in
+    let three = four .before .before .before .before .before .before .before .before .before in
+    let two = three .before .before .before .before .before .before .before .before .before .before .before in
+    let one = two .before .before .before .before .before .before .before .before .before .before .before .before .before in
+    four .negated-image .kept .1 .1 .1 .1 .1 .0 ∙ three .join .kept .1 .0 ∙ two .sided .kept .1 .1 .1 .1 .1 .1 .0 ∙ one .image .kept .1 .1 .1 .1 .1 .0
+
+equivalent-same-length-11 : (t : ℕ) → equivalent-lts.Need-same-length-11 (read-row-reads.Asked, read-row-reads.Learnt, image-below t, image.Post, sided-below t, sided.Post, join-reads.Asked, join-reads.Learnt, negated-image-below t, negated-image.Post) (equivalent-at t) equivalent.Post
+equivalent-same-length-11 t c =
+    let four = c .before .before .before .before .before .before .before in
+    let two = four .before .before .before .before .before .before .before .before .before .before .before .before .before .before .before .before .before .before .before .before in
+    let one = two .before .before .before .before .before .before .before .before .before .before .before .before .before in
+    four .negated-image .kept .1 .1 .1 .1 .1 .1 .0 ∙ two .sided .kept .1 .1 .1 .1 .1 .1 .1 .0 ∙ one .image .kept .1 .1 .1 .1 .1 .1 .0
+
+equivalent-same-length-12 : (t : ℕ) → equivalent-lts.Need-same-length-12 (read-row-reads.Asked, read-row-reads.Learnt, image-below t, image.Post, sided-below t, sided.Post, join-reads.Asked, join-reads.Learnt, negated-image-below t, negated-image.Post) (equivalent-at t) equivalent.Post
+equivalent-same-length-12 t c =
+    let four = c .before .before .before .before .before .before .before in
+    let two = four .before .before .before .before .before .before .before .before .before .before .before .before .before .before .before .before .before .before .before .before in
+    let one = two .before .before .before .before .before .before .before .before .before .before .before .before .before in
+    four .negated-image .kept .1 .1 .1 .1 .1 .1 .1 .0 ∙ two .sided .kept .1 .1 .1 .1 .1 .1 .1 .1 .0 ∙ one .image .kept .1 .1 .1 .1 .1 .1 .1 .0
+
+equivalent-same-length-13 : (t : ℕ) → equivalent-lts.Need-same-length-13 (read-row-reads.Asked, read-row-reads.Learnt, image-below t, image.Post, sided-below t, sided.Post, join-reads.Asked, join-reads.Learnt, negated-image-below t, negated-image.Post) (equivalent-at t) equivalent.Post
+equivalent-same-length-13 t c =
+    let five = c .before .before .before .before .before .before .before in
+    let four = five .before .before .before .before .before .before .before .before .before .before .before .before .before in
+    let three = four .before .before .before .before .before .before .before .before .before in
+    let two = three .before .before .before .before .before .before .before .before .before .before .before in
+    let one = two .before .before .before .before .before .before .before .before .before .before .before .before .before in
+    five .sided2 .kept .1 .1 .1 .1 .1 .1 .0 ∙ four .negated-image .kept .1 .1 .1 .1 .1 .0 ∙ three .join .kept .1 .0 ∙ two .sided .kept .1 .1 .1 .1 .1 .1 .0 ∙ one .image .kept .1 .1 .1 .1 .1 .0
+
+equivalent-same-length-14 : (t : ℕ) → equivalent-lts.Need-same-length-14 (read-row-reads.Asked, read-row-reads.Learnt, image-below t, image.Post, sided-below t, sided.Post, join-reads.Asked, join-reads.Learnt, negated-image-below t, negated-image.Post) (equivalent-at t) equivalent.Post
+equivalent-same-length-14 t c =
+    let five = c .before .before .before .before .before .before .before in
+    let four = five .before .before .before .before .before .before .before .before .before .before .before .before .before in
+    let two = four .before .before .before .before .before .before .before .before .before .before .before .before .before .before .before .before .before .before .before .before in
+    let one = two .before .before .before .before .before .before .before .before .before .before .before .before .before in
+    five .sided2 .kept .1 .1 .1 .1 .1 .1 .1 .0 ∙ four .negated-image .kept .1 .1 .1 .1 .1 .1 .0 ∙ two .sided .kept .1 .1 .1 .1 .1 .1 .1 .0 ∙ one .image .kept .1 .1 .1 .1 .1 .1 .0
+
+equivalent-same-length-15 : (t : ℕ) → equivalent-lts.Need-same-length-15 (read-row-reads.Asked, read-row-reads.Learnt, image-below t, image.Post, sided-below t, sided.Post, join-reads.Asked, join-reads.Learnt, negated-image-below t, negated-image.Post) (equivalent-at t) equivalent.Post
+equivalent-same-length-15 t c =
+    let five = c .before .before .before .before .before .before .before in
+    let four = five .before .before .before .before .before .before .before .before .before .before .before .before .before in
+    let two = four .before .before .before .before .before .before .before .before .before .before .before .before .before .before .before .before .before .before .before .before in
+    let one = two .before .before .before .before .before .before .before .before .before .before .before .before .before in
+    five .sided2 .kept .1 .1 .1 .1 .1 .1 .1 .1 .0 ∙ four .negated-image .kept .1 .1 .1 .1 .1 .1 .1 .0 ∙ two .sided .kept .1 .1 .1 .1 .1 .1 .1 .1 .0 ∙ one .image .kept .1 .1 .1 .1 .1 .1 .1 .0
+
+equivalent-same-length-16 : (t : ℕ) → equivalent-lts.Need-same-length-16 (read-row-reads.Asked, read-row-reads.Learnt, image-below t, image.Post, sided-below t, sided.Post, join-reads.Asked, join-reads.Learnt, negated-image-below t, negated-image.Post) (equivalent-at t) equivalent.Post
+equivalent-same-length-16 t c =
+    let six = c .before .before .before in
+    let five = six .before .before .before .before .before .before .before .before .before .before .before in
+    let four = five .before .before .before .before .before .before .before .before .before .before .before .before .before in
+    let three = four .before .before .before .before .before .before .before .before .before in
+    let two = three .before .before .before .before .before .before .before .before .before .before .before in
+    let one = two .before .before .before .before .before .before .before .before .before .before .before .before .before in
+    six .join2 .kept .1 .0 ∙ five .sided2 .kept .1 .1 .1 .1 .1 .1 .0 ∙ four .negated-image .kept .1 .1 .1 .1 .1 .0 ∙ three .join .kept .1 .0 ∙ two .sided .kept .1 .1 .1 .1 .1 .1 .0 ∙ one .image .kept .1 .1 .1 .1 .1 .0
+
+equivalent-same-length-17 : (t : ℕ) → equivalent-lts.Need-same-length-17 (read-row-reads.Asked, read-row-reads.Learnt, image-below t, image.Post, sided-below t, sided.Post, join-reads.Asked, join-reads.Learnt, negated-image-below t, negated-image.Post) (equivalent-at t) equivalent.Post
+equivalent-same-length-17 t c =
+    let five = c .before .before .before .before .before .before .before .before .before .before .before .before .before .before in
+    let four = five .before .before .before .before .before .before .before .before .before .before .before .before .before in
+    let two = four .before .before .before .before .before .before .before .before .before .before .before .before .before .before .before .before .before .before .before .before in
+    let one = two .before .before .before .before .before .before .before .before .before .before .before .before .before in
+    five .sided2 .kept .1 .1 .1 .1 .1 .1 .1 .0 ∙ four .negated-image .kept .1 .1 .1 .1 .1 .1 .0 ∙ two .sided .kept .1 .1 .1 .1 .1 .1 .1 .0 ∙ one .image .kept .1 .1 .1 .1 .1 .1 .0
+
+equivalent-same-length-18 : (t : ℕ) → equivalent-lts.Need-same-length-18 (read-row-reads.Asked, read-row-reads.Learnt, image-below t, image.Post, sided-below t, sided.Post, join-reads.Asked, join-reads.Learnt, negated-image-below t, negated-image.Post) (equivalent-at t) equivalent.Post
+equivalent-same-length-18 t c =
+    let five = c .before .before .before .before .before .before .before .before .before .before .before .before .before .before in
+    let four = five .before .before .before .before .before .before .before .before .before .before .before .before .before in
+    let two = four .before .before .before .before .before .before .before .before .before .before .before .before .before .before .before .before .before .before .before .before in
+    let one = two .before .before .before .before .before .before .before .before .before .before .before .before .before in
+    five .sided2 .kept .1 .1 .1 .1 .1 .1 .1 .1 .0 ∙ four .negated-image .kept .1 .1 .1 .1 .1 .1 .1 .0 ∙ two .sided .kept .1 .1 .1 .1 .1 .1 .1 .1 .0 ∙ one .image .kept .1 .1 .1 .1 .1 .1 .1 .0
+
+equivalent-same-length-19 : (t : ℕ) → equivalent-lts.Need-same-length-19 (read-row-reads.Asked, read-row-reads.Learnt, image-below t, image.Post, sided-below t, sided.Post, join-reads.Asked, join-reads.Learnt, negated-image-below t, negated-image.Post) (equivalent-at t) equivalent.Post
+equivalent-same-length-19 t c =
+    let last = c .before .before in
+    let six = last .before .before .before .before .before .before .before in
+    let five = six .before .before .before .before .before .before .before .before .before .before .before in
+    let four = five .before .before .before .before .before .before .before .before .before .before .before .before .before in
+    let three = four .before .before .before .before .before .before .before .before .before in
+    let two = three .before .before .before .before .before .before .before .before .before .before .before in
+    let one = two .before .before .before .before .before .before .before .before .before .before .before .before .before in
+    last .join3 .kept .1 .0 ∙ six .join2 .kept .1 .0 ∙ five .sided2 .kept .1 .1 .1 .1 .1 .1 .0 ∙ four .negated-image .kept .1 .1 .1 .1 .1 .0 ∙ three .join .kept .1 .0 ∙ two .sided .kept .1 .1 .1 .1 .1 .1 .0 ∙ one .image .kept .1 .1 .1 .1 .1 .0
+
+equivalent-same-length-20 : (t : ℕ) → equivalent-lts.Need-same-length-20 (read-row-reads.Asked, read-row-reads.Learnt, image-below t, image.Post, sided-below t, sided.Post, join-reads.Asked, join-reads.Learnt, negated-image-below t, negated-image.Post) (equivalent-at t) equivalent.Post
+equivalent-same-length-20 t c =
+    let five = c .before .before .before .before .before .before .before .before .before .before .before .before .before .before .before .before .before .before .before .before in
+    let four = five .before .before .before .before .before .before .before .before .before .before .before .before .before in
+    let two = four .before .before .before .before .before .before .before .before .before .before .before .before .before .before .before .before .before .before .before .before in
+    let one = two .before .before .before .before .before .before .before .before .before .before .before .before .before in
+    five .sided2 .kept .1 .1 .1 .1 .1 .1 .1 .0 ∙ four .negated-image .kept .1 .1 .1 .1 .1 .1 .0 ∙ two .sided .kept .1 .1 .1 .1 .1 .1 .1 .0 ∙ one .image .kept .1 .1 .1 .1 .1 .1 .0
+
+equivalent-same-length-21 : (t : ℕ) → equivalent-lts.Need-same-length-21 (read-row-reads.Asked, read-row-reads.Learnt, image-below t, image.Post, sided-below t, sided.Post, join-reads.Asked, join-reads.Learnt, negated-image-below t, negated-image.Post) (equivalent-at t) equivalent.Post
+equivalent-same-length-21 t c =
+    let five = c .before .before .before .before .before .before .before .before .before .before .before .before .before .before .before .before .before .before .before .before in
+    let four = five .before .before .before .before .before .before .before .before .before .before .before .before .before in
+    let two = four .before .before .before .before .before .before .before .before .before .before .before .before .before .before .before .before .before .before .before .before in
+    let one = two .before .before .before .before .before .before .before .before .before .before .before .before .before in
+    five .sided2 .kept .1 .1 .1 .1 .1 .1 .1 .1 .0 ∙ four .negated-image .kept .1 .1 .1 .1 .1 .1 .1 .0 ∙ two .sided .kept .1 .1 .1 .1 .1 .1 .1 .1 .0 ∙ one .image .kept .1 .1 .1 .1 .1 .1 .1 .0
+
+equivalent-returns : (t : ℕ) → equivalent-lts.Need-returns (read-row-reads.Asked, read-row-reads.Learnt, image-below t, image.Post, sided-below t, sided.Post, join-reads.Asked, join-reads.Learnt, negated-image-below t, negated-image.Post) (equivalent-at t) equivalent.Post
 equivalent-returns t c =
-    let left = c .before .before .before .before .before .before .before in
-    let start = left .before .before .before .before .before .before .before .before .before .before in
-    left-full (equivalent-joins (framed (start .args .frame .now)) (start .args .formulas .now) (start .args .i) (start .args .not)) (left .pair .ensures)
-    (eq-eqb _ 65535 (c .if1 .taken))
+    let one = c .before .before .before .before .before .before .before in
+    let read = one .before .before .before .before .before .before .before .before in
+    let start = read .before .before .before .before .before in
+    let whole = equivalent-joins (framed (start .args .frame .now)) (start .args .formulas .now) (start .args .i) (start .args .not) in
+    let asks = start .pre .1 in
+    let w = read .read-row .result in
+    let same = read .read-row .ensures in
+    let first = pair-joins asks w same false (start .args .not) false in
+    left-full whole (left-full first (one .image .ensures) (eq-eqb _ 65535 (c .if1 .taken))) (eq-eqb _ 65535 (c .if1 .taken))
 
-equivalent-pair-requires-2 : (t : ℕ) → equivalent-lts.Need-pair-requires-2 (pair-below t, pair.Post, join-reads.Asked, join-reads.Learnt) (equivalent-at t) equivalent.Post
-equivalent-pair-requires-2 t c κs =
-    let one = c .before .before .before .before .before in
-    let left = one .before .before .before .before .before .before .before in
-    let start = left .before .before .before .before .before .before .before .before .before .before in (
-      omega (arith, start .pre .0),
-      asks-second (start .pre .1) (left .pair .ensures) (ne-eqb _ 65535 (one .if1 .left)) (left .pair .kept .1 .1 .1 .1 .1 .1 .1 .1 .1 .1 .0),
-    )
+equivalent-sided-requires : (t : ℕ) → equivalent-lts.Need-sided-requires (read-row-reads.Asked, read-row-reads.Learnt, image-below t, image.Post, sided-below t, sided.Post, join-reads.Asked, join-reads.Learnt, negated-image-below t, negated-image.Post) (equivalent-at t) equivalent.Post
+equivalent-sided-requires t c κs =
+    let there1 = c .before .before .before .before .before in
+    let one = there1 .before .before .before .before .before .before .before in
+    let read = one .before .before .before .before .before .before .before .before in
+    let start = read .before .before .before .before .before in
+    let asks = start .pre .1 in
+    let w = read .read-row .result in
+    let same = read .read-row .ensures in
+    (omega (arith, start .pre .0, right-lower asks w same), asks-right asks w same (one .image .ensures) (ne-eqb _ 65535 (there1 .if1 .left)) (one .image .kept .1 .1 .1 .1 .1 .1 .1 .0))
 
-equivalent-returns-2 : (t : ℕ) → equivalent-lts.Need-returns-2 (pair-below t, pair.Post, join-reads.Asked, join-reads.Learnt) (equivalent-at t) equivalent.Post
+equivalent-returns-2 : (t : ℕ) → equivalent-lts.Need-returns-2 (read-row-reads.Asked, read-row-reads.Learnt, image-below t, image.Post, sided-below t, sided.Post, join-reads.Asked, join-reads.Learnt, negated-image-below t, negated-image.Post) (equivalent-at t) equivalent.Post
 equivalent-returns-2 t c =
-    let right = c .before .before .before .before .before .before .before in
-    let one = right .before .before .before .before .before .before in
-    let left = one .before .before .before .before .before .before .before in
-    let start = left .before .before .before .before .before .before .before .before .before .before in
-    right-full (equivalent-joins (framed (start .args .frame .now)) (start .args .formulas .now) (start .args .i) (start .args .not)) (left .pair .ensures)
-    (ne-eqb _ 65535 (one .if1 .left))
-    (right .pair2 .ensures) (eq-eqb _ 65535 (c .if2 .taken))
+    let two = c .before .before .before .before .before .before .before in
+    let there1 = two .before .before .before .before .before .before in
+    let one = there1 .before .before .before .before .before .before .before in
+    let read = one .before .before .before .before .before .before .before .before in
+    let start = read .before .before .before .before .before in
+    let whole = equivalent-joins (framed (start .args .frame .now)) (start .args .formulas .now) (start .args .i) (start .args .not) in
+    let asks = start .pre .1 in
+    let w = read .read-row .result in
+    let same = read .read-row .ensures in
+    let first = pair-joins asks w same false (start .args .not) false in
+    left-full whole (right-full first (one .image .ensures) (ne-eqb _ 65535 (there1 .if1 .left)) (two .sided .ensures) (eq-eqb _ 65535 (c .if2 .taken))) (eq-eqb _ 65535 (c .if2 .taken))
 
-equivalent-join-requires : (t : ℕ) → equivalent-lts.Need-join-requires (pair-below t, pair.Post, join-reads.Asked, join-reads.Learnt) (equivalent-at t) equivalent.Post
+equivalent-join-requires : (t : ℕ) → equivalent-lts.Need-join-requires (read-row-reads.Asked, read-row-reads.Learnt, image-below t, image.Post, sided-below t, sided.Post, join-reads.Asked, join-reads.Learnt, negated-image-below t, negated-image.Post) (equivalent-at t) equivalent.Post
 equivalent-join-requires t c κs =
-    let two = c .before .before .before in
-    let right = two .before .before .before .before .before .before .before in
-    let one = right .before .before .before .before .before .before in
-    let left = one .before .before .before .before .before .before .before in
-    join-asks (left .pair .ensures .builds) (ne-eqb _ 65535 (one .if1 .left))
-    (right .pair2 .ensures .builds) (ne-eqb _ 65535 (two .if2 .left))
+    let there2 = c .before .before .before in
+    let two = there2 .before .before .before .before .before .before .before in
+    let there1 = two .before .before .before .before .before .before in
+    let one = there1 .before .before .before .before .before .before .before in
+    join-asks (one .image .ensures .builds) (ne-eqb _ 65535 (there1 .if1 .left)) (two .sided .ensures .builds) (ne-eqb _ 65535 (there2 .if2 .left))
 
-equivalent-returns-3 : (t : ℕ) → equivalent-lts.Need-returns-3 (pair-below t, pair.Post, join-reads.Asked, join-reads.Learnt) (equivalent-at t) equivalent.Post
+equivalent-returns-3 : (t : ℕ) → equivalent-lts.Need-returns-3 (read-row-reads.Asked, read-row-reads.Learnt, image-below t, image.Post, sided-below t, sided.Post, join-reads.Asked, join-reads.Learnt, negated-image-below t, negated-image.Post) (equivalent-at t) equivalent.Post
 equivalent-returns-3 t c =
-    let end = c .before .before in
-    let two = end .before .before .before .before in
-    let right = two .before .before .before .before .before .before .before in
-    let one = right .before .before .before .before .before .before in
-    let left = one .before .before .before .before .before .before .before in
-    let start = left .before .before .before .before .before .before .before .before .before .before in
-    let x = left .pair .ensures in
-    let y = right .pair2 .ensures in
-    let e = ne-eqb _ 65535 (two .if2 .left) in
-    joined (equivalent-joins (framed (start .args .frame .now)) (start .args .formulas .now) (start .args .i) (start .args .not)) x
-    (ne-eqb _ 65535 (one .if1 .left)) y e (end .join .ensures _ _ _ refl (y .builds .done e .ready))
+    let three = c .before .before .before in
+    let there2 = three .before .before .before .before in
+    let two = there2 .before .before .before .before .before .before .before in
+    let there1 = two .before .before .before .before .before .before in
+    let one = there1 .before .before .before .before .before .before .before in
+    let read = one .before .before .before .before .before .before .before .before in
+    let start = read .before .before .before .before .before in
+    let whole = equivalent-joins (framed (start .args .frame .now)) (start .args .formulas .now) (start .args .i) (start .args .not) in
+    let asks = start .pre .1 in
+    let w = read .read-row .result in
+    let same = read .read-row .ensures in
+    let first = pair-joins asks w same false (start .args .not) false in
+    let x = one .image .ensures in
+    let y = two .sided .ensures in
+    let l = joined first x (ne-eqb _ 65535 (there1 .if1 .left)) y (ne-eqb _ 65535 (there2 .if2 .left)) (three .join .ensures _ _ _ refl (y .builds .done (ne-eqb _ 65535 (there2 .if2 .left)) .ready)) in
+    left-full whole l (eq-eqb _ 65535 (c .if3 .taken))
+
+equivalent-negated-image-requires : (t : ℕ) → equivalent-lts.Need-negated-image-requires (read-row-reads.Asked, read-row-reads.Learnt, image-below t, image.Post, sided-below t, sided.Post, join-reads.Asked, join-reads.Learnt, negated-image-below t, negated-image.Post) (equivalent-at t) equivalent.Post
+equivalent-negated-image-requires t c κs =
+    let there3 = c .before .before .before .before .before in
+    let three = there3 .before .before .before in
+    let there2 = three .before .before .before .before in
+    let two = there2 .before .before .before .before .before .before .before in
+    let there1 = two .before .before .before .before .before .before in
+    let one = there1 .before .before .before .before .before .before .before in
+    let read = one .before .before .before .before .before .before .before .before in
+    let start = read .before .before .before .before .before in
+    let asks = start .pre .1 in
+    let w = read .read-row .result in
+    let same = read .read-row .ensures in
+    let first = pair-joins asks w same false (start .args .not) false in
+    let x = one .image .ensures in
+    let y = two .sided .ensures in
+    let l = joined first x (ne-eqb _ 65535 (there1 .if1 .left)) y (ne-eqb _ 65535 (there2 .if2 .left)) (three .join .ensures _ _ _ refl (y .builds .done (ne-eqb _ 65535 (there2 .if2 .left)) .ready)) in
+    let long = two .sided .kept .1 .1 .1 .1 .1 .1 .1 .1 .0 ∙ one .image .kept .1 .1 .1 .1 .1 .1 .1 .0 in
+    let again = asks-second asks l (ne-eqb _ 65535 (there3 .if3 .left)) long in
+    (omega (arith, start .pre .0, left-lower asks w same), asks-left again w same)
+
+equivalent-returns-4 : (t : ℕ) → equivalent-lts.Need-returns-4 (read-row-reads.Asked, read-row-reads.Learnt, image-below t, image.Post, sided-below t, sided.Post, join-reads.Asked, join-reads.Learnt, negated-image-below t, negated-image.Post) (equivalent-at t) equivalent.Post
+equivalent-returns-4 t c =
+    let four = c .before .before .before .before .before .before .before in
+    let there3 = four .before .before .before .before .before .before in
+    let three = there3 .before .before .before in
+    let there2 = three .before .before .before .before in
+    let two = there2 .before .before .before .before .before .before .before in
+    let there1 = two .before .before .before .before .before .before in
+    let one = there1 .before .before .before .before .before .before .before in
+    let read = one .before .before .before .before .before .before .before .before in
+    let start = read .before .before .before .before .before in
+    let whole = equivalent-joins (framed (start .args .frame .now)) (start .args .formulas .now) (start .args .i) (start .args .not) in
+    let asks = start .pre .1 in
+    let w = read .read-row .result in
+    let same = read .read-row .ensures in
+    let first = pair-joins asks w same false (start .args .not) false in
+    let x = one .image .ensures in
+    let y = two .sided .ensures in
+    let l = joined first x (ne-eqb _ 65535 (there1 .if1 .left)) y (ne-eqb _ 65535 (there2 .if2 .left)) (three .join .ensures _ _ _ refl (y .builds .done (ne-eqb _ 65535 (there2 .if2 .left)) .ready)) in
+    let long = two .sided .kept .1 .1 .1 .1 .1 .1 .1 .1 .0 ∙ one .image .kept .1 .1 .1 .1 .1 .1 .1 .0 in
+    let again = asks-second asks l (ne-eqb _ 65535 (there3 .if3 .left)) long in
+    let second = pair-joins again w same true (not (start .args .not)) false in
+    right-full whole l (ne-eqb _ 65535 (there3 .if3 .left)) (left-full second (four .negated-image .ensures) (eq-eqb _ 65535 (c .if4 .taken))) (eq-eqb _ 65535 (c .if4 .taken))
+
+equivalent-sided-requires-2 : (t : ℕ) → equivalent-lts.Need-sided-requires-2 (read-row-reads.Asked, read-row-reads.Learnt, image-below t, image.Post, sided-below t, sided.Post, join-reads.Asked, join-reads.Learnt, negated-image-below t, negated-image.Post) (equivalent-at t) equivalent.Post
+equivalent-sided-requires-2 t c κs =
+    let there4 = c .before .before .before .before .before in
+    let four = there4 .before .before .before .before .before .before .before in
+    let there3 = four .before .before .before .before .before .before in
+    let three = there3 .before .before .before in
+    let there2 = three .before .before .before .before in
+    let two = there2 .before .before .before .before .before .before .before in
+    let there1 = two .before .before .before .before .before .before in
+    let one = there1 .before .before .before .before .before .before .before in
+    let read = one .before .before .before .before .before .before .before .before in
+    let start = read .before .before .before .before .before in
+    let asks = start .pre .1 in
+    let w = read .read-row .result in
+    let same = read .read-row .ensures in
+    let first = pair-joins asks w same false (start .args .not) false in
+    let x = one .image .ensures in
+    let y = two .sided .ensures in
+    let l = joined first x (ne-eqb _ 65535 (there1 .if1 .left)) y (ne-eqb _ 65535 (there2 .if2 .left)) (three .join .ensures _ _ _ refl (y .builds .done (ne-eqb _ 65535 (there2 .if2 .left)) .ready)) in
+    let long = two .sided .kept .1 .1 .1 .1 .1 .1 .1 .1 .0 ∙ one .image .kept .1 .1 .1 .1 .1 .1 .1 .0 in
+    let again = asks-second asks l (ne-eqb _ 65535 (there3 .if3 .left)) long in
+    (omega (arith, start .pre .0, right-lower asks w same), asks-right again w same (four .negated-image .ensures) (ne-eqb _ 65535 (there4 .if4 .left)) (four .negated-image .kept .1 .1 .1 .1 .1 .1 .1 .0))
+
+equivalent-returns-5 : (t : ℕ) → equivalent-lts.Need-returns-5 (read-row-reads.Asked, read-row-reads.Learnt, image-below t, image.Post, sided-below t, sided.Post, join-reads.Asked, join-reads.Learnt, negated-image-below t, negated-image.Post) (equivalent-at t) equivalent.Post
+equivalent-returns-5 t c =
+    let five = c .before .before .before .before .before .before .before in
+    let there4 = five .before .before .before .before .before .before in
+    let four = there4 .before .before .before .before .before .before .before in
+    let there3 = four .before .before .before .before .before .before in
+    let three = there3 .before .before .before in
+    let there2 = three .before .before .before .before in
+    let two = there2 .before .before .before .before .before .before .before in
+    let there1 = two .before .before .before .before .before .before in
+    let one = there1 .before .before .before .before .before .before .before in
+    let read = one .before .before .before .before .before .before .before .before in
+    let start = read .before .before .before .before .before in
+    let whole = equivalent-joins (framed (start .args .frame .now)) (start .args .formulas .now) (start .args .i) (start .args .not) in
+    let asks = start .pre .1 in
+    let w = read .read-row .result in
+    let same = read .read-row .ensures in
+    let first = pair-joins asks w same false (start .args .not) false in
+    let x = one .image .ensures in
+    let y = two .sided .ensures in
+    let l = joined first x (ne-eqb _ 65535 (there1 .if1 .left)) y (ne-eqb _ 65535 (there2 .if2 .left)) (three .join .ensures _ _ _ refl (y .builds .done (ne-eqb _ 65535 (there2 .if2 .left)) .ready)) in
+    let long = two .sided .kept .1 .1 .1 .1 .1 .1 .1 .1 .0 ∙ one .image .kept .1 .1 .1 .1 .1 .1 .1 .0 in
+    let again = asks-second asks l (ne-eqb _ 65535 (there3 .if3 .left)) long in
+    let second = pair-joins again w same true (not (start .args .not)) false in
+    right-full whole l (ne-eqb _ 65535 (there3 .if3 .left)) (right-full second (four .negated-image .ensures) (ne-eqb _ 65535 (there4 .if4 .left)) (five .sided2 .ensures) (eq-eqb _ 65535 (c .if5 .taken))) (eq-eqb _ 65535 (c .if5 .taken))
+
+equivalent-join-requires-2 : (t : ℕ) → equivalent-lts.Need-join-requires-2 (read-row-reads.Asked, read-row-reads.Learnt, image-below t, image.Post, sided-below t, sided.Post, join-reads.Asked, join-reads.Learnt, negated-image-below t, negated-image.Post) (equivalent-at t) equivalent.Post
+equivalent-join-requires-2 t c κs =
+    let there5 = c .before .before .before in
+    let five = there5 .before .before .before .before .before .before .before in
+    let there4 = five .before .before .before .before .before .before in
+    let four = there4 .before .before .before .before .before .before .before in
+    join-asks (four .negated-image .ensures .builds) (ne-eqb _ 65535 (there4 .if4 .left)) (five .sided2 .ensures .builds) (ne-eqb _ 65535 (there5 .if5 .left))
+
+equivalent-returns-6 : (t : ℕ) → equivalent-lts.Need-returns-6 (read-row-reads.Asked, read-row-reads.Learnt, image-below t, image.Post, sided-below t, sided.Post, join-reads.Asked, join-reads.Learnt, negated-image-below t, negated-image.Post) (equivalent-at t) equivalent.Post
+equivalent-returns-6 t c =
+    let six = c .before .before .before in
+    let there5 = six .before .before .before .before in
+    let five = there5 .before .before .before .before .before .before .before in
+    let there4 = five .before .before .before .before .before .before in
+    let four = there4 .before .before .before .before .before .before .before in
+    let there3 = four .before .before .before .before .before .before in
+    let three = there3 .before .before .before in
+    let there2 = three .before .before .before .before in
+    let two = there2 .before .before .before .before .before .before .before in
+    let there1 = two .before .before .before .before .before .before in
+    let one = there1 .before .before .before .before .before .before .before in
+    let read = one .before .before .before .before .before .before .before .before in
+    let start = read .before .before .before .before .before in
+    let whole = equivalent-joins (framed (start .args .frame .now)) (start .args .formulas .now) (start .args .i) (start .args .not) in
+    let asks = start .pre .1 in
+    let w = read .read-row .result in
+    let same = read .read-row .ensures in
+    let first = pair-joins asks w same false (start .args .not) false in
+    let x = one .image .ensures in
+    let y = two .sided .ensures in
+    let l = joined first x (ne-eqb _ 65535 (there1 .if1 .left)) y (ne-eqb _ 65535 (there2 .if2 .left)) (three .join .ensures _ _ _ refl (y .builds .done (ne-eqb _ 65535 (there2 .if2 .left)) .ready)) in
+    let long = two .sided .kept .1 .1 .1 .1 .1 .1 .1 .1 .0 ∙ one .image .kept .1 .1 .1 .1 .1 .1 .1 .0 in
+    let again = asks-second asks l (ne-eqb _ 65535 (there3 .if3 .left)) long in
+    let second = pair-joins again w same true (not (start .args .not)) false in
+    let z = four .negated-image .ensures in
+    let v = five .sided2 .ensures in
+    let r = joined second z (ne-eqb _ 65535 (there4 .if4 .left)) v (ne-eqb _ 65535 (there5 .if5 .left)) (six .join2 .ensures _ _ _ refl (v .builds .done (ne-eqb _ 65535 (there5 .if5 .left)) .ready)) in
+    right-full whole l (ne-eqb _ 65535 (there3 .if3 .left)) r (eq-eqb _ 65535 (c .if6 .taken))
+
+equivalent-join-requires-3 : (t : ℕ) → equivalent-lts.Need-join-requires-3 (read-row-reads.Asked, read-row-reads.Learnt, image-below t, image.Post, sided-below t, sided.Post, join-reads.Asked, join-reads.Learnt, negated-image-below t, negated-image.Post) (equivalent-at t) equivalent.Post
+equivalent-join-requires-3 t c κs =
+    let there6 = c .before .before .before in
+    let six = there6 .before .before .before in
+    let there5 = six .before .before .before .before in
+    let five = there5 .before .before .before .before .before .before .before in
+    let there4 = five .before .before .before .before .before .before in
+    let four = there4 .before .before .before .before .before .before .before in
+    let there3 = four .before .before .before .before .before .before in
+    let three = there3 .before .before .before in
+    let there2 = three .before .before .before .before in
+    let two = there2 .before .before .before .before .before .before .before in
+    let there1 = two .before .before .before .before .before .before in
+    let one = there1 .before .before .before .before .before .before .before in
+    let read = one .before .before .before .before .before .before .before .before in
+    let start = read .before .before .before .before .before in
+    let asks = start .pre .1 in
+    let w = read .read-row .result in
+    let same = read .read-row .ensures in
+    let first = pair-joins asks w same false (start .args .not) false in
+    let x = one .image .ensures in
+    let y = two .sided .ensures in
+    let l = joined first x (ne-eqb _ 65535 (there1 .if1 .left)) y (ne-eqb _ 65535 (there2 .if2 .left)) (three .join .ensures _ _ _ refl (y .builds .done (ne-eqb _ 65535 (there2 .if2 .left)) .ready)) in
+    let long = two .sided .kept .1 .1 .1 .1 .1 .1 .1 .1 .0 ∙ one .image .kept .1 .1 .1 .1 .1 .1 .1 .0 in
+    let again = asks-second asks l (ne-eqb _ 65535 (there3 .if3 .left)) long in
+    let second = pair-joins again w same true (not (start .args .not)) false in
+    let z = four .negated-image .ensures in
+    let v = five .sided2 .ensures in
+    let r = joined second z (ne-eqb _ 65535 (there4 .if4 .left)) v (ne-eqb _ 65535 (there5 .if5 .left)) (six .join2 .ensures _ _ _ refl (v .builds .done (ne-eqb _ 65535 (there5 .if5 .left)) .ready)) in
+    join-asks (l .builds) (ne-eqb _ 65535 (there3 .if3 .left)) (r .builds) (ne-eqb _ 65535 (there6 .if6 .left))
+
+equivalent-returns-7 : (t : ℕ) → equivalent-lts.Need-returns-7 (read-row-reads.Asked, read-row-reads.Learnt, image-below t, image.Post, sided-below t, sided.Post, join-reads.Asked, join-reads.Learnt, negated-image-below t, negated-image.Post) (equivalent-at t) equivalent.Post
+equivalent-returns-7 t c =
+    let last = c .before .before in
+    let there6 = last .before .before .before .before in
+    let six = there6 .before .before .before in
+    let there5 = six .before .before .before .before in
+    let five = there5 .before .before .before .before .before .before .before in
+    let there4 = five .before .before .before .before .before .before in
+    let four = there4 .before .before .before .before .before .before .before in
+    let there3 = four .before .before .before .before .before .before in
+    let three = there3 .before .before .before in
+    let there2 = three .before .before .before .before in
+    let two = there2 .before .before .before .before .before .before .before in
+    let there1 = two .before .before .before .before .before .before in
+    let one = there1 .before .before .before .before .before .before .before in
+    let read = one .before .before .before .before .before .before .before .before in
+    let start = read .before .before .before .before .before in
+    let whole = equivalent-joins (framed (start .args .frame .now)) (start .args .formulas .now) (start .args .i) (start .args .not) in
+    let asks = start .pre .1 in
+    let w = read .read-row .result in
+    let same = read .read-row .ensures in
+    let first = pair-joins asks w same false (start .args .not) false in
+    let x = one .image .ensures in
+    let y = two .sided .ensures in
+    let l = joined first x (ne-eqb _ 65535 (there1 .if1 .left)) y (ne-eqb _ 65535 (there2 .if2 .left)) (three .join .ensures _ _ _ refl (y .builds .done (ne-eqb _ 65535 (there2 .if2 .left)) .ready)) in
+    let long = two .sided .kept .1 .1 .1 .1 .1 .1 .1 .1 .0 ∙ one .image .kept .1 .1 .1 .1 .1 .1 .1 .0 in
+    let again = asks-second asks l (ne-eqb _ 65535 (there3 .if3 .left)) long in
+    let second = pair-joins again w same true (not (start .args .not)) false in
+    let z = four .negated-image .ensures in
+    let v = five .sided2 .ensures in
+    let r = joined second z (ne-eqb _ 65535 (there4 .if4 .left)) v (ne-eqb _ 65535 (there5 .if5 .left)) (six .join2 .ensures _ _ _ refl (v .builds .done (ne-eqb _ 65535 (there5 .if5 .left)) .ready)) in
+    joined whole l (ne-eqb _ 65535 (there3 .if3 .left)) r (ne-eqb _ 65535 (there6 .if6 .left)) (last .join3 .ensures _ _ _ refl (r .builds .done (ne-eqb _ 65535 (there6 .if6 .left)) .ready))
 
 image-returns : (t : ℕ) → image-lts.Need-returns (build-below t, build.Post) (image-at t) image.Post
 image-returns t c =
     let start = c .before .before .before .before .before .before in
-    images-known plain (start .pre .1) (c .if1 .taken)
+    images-known plain (start .pre .1) refl (c .if1 .taken)
 
 negated-image-returns : (t : ℕ) → negated-image-lts.Need-returns (build-below t, build.Post) (negated-image-at t) negated-image.Post
 negated-image-returns t c =
     let start = c .before .before .before .before .before .before .before in
-    images-known negated (start .pre .1) (c .if1 .taken)
+    images-known negated (start .pre .1) refl (c .if1 .taken)
 
 pair-sided-requires : (t : ℕ) → pair-lts.Need-sided-requires (read-row-reads.Asked, read-row-reads.Learnt, sided-below t, sided.Post, join-reads.Asked, join-reads.Learnt) (pair-at t) pair.Post
 pair-sided-requires t c κs =
@@ -256,17 +578,31 @@ pair-returns-3 t c =
     joined (pair-joins (start .pre .1) (read .read-row .result) (read .read-row .ensures) (start .args .left) (start .args .right) (start .args .or)) x
     (ne-eqb _ 65535 (one .if1 .left)) y e (end .join .ensures _ _ _ refl (y .builds .done e .ready))
 
-sided-returns : (t : ℕ) → sided-lts.Need-returns (negated-image-below t, negated-image.Post, image-below t, image.Post) (sided-at t) sided.Post
-sided-returns t c =
-    let made = c .before .before .before .before .before .before in
-    let one = made .before .before .before .before .before .before in
-    rw (one .if1 .taken) (made .negated-image .ensures)
+sided-mul-known : (t : ℕ) → sided-lts.Need-mul-known (word-of-reads.Asked, word-of-reads.Learnt, build-below t, build.Post) (sided-at t) sided.Post
+sided-mul-known t c =
+    let start = c .before .before .before .before .before in
+    omega (
+      arith,
+      c .word-of .ensures,
+      place-within (framed (start .args .frame .now)) (side (start .args .not)) (start .args .i) (start .pre .1 .formula),
+      start .pre .1 .source .limit,
+    )
 
-sided-returns-2 : (t : ℕ) → sided-lts.Need-returns-2 (negated-image-below t, negated-image.Post, image-below t, image.Post) (sided-at t) sided.Post
-sided-returns-2 t c =
-    let made = c .before .before .before .before .before .before in
-    let one = made .before .before .before .before .before .before in
-    rw (one .if1 .left) (made .image .ensures)
+sided-slice-read-known : (t : ℕ) → sided-lts.Need-slice-read-known (word-of-reads.Asked, word-of-reads.Learnt, build-below t, build.Post) (sided-at t) sided.Post
+sided-slice-read-known t c =
+    let start = c .before .before .before .before .before .before in
+    omega (
+      arith,
+      c .before .word-of .ensures,
+      place-within (framed (start .args .frame .now)) (side (start .args .not)) (start .args .i) (start .pre .1 .formula),
+      start .pre .1 .source .memo,
+    )
+
+sided-returns : (t : ℕ) → sided-lts.Need-returns (word-of-reads.Asked, word-of-reads.Learnt, build-below t, build.Post) (sided-at t) sided.Post
+sided-returns t c =
+    let place = c .before .before in
+    let start = place .before .before .before .before .before in
+    images-known (side (start .args .not)) (start .pre .1) (place .word-of .ensures) (c .if1 .taken)
 
 step-leaf-requires : (t : ℕ) → step-lts.Need-leaf-requires (read-row-reads.Asked, read-row-reads.Learnt, leaf-reads.Asked, leaf-reads.Learnt, sided-below t, sided.Post, equivalent-below t, equivalent.Post, pair-below t, pair.Post) (step-at t) step.Post
 step-leaf-requires t c κs =
@@ -343,10 +679,15 @@ pub +build+equivalent+image+negated-image+pair+sided+step-spec : {M : Type 1} �
     (λ t. build-lts.spec (step-below t, step.Post, word-of-reads.Asked, word-of-reads.Learnt) (build-at t) build.Post
     (λ c κs. search needs) (λ c. search needs) (λ c. search needs) (λ c. search needs) (λ c. search needs) (λ c κs. search needs) (λ c. search needs)
     (build-mul-scratch t) (build-slice-write-scratch t) (λ c. search needs) (λ c. search needs) (λ c. search needs) (build-returns-2 t))
-    (λ t. equivalent-lts.spec (pair-below t, pair.Post, join-reads.Asked, join-reads.Learnt) (equivalent-at t) equivalent.Post
-    (λ c κs. search needs) (λ c. search needs) (λ c. search needs) (λ c. search needs) (equivalent-returns t) (equivalent-pair-requires-2 t)
-    (λ c. search needs) (λ c. search needs) (λ c. search needs) (equivalent-returns-2 t) (λ c. search needs) (equivalent-join-requires t)
-    (λ c. search needs) (λ c. search needs) (λ c. search needs) (equivalent-returns-3 t))
+    (λ t. equivalent-lts.spec (read-row-reads.Asked, read-row-reads.Learnt, image-below t, image.Post, sided-below t, sided.Post, join-reads.Asked, join-reads.Learnt, negated-image-below t, negated-image.Post) (equivalent-at t) equivalent.Post
+    (λ c κs. search needs) (λ c. search needs) (λ c. search needs) (equivalent-image-requires t) (λ c. search needs) (λ c. search needs)
+    (λ c. search needs) (equivalent-returns t) (equivalent-sided-requires t) (λ c. search needs) (λ c. search needs) (λ c. search needs)
+    (equivalent-returns-2 t) (λ c. search needs) (equivalent-join-requires t) (λ c. search needs) (λ c. search needs) (λ c. search needs)
+    (equivalent-returns-3 t) (equivalent-negated-image-requires t) (equivalent-same-length-10 t) (equivalent-same-length-11 t)
+    (equivalent-same-length-12 t) (equivalent-returns-4 t) (equivalent-sided-requires-2 t) (equivalent-same-length-13 t) (equivalent-same-length-14 t)
+    (equivalent-same-length-15 t) (equivalent-returns-5 t) (λ c. search needs) (equivalent-join-requires-2 t) (equivalent-same-length-16 t)
+    (equivalent-same-length-17 t) (equivalent-same-length-18 t) (equivalent-returns-6 t) (λ c. search needs) (equivalent-join-requires-3 t)
+    (equivalent-same-length-19 t) (equivalent-same-length-20 t) (equivalent-same-length-21 t) (equivalent-returns-7 t))
     (λ t. image-lts.spec (build-below t, build.Post) (image-at t) image.Post
     (λ c. search needs) (λ c. search needs) (λ c. search needs) (image-returns t) (λ c κs. search needs) (λ c. search needs) (λ c. search needs)
     (λ c. search needs) (λ c. search needs))
@@ -357,9 +698,9 @@ pub +build+equivalent+image+negated-image+pair+sided+step-spec : {M : Type 1} �
     (λ c κs. search needs) (λ c. search needs) (pair-sided-requires t) (λ c. search needs) (λ c. search needs) (λ c. search needs) (pair-returns t)
     (λ c. search needs) (pair-sided-requires-2 t) (λ c. search needs) (λ c. search needs) (λ c. search needs) (pair-returns-2 t) (λ c. search needs)
     (pair-join-requires t) (λ c. search needs) (λ c. search needs) (λ c. search needs) (pair-returns-3 t))
-    (λ t. sided-lts.spec (negated-image-below t, negated-image.Post, image-below t, image.Post) (sided-at t) sided.Post
-    (λ c κs. search needs) (λ c. search needs) (λ c. search needs) (λ c. search needs) (sided-returns t) (λ c κs. search needs) (λ c. search needs)
-    (λ c. search needs) (λ c. search needs) (sided-returns-2 t))
+    (λ t. sided-lts.spec (word-of-reads.Asked, word-of-reads.Learnt, build-below t, build.Post) (sided-at t) sided.Post
+    (λ c κs. search needs) (sided-mul-known t) (sided-slice-read-known t) (λ c. search needs) (sided-returns t) (λ c κs. search needs)
+    (λ c. search needs) (λ c. search needs) (λ c. search needs) (λ c. search needs))
     λ t. step-lts.spec (read-row-reads.Asked, read-row-reads.Learnt, leaf-reads.Asked, leaf-reads.Learnt, sided-below t, sided.Post, equivalent-below t, equivalent.Post, pair-below t, pair.Post) (step-at t) step.Post
     (λ c κs. search needs) (step-leaf-requires t) (λ c. search needs) (λ c. search needs) (step-returns t) (λ c. search needs) (step-sided-requires t)
     (λ c. search needs) (λ c. search needs) (λ c. search needs) (step-returns-2 t) (step-equivalent-requires t) (λ c. search needs)
