@@ -1,15 +1,15 @@
 -- Laws of the values of the rows: what each arm of the code gives, and what each turn of the loop leaves. Assumes nothing.
-use Prim.Native.Nat.{ℕ, zero, suc, _+_, _-_, _≤_, _<_}
+use Prim.Native.Nat.{ℕ, zero, suc, _+_, _-_, _*_, _/_, _%_, _^_, _≤_, _<_}
 use native.Mathlib.Nat.{add-zero, add-suc}
 use native.Mathlib.Omega.{arith}
 use mathlib.Core.Path.{_≡_, refl, sym, ap, _∙_}
-use mathlib.Core.Bool.{cond, not}
+use mathlib.Core.Bool.{true, false, cond, not}
 use mathlib.Core.List.{List, [], _∷_}
 use lib.ListN.{length, getD, set, drop, length-set}
 use lib.Seq.{drop-drop, drop-set-lt}
 use lib.Dec.{eqb}
 use Rattle.task.specs.Bounded.{upto}
-use Rattle.task.specs.Table.{row-at, formula-kind}
+use Rattle.task.specs.Table.{FormulaKind, row-at, formula-kind}
 use Rattle.task.specs.Rules.{no-row, FormulaRule}
 use Rattle.task.specs.Semantics.{holds}
 use Rattle.task.specs.Tree.{formula-of}
@@ -18,7 +18,7 @@ use Rattle.task.proofs.Trees.{formula-grows}
 use Rattle.task.specs.Inner.Rows.{FormulasDown}
 use Rattle.task.proofs.Values.{bit-small, values-stored}
 use Rattle.task.specs.Inner.Values.{bit, told, kind-value, row-value, Values}
-use Rattle.evaluating.specs.Inner.Values.{joins, rows-of, RowReady, Valuable, Valued}
+use Rattle.evaluating.specs.Inner.Values.{joins, truth-table, rows-of, RowReady, Valuable, Valued}
 
 -- a bit is 0 or 1
 by-bit : (P : Type 0) (x : ℕ) → x ≤ 1 → (x ≡ 0 → P) → (x ≡ 1 → P) → P
@@ -33,43 +33,27 @@ pub bit-not : (x : ℕ) → x ≤ 1 → 1 - x ≡ bit (not (eqb x 1))
 unfolding bit
 bit-not x h = by-bit (1 - x ≡ cond (not (eqb x 1)) 1 0) x h (λ e. rw e) (λ e. rw e)
 
--- the arms of `joined`
-module _ (kind x y : ℕ) (hx : x ≤ 1) (hy : y ≤ 1) where
-  pub and-zero : kind ≡ 4 → x ≡ 0 → 0 ≡ bit (joins (formula-kind kind) (eqb x 1) (eqb y 1))
-  unfolding bit joins formula-kind
-  and-zero k e = rw (k, e)
+all-small :
+    (k : FormulaKind)
+    → (bit (joins k false false) ≤ 1) × (bit (joins k false true) ≤ 1) × (bit (joins k true false) ≤ 1) × (bit (joins k true true) ≤ 1)
+all-small k =
+    (bit-small (joins k false false), bit-small (joins k false true), bit-small (joins k true false), bit-small (joins k true true))
 
-  pub and-one : kind ≡ 4 → (x ≡ 0 → ⊥) → y ≡ bit (joins (formula-kind kind) (eqb x 1) (eqb y 1))
-  unfolding joins formula-kind
-  and-one k d = let e : x ≡ 1 = omega arith in rw (k, e) (bit-told y hy)
-
-  pub or-zero : kind ≡ 5 → x ≡ 0 → y ≡ bit (joins (formula-kind kind) (eqb x 1) (eqb y 1))
-  unfolding joins formula-kind
-  or-zero k e = rw (k, e) (bit-told y hy)
-
-  pub or-one : kind ≡ 5 → (x ≡ 0 → ⊥) → 1 ≡ bit (joins (formula-kind kind) (eqb x 1) (eqb y 1))
-  unfolding bit joins formula-kind
-  or-one k d = let e : x ≡ 1 = omega arith in rw (k, e)
-
-  pub implies-zero : kind ≡ 6 → x ≡ 0 → 1 ≡ bit (joins (formula-kind kind) (eqb x 1) (eqb y 1))
-  unfolding bit joins formula-kind
-  implies-zero k e = rw (k, e)
-
-  pub implies-one : kind ≡ 6 → (x ≡ 0 → ⊥) → y ≡ bit (joins (formula-kind kind) (eqb x 1) (eqb y 1))
-  unfolding joins formula-kind
-  implies-one k d = let e : x ≡ 1 = omega arith in rw (k, e) (bit-told y hy)
-
-  pub same-bits : kind ≡ 7 → x ≡ y → 1 ≡ bit (joins (formula-kind kind) (eqb x 1) (eqb y 1))
-  unfolding bit joins formula-kind
-  same-bits k e =
-      by-bit (1 ≡ bit (joins (formula-kind kind) (eqb x 1) (eqb y 1))) y hy (λ z. let w : x ≡ 0 = e ∙ z in rw (k, w, z))
-      (λ z. let w : x ≡ 1 = e ∙ z in rw (k, w, z))
-
-  pub other-bits : kind ≡ 7 → (x ≡ y → ⊥) → 0 ≡ bit (joins (formula-kind kind) (eqb x 1) (eqb y 1))
-  unfolding bit joins formula-kind
-  other-bits k d =
-      by-bit (0 ≡ bit (joins (formula-kind kind) (eqb x 1) (eqb y 1))) y hy
-      (λ z. let w : x ≡ 1 = omega arith in rw (k, w, z)) (λ z. let w : x ≡ 0 = omega arith in rw (k, w, z))
+-- a truth table tells each of its cases
+pub table-tells :
+    (k : FormulaKind) (n x y : ℕ)
+    → n ≡ truth-table k
+    → x ≤ 1
+    → y ≤ 1
+    → (n / 2 ^ (2 * x + y)) % 2 ≡ bit (joins k (eqb x 1) (eqb y 1))
+unfolding truth-table
+table-tells k n zero zero e hx hy = omega (arith, all-small k)
+table-tells k n zero (suc zero) e hx hy = omega (arith, all-small k)
+table-tells k n (suc zero) zero e hx hy = omega (arith, all-small k)
+table-tells k n (suc zero) (suc zero) e hx hy = omega (arith, all-small k)
+table-tells k n zero (suc (suc y)) e hx hy = absurd (omega arith)
+table-tells k n (suc zero) (suc (suc y)) e hx hy = absurd (omega arith)
+table-tells k n (suc (suc x)) y e hx hy = absurd (omega arith)
 
 -- the kinds behind "not" that keep a rule name two formulas
 rule-joins :

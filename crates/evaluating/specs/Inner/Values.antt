@@ -1,13 +1,13 @@
 -- The values of the formulas in a state, a byte each, bottom-up. Only the contracts of inner functions cite this file.
 use Prim.Native.Nat.{ℕ, _+_, _*_, _≤_, _<_}
 use mathlib.Core.Path.{_≡_}
-use mathlib.Core.Bool.{Bool, false, not, _&&_, _||_, Bool·beq}
+use mathlib.Core.Bool.{Bool, true, false, not, _&&_, _||_, Bool·beq}
 use mathlib.Core.List.{List}
 use lib.ListN.{length, getD, drop}
 use Rattle.task.specs.Bounded.{upto}
 use Rattle.task.specs.Table.{Row, row-at, FormulaKind, false-kind, true-kind, variable-kind, not-kind, and-kind, or-kind, implies-kind, equivalent-kind, unknown-formula}
 use Rattle.task.specs.Inner.Rows.{FormulaKept}
-use Rattle.task.specs.Inner.Values.{Values}
+use Rattle.task.specs.Inner.Values.{bit, Values}
 
 -- the rows of a table of words
 abbrev pub rows-of : ℕ → List ℕ → List Row
@@ -24,6 +24,11 @@ joins or-kind p q = p || q
 joins implies-kind p q = not p || q
 joins equivalent-kind p q = Bool·beq p q
 joins unknown-formula p q = false
+
+-- the same as a number: bit 2x + y for the bits x and y
+unfoldable pub truth-table : FormulaKind → ℕ
+truth-table k =
+    bit (joins k false false) + 2 * bit (joins k false true) + 4 * bit (joins k true false) + 8 * bit (joins k true true)
 
 -- what the value of row i asks: the row is there and keeps its rule, the state has bits, and so have the rows below
 pub record RowReady (words : List ℕ) (i : ℕ) (s values : List ℕ) : Type 0 where
