@@ -12,9 +12,10 @@ mod memo;
 pub use cycle::condition;
 pub use kept::width_of;
 
-// The atom whose condition is built, "set" or "clear" of a variable; negated, the condition's dual.
+// The atom whose condition is built, "set" or "clear" of a variable; negated, the condition's dual. With the number first it has four bytes, and one
+// access copies it.
 pub struct Target {
-    pub clear: bool,
     pub variable: u16,
+    pub clear: bool,
     pub negated: bool,
 }
