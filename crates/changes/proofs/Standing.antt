@@ -1,12 +1,12 @@
 -- Steps from where building stands, put together. Assumes nothing.
 use Prim.Native.Nat.{ℕ, _<_}
 use native.Mathlib.Omega.{arith}
-use mathlib.Core.Path.{_≡_, refl, ap, ap₂, _∙_}
+use mathlib.Core.Path.{_≡_, ap, ap₂, _∙_}
 use mathlib.Core.Bool.{Bool, true, false, true≢false}
 use mathlib.Core.List.{List}
 use lib.ListN.{length}
 use borrow.Author.Tests.{eq-eqb, ne-eqb}
-use Rattle.normal_form.specs.Builder.{Got, Build, give, bind, join, plain, negated, image-of-false}
+use Rattle.normal_form.specs.Builder.{Got, Build, give, bind, join, plain, negated}
 use Rattle.normal_form.specs.Growth.{Steady}
 use Rattle.normal_form.specs.Conditions.{condition}
 use Rattle.normal_form.specs.Operators.{Changes, deletes-of, changes-of}
@@ -16,12 +16,12 @@ use Rattle.task.specs.Semantics.{Effect, sets, clears}
 use Rattle.formula_builder.specs.declared.Frame.{Frame}
 use Rattle.formula_builder.specs.declared.Size.{Size}
 use Rattle.formula_builder.specs.declared.Step.{Step}
-use Rattle.formula_builder.specs.Inner.Held.{Store, held, size-of, side, stepped, JoinReady, Builds}
-use Rattle.formula_builder.proofs.Steps.{builds-stands, falsity-small, within-before}
+use Rattle.formula_builder.specs.Inner.Held.{Store, held, size-of, stepped, JoinReady, Builds}
+use Rattle.formula_builder.proofs.Steps.{builds-stands, within-before}
 use Rattle.images.specs.Inner.Images.{Memo, Images}
 use Rattle.images.proofs.Memos.{done-grows}
 use Rattle.conditions.specs.declared.Target.{Target}
-use Rattle.conditions.specs.Inner.Conditions.{effect-tree, condition-at, EffectMemo, Unnamed, Noted, Asks, Conditions}
+use Rattle.conditions.specs.Inner.Conditions.{effect-tree, condition-at, EffectMemo, Noted, Asks, Conditions}
 use Rattle.conditions.proofs.Memos.{effect-memo-grows, conditions-as, conditions-leaf, conditions-bind, conditions-stop}
 use Rattle.changes.specs.Inner.Stands.{Stands, StandsAt, Deletes, Leaves, Reaches, Makes}
 
@@ -51,16 +51,6 @@ given-row :
     → Conditions (give x) frame formulas effects notes at s s scratch (stepped (at .rows) (at .twins) x)
 given-row x a h =
     conditions-leaf (steady-give x) (a .noted) (a .stands .memo) (a .stands .effect-memo) (builds-stands x (a .stands .ready) h)
-
--- the condition of an atom that the effect does not name
-pub condition-unnamed :
-    {frame : Frame} {formulas effects notes : List ℕ} {at : Size} {s : Store} {scratch : List ℕ} {e : ℕ} (t : Target)
-    → StandsAt frame formulas effects notes at s scratch e
-    → Unnamed frame formulas effects (t .clear) (t .variable) e
-    → Conditions (condition-at frame formulas effects t e) frame formulas effects notes at s s scratch (stepped (at .rows) (at .twins) (image-of-false (side (t .negated))))
-condition-unnamed t a u =
-    conditions-as (u .idle t refl refl)
-    (given-row (image-of-false (side (t .negated))) a (omega (arith, falsity-small (side (t .negated)), a .stands .ready .two)))
 
 -- where building stands after a step
 pub stands-next :

@@ -1,6 +1,8 @@
 // D and N of one variable.
+use crate::Change;
 use conditions::Target;
 use conditions::condition;
+use formula_builder::NO_ROOM;
 use formula_builder::ROWS;
 use formula_builder::join;
 ghost use Rattle.normal_form.specs.Operators.{deletes-of};
@@ -15,8 +17,7 @@ pub fn deletes(
     notes: &mut [u16],
     e: usize,
     v: u16,
-    a: u16,
-    d: u16,
+    c: Change,
     frame: &[usize; 5],
     rows: &mut usize,
     twins: &mut usize,
@@ -24,14 +25,14 @@ pub fn deletes(
     originals: &mut [u16],
     scratch: &mut [u16],
 ) -> u16
-    requires { ⌜ Deletes (framed (now frame)) (now formulas) (now effects) (now notes) (sized (now rows) (now twins)) (store (now table) (now originals)) (now scratch) e v d ⌝ }
-    ensures { λ r. ⌜ Conditions (deletes-of (framed (now (frame .entry)) .variables) (effect-tree (framed (now (frame .entry))) (now (formulas .entry)) (now (effects .entry)) e) v a d) (framed (now (frame .entry))) (now (formulas .entry)) (now (effects .entry)) (now (notes .exit)) (sized (now (rows .entry)) (now (twins .entry))) (store (now (table .entry)) (now (originals .entry))) (store (now (table .exit)) (now (originals .exit))) (now (scratch .exit)) (stepped (now (rows .exit)) (now (twins .exit)) r) ⌝ }
+    requires { ⌜ Deletes (framed (now frame)) (now formulas) (now effects) (now notes) (sized (now rows) (now twins)) (store (now table) (now originals)) (now scratch) e v (c .deletes) ⌝ }
+    ensures { λ r. ⌜ Conditions (deletes-of (framed (now (frame .entry)) .variables) (effect-tree (framed (now (frame .entry))) (now (formulas .entry)) (now (effects .entry)) e) v (c .adds) (c .deletes)) (framed (now (frame .entry))) (now (formulas .entry)) (now (effects .entry)) (now (notes .exit)) (sized (now (rows .entry)) (now (twins .entry))) (store (now (table .entry)) (now (originals .entry))) (store (now (table .exit)) (now (originals .exit))) (now (scratch .exit)) (stepped (now (rows .exit)) (now (twins .exit)) r) ⌝ }
 {
-    if a == 0 {
-        return d;
+    if c.adds == 0 {
+        return c.deletes;
     }
-    if d == 0 {
-        return d;
+    if c.deletes == 0 {
+        return c.deletes;
     }
     let t = Target {
         clear: false,
@@ -51,8 +52,8 @@ pub fn deletes(
         originals,
         scratch,
     );
-    if n == 65535 {
+    if n == NO_ROOM {
         return n;
     }
-    join(rows, table, frame[ROWS], false, d, n)
+    join(rows, table, frame[ROWS], false, c.deletes, n)
 }

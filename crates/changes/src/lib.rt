@@ -1,6 +1,5 @@
 // What an operator's effect does to one variable: the row under which it is set, and the row under which it is cleared.
 mod conflict;
-mod named;
 mod variable;
 
 pub use variable::change_of;

@@ -1,26 +1,35 @@
 // A, D and N of one variable.
 use crate::Change;
 use crate::conflict::deletes;
-use crate::named::condition_if;
 use conditions::Target;
+use conditions::condition_if;
+use formula_builder::NO_ROOM;
 ghost use mathlib.Core.Path.{_≡_};
 ghost use mathlib.Core.Bool.{true, false};
 ghost use Prim.Native.Nat.{_<_};
 ghost use Rattle.normal_form.specs.Operators.{changes-of};
 ghost use Rattle.formula_builder.specs.Inner.Held.{store, sized, framed};
-ghost use Rattle.conditions.specs.Inner.Conditions.{effect-tree, Unnamed};
+ghost use Rattle.conditions.specs.Inner.Conditions.{effect-tree};
 ghost use Rattle.changes.specs.Inner.Stands.{StandsAt, Makes, Leaves, made};
 
-// What effect e does to variable v: all of A, then all of D, then N. The two bits say whether e names set v and clear v: a condition is
-// walked for only then.
+// No room.
+fn no_room() -> Change
+    ensures { λ r. ⌜ r ≡ record { adds = 0; deletes = 0; full = true } ⌝ }
+{
+    Change {
+        adds: 0,
+        deletes: 0,
+        full: true,
+    }
+}
+
+// What effect e does to variable v: all of A, then all of D, then N.
 pub fn change_of(
     formulas: &[u16],
     effects: &[u16],
     notes: &mut [u16],
     e: usize,
     v: u16,
-    sets: bool,
-    clears: bool,
     frame: &[usize; 5],
     rows: &mut usize,
     twins: &mut usize,
@@ -28,7 +37,7 @@ pub fn change_of(
     originals: &mut [u16],
     scratch: &mut [u16],
 ) -> Change
-    requires { ⌜ StandsAt (framed (now frame)) (now formulas) (now effects) (now notes) (sized (now rows) (now twins)) (store (now table) (now originals)) (now scratch) e × (sets ≡ false → Unnamed (framed (now frame)) (now formulas) (now effects) false v e) × (clears ≡ false → Unnamed (framed (now frame)) (now formulas) (now effects) true v e) × (v < framed (now frame) .variables) ⌝ }
+    requires { ⌜ StandsAt (framed (now frame)) (now formulas) (now effects) (now notes) (sized (now rows) (now twins)) (store (now table) (now originals)) (now scratch) e × (v < framed (now frame) .variables) ⌝ }
     ensures { λ r. ⌜ Makes (changes-of (framed (now (frame .entry)) .variables) (effect-tree (framed (now (frame .entry))) (now (formulas .entry)) (now (effects .entry)) e) v) (framed (now (frame .entry))) (now (formulas .entry)) (now (effects .entry)) (sized (now (rows .entry)) (now (twins .entry))) (store (now (table .entry)) (now (originals .entry))) (store (now (table .exit)) (now (originals .exit))) (now (scratch .exit)) (r .full) (sized (now (rows .exit)) (now (twins .exit))) (made v r) × Leaves (r .full) (framed (now (frame .entry))) (now (formulas .entry)) (now (effects .entry)) (now (notes .exit)) (sized (now (rows .exit)) (now (twins .exit))) (store (now (table .exit)) (now (originals .exit))) ⌝ }
 {
     let set = Target {
@@ -42,7 +51,6 @@ pub fn change_of(
         notes,
         e,
         set,
-        sets,
         frame,
         rows,
         twins,
@@ -50,12 +58,8 @@ pub fn change_of(
         originals,
         scratch,
     );
-    if a == 65535 {
-        return Change {
-            adds: 0,
-            deletes: 0,
-            full: true,
-        };
+    if a == NO_ROOM {
+        return no_room();
     }
     let unset = Target {
         clear: true,
@@ -68,7 +72,6 @@ pub fn change_of(
         notes,
         e,
         unset,
-        clears,
         frame,
         rows,
         twins,
@@ -76,12 +79,8 @@ pub fn change_of(
         originals,
         scratch,
     );
-    if d == 65535 {
-        return Change {
-            adds: 0,
-            deletes: 0,
-            full: true,
-        };
+    if d == NO_ROOM {
+        return no_room();
     }
     let k = deletes(
         formulas,
@@ -89,8 +88,11 @@ pub fn change_of(
         notes,
         e,
         v,
-        a,
-        d,
+        Change {
+            adds: a,
+            deletes: d,
+            full: false,
+        },
         frame,
         rows,
         twins,
@@ -101,6 +103,6 @@ pub fn change_of(
     Change {
         adds: a,
         deletes: k,
-        full: k == 65535,
+        full: k == NO_ROOM,
     }
 }

@@ -17,7 +17,7 @@ ghost use Rattle.formula_builder.specs.Inner.Held.{store, sized, stepped, frame
 ghost use Rattle.conditions.specs.Inner.Conditions.{Asks, Conditions, condition-at};
 
 // The condition of effect e: what the memo has; that of an atom; else it is built, and kept. Rows are visited only where the atom stands below
-// them (`half`), and not below one whose condition is kept.
+// them (`condition_if`), and not below one whose condition is kept.
 pub fn condition(
     formulas: &[u16],
     effects: &[u16],
@@ -128,7 +128,7 @@ fn both(
     ensures { λ r. ⌜ Conditions (condition-at (framed (now (frame .entry))) (now (formulas .entry)) (now (effects .entry)) t e) (framed (now (frame .entry))) (now (formulas .entry)) (now (effects .entry)) (now (notes .exit)) (sized (now (rows .entry)) (now (twins .entry))) (store (now (table .entry)) (now (originals .entry))) (store (now (table .exit)) (now (originals .exit))) (now (scratch .exit)) (stepped (now (rows .exit)) (now (twins .exit)) r) ⌝ }
 {
     let w = read_row(effects, e);
-    let l = half(
+    let l = condition_if(
         formulas,
         effects,
         notes,
@@ -144,7 +144,7 @@ fn both(
     if l == NO_ROOM {
         return l;
     }
-    let r = half(
+    let r = condition_if(
         formulas,
         effects,
         notes,
@@ -170,8 +170,8 @@ fn both(
     joined(notes, e, t, !t.negated, frame, rows, l, r, table)
 }
 
-// The condition of effect e, one of the two of "both": false, if the atom does not stand in e.
-fn half(
+// The condition of effect e: false, if the atom does not stand in e; else it is built.
+pub fn condition_if(
     formulas: &[u16],
     effects: &[u16],
     notes: &mut [u16],

@@ -10,6 +10,7 @@ mod kept;
 mod memo;
 
 pub use cycle::condition;
+pub use cycle::condition_if;
 pub use kept::width_of;
 
 // The atom whose condition is built, "set" or "clear" of a variable; negated, the condition's dual. With the number first it has four bytes, and one

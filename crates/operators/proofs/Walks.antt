@@ -6,7 +6,6 @@ use mathlib.Core.Path.{_≡_, refl, sym, ap, _∙_}
 use mathlib.Core.Bool.{Bool, true, false, not, true≢false}
 use mathlib.Core.List.{List, [], _∷_, _++_}
 use lib.ListN.{length}
-use borrow.Author.Tests.{not-false}
 use Rattle.normal_form.specs.Builder.{St, give, bind, each, plain}
 use Rattle.normal_form.proofs.ShapeSizes.{each-grows}
 use Rattle.normal_form.specs.Operators.{Changes, changes-of}
@@ -19,11 +18,11 @@ use Rattle.formula_builder.specs.Inner.Held.{Store, held, size-of}
 use Rattle.formula_builder.proofs.Steps.{within-before}
 use Rattle.images.specs.Inner.Images.{image-at, Images, Asks}
 use Rattle.images.proofs.Memos.{steady-image-at}
-use Rattle.conditions.specs.Inner.Conditions.{effect-tree, Unnamed, Noted}
+use Rattle.conditions.specs.Inner.Conditions.{effect-tree, Noted}
 use Rattle.changes.specs.Inner.Stands.{Stands, StandsAt, Leaves, Reaches, Makes, made}
 use Rattle.conditions.proofs.Memos.{conditions-of-images}
 use Rattle.changes.proofs.Standing.{stands-next, stands-at-next}
-use Rattle.atom_sets.specs.Inner.Sets.{lacks, InSet}
+use Rattle.atom_sets.specs.Inner.Sets.{InSet}
 use Rattle.changes.specs.declared.Change.{Change}
 use Rattle.records.specs.Inner.Recorded.{Keeps, Opens, Recorded}
 use Rattle.records.proofs.Keeping.{recorded-none, recorded-few, recorded-more}
@@ -34,15 +33,8 @@ use Rattle.operators.proofs.Passing.{stretch-passed, reaches-alike, rec
 -- One variable's change asks and leaves the same for a frame that is the same, as five numbers.
 module _ {f g : Frame} (same : f ≡ g) {formulas effects notes : List ℕ} {at : Size} {before : Store} {scratch : List ℕ} (v e : ℕ) where
   pub change-asks :
-      {sets clears : Bool}
-      → StandsAt g formulas effects notes at before scratch e
-      × (sets ≡ false → Unnamed g formulas effects false v e)
-      × (clears ≡ false → Unnamed g formulas effects true v e)
-      × (v < g .variables)
-      → StandsAt f formulas effects notes at before scratch e
-      × (sets ≡ false → Unnamed f formulas effects false v e)
-      × (clears ≡ false → Unnamed f formulas effects true v e)
-      × (v < f .variables)
+      StandsAt g formulas effects notes at before scratch e × (v < g .variables)
+      → StandsAt f formulas effects notes at before scratch e × (v < f .variables)
   change-asks x = rw same x
 
   pub change-made :
@@ -212,24 +204,15 @@ module _ {frame : Frame} {formulas effects notes : List ℕ} {e : ℕ} {at : Siz
 
   module _ {mid : Store} {s2 : List ℕ} {from : ℕ} {l m : List ℕ} {here : Size} {k v : ℕ}
       (w : Walking frame formulas effects e at before mid s2 from l m here k v) where
-    -- what the change of variable v asks, whose bits say what is named, and what recording it asks
+    -- what the change of variable v asks, and what recording it asks
     pub walking-asks :
-        {notes' : List ℕ} {sets clears : Bool}
+        {notes' : List ℕ}
         → Noted frame formulas effects notes' (held here mid)
         → length s2 ≡ length s1
         → v < frame .variables
-        → sets ≡ lacks frame notes' false v e
-        → clears ≡ lacks frame notes' true v e
-        → StandsAt frame formulas effects notes' here mid s2 e
-        × (not sets ≡ false → Unnamed frame formulas effects false v e)
-        × (not clears ≡ false → Unnamed frame formulas effects true v e)
-        × (v < frame .variables)
-    walking-asks {sets = sets} {clears = clears} noted long h p q = (
-      record { stands = stands-next (a .stands) (w .reaches) refl long; noted = noted; effect = a .effect },
-      λ z. noted .sets .alone formulas false v e h (a .effect) (sym p ∙ not-false sets z),
-      λ z. noted .sets .alone formulas true v e h (a .effect) (sym q ∙ not-false clears z),
-      h,
-    )
+        → StandsAt frame formulas effects notes' here mid s2 e × (v < frame .variables)
+    walking-asks noted long h =
+        (record { stands = stands-next (a .stands) (w .reaches) refl long; noted = noted; effect = a .effect }, h)
 
     pub walking-keeps : Opens from l → length m ≡ length l → Keeps k m
     walking-keeps o long =

@@ -1,6 +1,5 @@
 // The changes of all variables, upwards.
 use crate::Tally;
-use atom_sets::lacks;
 use atom_sets::set_from;
 use changes::change_of;
 use formula_builder::Frame;
@@ -75,16 +74,12 @@ pub fn build_changes(
     let mut v = next_touched(notes, frame, e, 0);
     while v < n {
         let variable = v as u16;
-        let sets = !lacks(notes, frame, false, v, e);
-        let clears = !lacks(notes, frame, true, v, e);
         let c = change_of(
             formulas,
             effects,
             notes,
             e,
             variable,
-            sets,
-            clears,
             &words,
             &mut rows,
             &mut twins,

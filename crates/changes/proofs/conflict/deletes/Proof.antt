@@ -15,22 +15,22 @@ use mathlib.Core.Path.{refl}
 
 returns : tie.Need-returns
 returns c =
-    let at-args = c .before .before .before .before .before .before .before in
+    let at-args = c .before .before .before .before .before .before .before .before in
     (never-set (framed (at-args .args .frame .now)) (at-args .args .formulas .now) (at-args .args .effects .now)
     ((sized (at-args .args .rows .now) (at-args .args .twins .now))) (store (at-args .args .table .now) (at-args .args .originals .now))
-    (at-args .args .scratch .now) (at-args .args .e) (at-args .args .v) (at-args .args .a) (at-args .args .d) (at-args .pre) (c .if1 .taken))
+    (at-args .args .scratch .now) (at-args .args .e) (at-args .args .v) (at-args .args .c .adds) (at-args .args .c .deletes) (at-args .pre) (c .if1 .taken))
 
 returns-2 : tie.Need-returns-2
 returns-2 c =
-    let at-args = c .before .before .before .before .before .before .before .before in
+    let at-args = c .before .before .before .before .before .before .before .before .before .before in
     (never-cleared (framed (at-args .args .frame .now)) (at-args .args .formulas .now) (at-args .args .effects .now)
     ((sized (at-args .args .rows .now) (at-args .args .twins .now))) (store (at-args .args .table .now) (at-args .args .originals .now))
-    (at-args .args .scratch .now) (at-args .args .e) (at-args .args .v) (at-args .args .a) (at-args .args .d) (at-args .pre) (c .before .if1 .left)
+    (at-args .args .scratch .now) (at-args .args .e) (at-args .args .v) (at-args .args .c .adds) (at-args .args .c .deletes) (at-args .pre) (c .before .before .if1 .left)
     (c .if2 .taken))
 
 condition-requires : tie.Need-condition-requires
 condition-requires c κs =
-    let at-pre = c .before .before .before .before .before .before .before .before .before .before .before .before .before .before in
+    let at-pre = c .before .before .before .before .before .before .before .before .before .before .before .before .before .before .before .before in
     asks-condition _ (at-pre .pre .stands) (at-pre .pre .variable)
 
 returns-3 : tie.Need-returns-3
@@ -38,11 +38,11 @@ unfolding condition-at
 returns-3 c =
     let at-condition = c .before .before .before .before .before .before .before .before .before in
     let at-if2 = at-condition .before .before .before .before .before .before .before in
-    let at-if1 = at-if2 .before in
-    let at-args = at-if1 .before .before .before .before .before .before .before in
+    let at-if1 = at-if2 .before .before in
+    let at-args = at-if1 .before .before .before .before .before .before .before .before in
     negated-full (framed (at-args .args .frame .now)) (at-args .args .formulas .now) (at-args .args .effects .now)
     ((sized (at-args .args .rows .now) (at-args .args .twins .now))) (store (at-args .args .table .now) (at-args .args .originals .now))
-    (at-args .args .scratch .now) (at-args .args .e) (at-args .args .v) (at-args .args .a) (at-args .args .d) (at-args .pre) (at-if1 .if1 .left)
+    (at-args .args .scratch .now) (at-args .args .e) (at-args .args .v) (at-args .args .c .adds) (at-args .args .c .deletes) (at-args .pre) (at-if1 .if1 .left)
     (at-if2 .if2 .left) (at-condition .condition .ensures) (eq-eqb _ 65535 (c .if3 .taken))
 
 join-requires : tie.Need-join-requires
@@ -51,11 +51,11 @@ join-requires c κs =
     let at-if3 = c .before .before .before in
     let at-condition = at-if3 .before .before .before .before .before .before .before .before .before in
     let at-if2 = at-condition .before .before .before .before .before .before .before in
-    let at-if1 = at-if2 .before in
-    let at-args = at-if1 .before .before .before .before .before .before .before in
+    let at-if1 = at-if2 .before .before in
+    let at-args = at-if1 .before .before .before .before .before .before .before .before in
     negated-join-asks (framed (at-args .args .frame .now)) (at-args .args .formulas .now) (at-args .args .effects .now)
     ((sized (at-args .args .rows .now) (at-args .args .twins .now))) (store (at-args .args .table .now) (at-args .args .originals .now))
-    (at-args .args .scratch .now) (at-args .args .e) (at-args .args .v) (at-args .args .a) (at-args .args .d) (at-args .pre) (at-if1 .if1 .left)
+    (at-args .args .scratch .now) (at-args .args .e) (at-args .args .v) (at-args .args .c .adds) (at-args .args .c .deletes) (at-args .pre) (at-if1 .if1 .left)
     (at-if2 .if2 .left) (at-condition .condition .ensures) (ne-eqb _ 65535 (at-if3 .if3 .left))
 
 returns-4 : tie.Need-returns-4
@@ -64,11 +64,11 @@ returns-4 c =
     let at-if3 = c .before .before .before .before .before .before in
     let at-condition = at-if3 .before .before .before .before .before .before .before .before .before in
     let at-if2 = at-condition .before .before .before .before .before .before .before in
-    let at-if1 = at-if2 .before in
-    let at-args = at-if1 .before .before .before .before .before .before .before in
+    let at-if1 = at-if2 .before .before in
+    let at-args = at-if1 .before .before .before .before .before .before .before .before in
     negated-joined (framed (at-args .args .frame .now)) (at-args .args .formulas .now) (at-args .args .effects .now)
     ((sized (at-args .args .rows .now) (at-args .args .twins .now))) (store (at-args .args .table .now) (at-args .args .originals .now))
-    (at-args .args .scratch .now) (at-args .args .e) (at-args .args .v) (at-args .args .a) (at-args .args .d) (at-args .pre) (at-if1 .if1 .left)
+    (at-args .args .scratch .now) (at-args .args .e) (at-args .args .v) (at-args .args .c .adds) (at-args .args .c .deletes) (at-args .pre) (at-if1 .if1 .left)
     (at-if2 .if2 .left) (at-condition .condition .ensures) (ne-eqb _ 65535 (at-if3 .if3 .left))
     (c .before .before .join .ensures _ _ _ refl (at-condition .condition .ensures .builds .done (ne-eqb _ 65535 (at-if3 .if3 .left)) .ready))
 

@@ -5,7 +5,6 @@ use Rattle.operators.proofs.walk.build_changes.Statement.{statement}
 use Rattle.operators.proofs.walk.build_changes.Tie as tie
 use Rattle.operators.proofs.walk.build_changes.Reads as reads
 use Rattle.operators.proofs.walk.build_changes.Lts as lts
-use Rattle.atom_sets.proofs.lacks.Reads as lacks-reads
 use Rattle.changes.proofs.change_of.Reads as change-of-reads
 use Rattle.operators.proofs.walk.next_touched.Reads as next-touched-reads
 use Rattle.records.proofs.keep_change.Reads as keep-change-reads
@@ -14,7 +13,7 @@ use mathlib.Core.Path.{_≡_, refl, _∙_}
 use native.Mathlib.Omega.{arith}
 use lib.ListN.{length}
 use Rattle.formula_builder.specs.Inner.Held.{store, held}
-use Rattle.operators.proofs.Walks.{change-asks, change-made, looks-on, looks-at, Walking, walking-begins, walking-asks, walking-keeps, walking-stops, walking-more, walking-ends}
+use Rattle.operators.proofs.Walks.{change-asks, change-made, looks-on, Walking, walking-begins, walking-asks, walking-keeps, walking-stops, walking-more, walking-ends}
 use Rattle.conditions.specs.Inner.Conditions.{Noted}
 use Rattle.changes.proofs.Standing.{leaves-same, leaves-full}
 
@@ -47,65 +46,48 @@ cast-variable c =
     let at-pre = c .before .before .before .before .before .before .before .before .before .before .before .before in
     omega (arith, c .loop-test .taken, at-pre .pre .0 .stands .ready .variables)
 
-lacks-requires : tie.Need-lacks-requires Inv-loop μ-loop
-lacks-requires c κs =
-    let at-pre = c .before .before .before .before .before .before .before .before .before .before .before .before .before in (
-      looks-at (looks-on {from = 0} (at-pre .pre .0) (c .before .before .loop .inv .6) (omega arith)) (c .before .loop-test .taken),
-      c .before .before .loop .inv .6 .sets .words,
-    )
-
-lacks-requires-2 : tie.Need-lacks-requires-2 Inv-loop μ-loop
-lacks-requires-2 c κs =
-    let at-loop-test = c .before .before .before in
-    let at-loop = at-loop-test .before in
-    let at-pre = at-loop .before .before .before .before .before .before .before .before .before .before .before in
-    (looks-at (looks-on {from = 0} (at-pre .pre .0) (at-loop .loop .inv .6) (omega arith)) (at-loop-test .loop-test .taken), at-loop .loop .inv .6 .sets .words)
-
 change-of-requires : tie.Need-change-of-requires Inv-loop μ-loop
 change-of-requires c κs =
-    let at-lacks2 = c .before .before .before .before .before .before .before in
-    let at-lacks = at-lacks2 .before .before in
-    let at-loop-test = at-lacks .before .before in
+    let at-loop-test = c .before .before .before .before .before .before .before in
     let at-loop = at-loop-test .before in
     let at-words-of = at-loop .before .before .before in
     let at-pre = at-words-of .before .before .before .before .before .before .before .before in
     change-asks (at-words-of .words-of .ensures) _ _
-    (walking-asks (at-pre .pre .0) (at-loop .loop .inv .5) (at-loop .loop .inv .6) (at-loop .loop .inv .3) (at-loop-test .loop-test .taken)
-    (at-lacks .lacks .ensures) (at-lacks2 .lacks2 .ensures))
+    (walking-asks (at-pre .pre .0) (at-loop .loop .inv .5) (at-loop .loop .inv .6) (at-loop .loop .inv .3) (at-loop-test .loop-test .taken))
 
 same-length : tie.Need-same-length Inv-loop μ-loop
 same-length c =
     let at-change-of = c .before .before .before .before .before .before .before .before .before in
-    let at-loop = at-change-of .before .before .before .before .before .before .before .before .before .before .before .before .before in
+    let at-loop = at-change-of .before .before .before .before .before .before .before .before .before in
     at-change-of .change-of .kept .1 .1 .0 ∙ at-loop .loop .inv .0
 
 same-length-2 : tie.Need-same-length-2 Inv-loop μ-loop
 same-length-2 c =
     let at-change-of = c .before .before .before .before .before .before .before .before .before in
-    let at-loop = at-change-of .before .before .before .before .before .before .before .before .before .before .before .before .before in
-    at-change-of .change-of .kept .1 .1 .1 .1 .1 .1 .1 .1 .1 .1 .0 ∙ at-loop .loop .inv .1
+    let at-loop = at-change-of .before .before .before .before .before .before .before .before .before in
+    at-change-of .change-of .kept .1 .1 .1 .1 .1 .1 .1 .1 .0 ∙ at-loop .loop .inv .1
 
 same-length-3 : tie.Need-same-length-3 Inv-loop μ-loop
 same-length-3 c =
     let at-change-of = c .before .before .before .before .before .before .before .before .before in
-    let at-loop = at-change-of .before .before .before .before .before .before .before .before .before .before .before .before .before in
-    at-change-of .change-of .kept .1 .1 .1 .1 .1 .1 .1 .1 .1 .1 .1 .0 ∙ at-loop .loop .inv .2
+    let at-loop = at-change-of .before .before .before .before .before .before .before .before .before in
+    at-change-of .change-of .kept .1 .1 .1 .1 .1 .1 .1 .1 .1 .0 ∙ at-loop .loop .inv .2
 
 same-length-4 : tie.Need-same-length-4 Inv-loop μ-loop
 same-length-4 c =
     let at-change-of = c .before .before .before .before .before .before .before .before .before in
-    let at-loop = at-change-of .before .before .before .before .before .before .before .before .before .before .before .before .before in
-    at-change-of .change-of .kept .1 .1 .1 .1 .1 .1 .1 .1 .1 .1 .1 .1 .0 ∙ at-loop .loop .inv .3
+    let at-loop = at-change-of .before .before .before .before .before .before .before .before .before in
+    at-change-of .change-of .kept .1 .1 .1 .1 .1 .1 .1 .1 .1 .1 .0 ∙ at-loop .loop .inv .3
 
 same-length-5 : tie.Need-same-length-5 Inv-loop μ-loop
 same-length-5 c =
-    let at-loop = c .before .before .before .before .before .before .before .before .before .before .before .before .before .before .before .before .before .before .before .before .before .before in
+    let at-loop = c .before .before .before .before .before .before .before .before .before .before .before .before .before .before .before .before .before .before in
     at-loop .loop .inv .4
 
 returns : tie.Need-returns Inv-loop μ-loop
 returns c =
     let at-change-of = c .before .before .before .before .before .before .before .before .before in
-    let at-loop-test = at-change-of .before .before .before .before .before .before .before .before .before .before .before .before in
+    let at-loop-test = at-change-of .before .before .before .before .before .before .before .before in
     let at-loop = at-loop-test .before in
     let at-words-of = at-loop .before .before .before in
     let at-pre = at-words-of .before .before .before .before .before .before .before .before in (
@@ -116,13 +98,13 @@ returns c =
 
 keep-change-requires : tie.Need-keep-change-requires Inv-loop μ-loop
 keep-change-requires c κs =
-    let at-loop = c .before .before .before .before .before .before .before .before .before .before .before .before .before .before .before .before .before .before .before .before .before .before .before in
+    let at-loop = c .before .before .before .before .before .before .before .before .before .before .before .before .before .before .before .before .before .before .before in
     let at-pre = at-loop .before .before .before .before .before .before .before .before .before .before .before in
     walking-keeps (at-pre .pre .0) (at-loop .loop .inv .5) (at-pre .pre .1) (at-loop .loop .inv .4)
 
 add-next-touched : tie.Need-add-next-touched Inv-loop μ-loop
 add-next-touched c =
-    let at-loop-test = c .before .before .before .before .before .before .before .before .before .before .before .before .before .before .before .before .before .before .before .before .before .before .before .before .before .before in
+    let at-loop-test = c .before .before .before .before .before .before .before .before .before .before .before .before .before .before .before .before .before .before .before .before .before .before in
     let at-pre = at-loop-test .before .before .before .before .before .before .before .before .before .before .before .before in
     omega (arith, at-loop-test .loop-test .taken, at-pre .pre .0 .stands .ready .variables)
 
@@ -130,7 +112,7 @@ next-touched-requires-2 : tie.Need-next-touched-requires-2 Inv-loop μ-loop
 next-touched-requires-2 c κs =
     let at-if1 = c .before .before .before .before .before in
     let at-change-of = at-if1 .before .before .before .before .before .before .before .before .before in
-    let at-loop-test = at-change-of .before .before .before .before .before .before .before .before .before .before .before .before in
+    let at-loop-test = at-change-of .before .before .before .before .before .before .before .before in
     let at-words-of = at-loop-test .before .before .before .before in
     let at-pre = at-words-of .before .before .before .before .before .before .before .before in
     looks-on (at-pre .pre .0) ((change-made (at-words-of .words-of .ensures) _ _ (at-change-of .change-of .ensures)) .1 .noted (at-if1 .if1 .left))
@@ -138,7 +120,7 @@ next-touched-requires-2 c κs =
 
 loop-less : tie.Need-loop-less Inv-loop μ-loop
 loop-less c =
-    let at-loop-test = c .before .before .before .before .before .before .before .before .before .before .before .before .before .before .before .before .before .before .before .before .before .before .before .before .before .before .before in
+    let at-loop-test = c .before .before .before .before .before .before .before .before .before .before .before .before .before .before .before .before .before .before .before .before .before .before .before in
     omega (arith, at-loop-test .loop-test .taken, c .next-touched2 .ensures .above)
 
 loop-again : tie.Need-loop-again Inv-loop μ-loop
@@ -146,13 +128,13 @@ loop-again c =
     let at-keep-change = c .before .before .before .before in
     let at-if1 = at-keep-change .before .before in
     let at-change-of = at-if1 .before .before .before .before .before .before .before .before .before in
-    let at-loop = at-change-of .before .before .before .before .before .before .before .before .before .before .before .before .before in
+    let at-loop = at-change-of .before .before .before .before .before .before .before .before .before in
     let at-words-of = at-loop .before .before .before in
     let at-pre = at-words-of .before .before .before .before .before .before .before .before in (
       at-change-of .change-of .kept .1 .1 .0 ∙ at-loop .loop .inv .0,
-      at-change-of .change-of .kept .1 .1 .1 .1 .1 .1 .1 .1 .1 .1 .0 ∙ at-loop .loop .inv .1,
-      at-change-of .change-of .kept .1 .1 .1 .1 .1 .1 .1 .1 .1 .1 .1 .0 ∙ at-loop .loop .inv .2,
-      at-change-of .change-of .kept .1 .1 .1 .1 .1 .1 .1 .1 .1 .1 .1 .1 .0 ∙ at-loop .loop .inv .3,
+      at-change-of .change-of .kept .1 .1 .1 .1 .1 .1 .1 .1 .0 ∙ at-loop .loop .inv .1,
+      at-change-of .change-of .kept .1 .1 .1 .1 .1 .1 .1 .1 .1 .0 ∙ at-loop .loop .inv .2,
+      at-change-of .change-of .kept .1 .1 .1 .1 .1 .1 .1 .1 .1 .1 .0 ∙ at-loop .loop .inv .3,
       at-keep-change .keep-change .kept .0 ∙ at-loop .loop .inv .4,
       walking-more (at-pre .pre .0) (at-loop .loop .inv .5) (at-change-of .change-of .result)
           ((change-made (at-words-of .words-of .ensures) _ _ (at-change-of .change-of .ensures)) .0) (at-if1 .if1 .left) (at-keep-change .keep-change .ensures)
@@ -186,6 +168,6 @@ build-changes-spec =
     (tie.spec
     Inv-loop
     μ-loop
-    (λ c κs. search needs) next-touched-requires loop-holds cast-variable lacks-requires lacks-requires-2 change-of-requires same-length same-length-2
+    (λ c κs. search needs) next-touched-requires loop-holds cast-variable change-of-requires same-length same-length-2
     same-length-3 same-length-4 same-length-5 returns keep-change-requires add-next-touched next-touched-requires-2 loop-less loop-again same-length-6
     same-length-7 same-length-8 same-length-9 same-length-10 returns-2)

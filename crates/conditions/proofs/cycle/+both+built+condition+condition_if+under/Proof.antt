@@ -1,22 +1,22 @@
--- The cycle of `condition`, `built`, `both`, `half`, `under` meets its contracts. Assumes nothing.
+-- The cycle of `condition`, `built`, `both`, `condition_if`, `under` meets its contracts. Assumes nothing.
 use Prim.Native.Nat.{ℕ, _+_, _*_, _<_}
 use borrow.Fn.Kinds.{In}
 use borrow.Fn.PlainCycle.{Measures, is, falls, and}
 use Rattle.conditions.proofs.cycle.both.Reads as both
 use Rattle.conditions.proofs.cycle.both.Kinds as both-kinds
-use Rattle.conditions.proofs.cycle.+both+built+condition+half+under.Lts-both as both-lts
+use Rattle.conditions.proofs.cycle.+both+built+condition+condition_if+under.Lts-both as both-lts
 use Rattle.conditions.proofs.cycle.built.Reads as built
 use Rattle.conditions.proofs.cycle.built.Kinds as built-kinds
-use Rattle.conditions.proofs.cycle.+both+built+condition+half+under.Lts-built as built-lts
+use Rattle.conditions.proofs.cycle.+both+built+condition+condition_if+under.Lts-built as built-lts
 use Rattle.conditions.proofs.cycle.condition.Reads as condition
 use Rattle.conditions.proofs.cycle.condition.Kinds as condition-kinds
-use Rattle.conditions.proofs.cycle.+both+built+condition+half+under.Lts-condition as condition-lts
-use Rattle.conditions.proofs.cycle.half.Reads as half
-use Rattle.conditions.proofs.cycle.half.Kinds as half-kinds
-use Rattle.conditions.proofs.cycle.+both+built+condition+half+under.Lts-half as half-lts
+use Rattle.conditions.proofs.cycle.+both+built+condition+condition_if+under.Lts-condition as condition-lts
+use Rattle.conditions.proofs.cycle.condition_if.Reads as condition-if
+use Rattle.conditions.proofs.cycle.condition_if.Kinds as condition-if-kinds
+use Rattle.conditions.proofs.cycle.+both+built+condition+condition_if+under.Lts-condition_if as condition-if-lts
 use Rattle.conditions.proofs.cycle.under.Reads as under
 use Rattle.conditions.proofs.cycle.under.Kinds as under-kinds
-use Rattle.conditions.proofs.cycle.+both+built+condition+half+under.Lts-under as under-lts
+use Rattle.conditions.proofs.cycle.+both+built+condition+condition_if+under.Lts-under as under-lts
 use Rattle.atom_sets.proofs.lacks.Reads as lacks-reads
 use Rattle.conditions.proofs.atom.atom.Reads as atom-reads
 use Rattle.conditions.proofs.joined.joined.Reads as joined-reads
@@ -26,8 +26,8 @@ use Rattle.formula_builder.proofs.frame_of.Reads as frame-of-reads
 use Rattle.formula_builder.proofs.falsity.Reads as falsity-reads
 use Rattle.formula_builder.proofs.read_row.Reads as read-row-reads
 use Rattle.images.proofs.sided.Reads as sided-reads
-use Rattle.conditions.proofs.cycle.+both+built+condition+half+under.{statement}
-use Rattle.conditions.proofs.cycle.+both+built+condition+half+under.Tie.{close}
+use Rattle.conditions.proofs.cycle.+both+built+condition+condition_if+under.{statement}
+use Rattle.conditions.proofs.cycle.+both+built+condition+condition_if+under.Tie.{close}
 use borrow.Author.Needs.{needs}
 use borrow.Author.Tests.{eq-eqb, ne-eqb}
 use native.Mathlib.Omega.{arith}
@@ -48,8 +48,8 @@ abbrev μ-built : Measures 9 built-kinds.ps ℕ
 abbrev μ-condition : Measures 9 condition-kinds.ps ℕ
 μ-condition κs a = 4 * a .1 .1 .1 .0 + 2
 
-abbrev μ-half : Measures 9 half-kinds.ps ℕ
-μ-half κs a = 4 * a .1 .1 .1 .0 + 3
+abbrev μ-condition-if : Measures 9 condition-if-kinds.ps ℕ
+μ-condition-if κs a = 4 * a .1 .1 .1 .0 + 3
 
 abbrev μ-under : Measures 9 under-kinds.ps ℕ
 μ-under κs a = 4 * a .1 .1 .1 .0
@@ -73,11 +73,11 @@ module _ (t : ℕ) where
   abbrev condition-below : In 9 condition-kinds.ps
   condition-below = and 9 condition-kinds.ps (falls 9 condition-kinds.ps _<_ μ-condition t) condition.Pre
 
-  abbrev half-at : In 9 half-kinds.ps
-  half-at = and 9 half-kinds.ps (is 9 half-kinds.ps μ-half t) half.Pre
+  abbrev condition-if-at : In 9 condition-if-kinds.ps
+  condition-if-at = and 9 condition-if-kinds.ps (is 9 condition-if-kinds.ps μ-condition-if t) condition-if.Pre
 
-  abbrev half-below : In 9 half-kinds.ps
-  half-below = and 9 half-kinds.ps (falls 9 half-kinds.ps _<_ μ-half t) half.Pre
+  abbrev condition-if-below : In 9 condition-if-kinds.ps
+  condition-if-below = and 9 condition-if-kinds.ps (falls 9 condition-if-kinds.ps _<_ μ-condition-if t) condition-if.Pre
 
   abbrev under-at : In 9 under-kinds.ps
   under-at = and 9 under-kinds.ps (is 9 under-kinds.ps μ-under t) under.Pre
@@ -90,8 +90,8 @@ module _ (t : ℕ) where
   both-calls = (
     read-row-reads.Asked,
     read-row-reads.Learnt,
-    half-below,
-    half.Post,
+    condition-if-below,
+    condition-if.Post,
     falsity-reads.Asked,
     falsity-reads.Learnt,
     joined-reads.Asked,
@@ -116,8 +116,8 @@ module _ (t : ℕ) where
     keep-reads.Learnt,
   )
 
-  abbrev half-calls : half-lts.Claims
-  half-calls = (
+  abbrev condition-if-calls : condition-if-lts.Claims
+  condition-if-calls = (
     frame-of-reads.Asked,
     frame-of-reads.Learnt,
     lacks-reads.Asked,
@@ -148,8 +148,8 @@ module _ (t : ℕ) where
       let start = c .before .before .before .before .before .before in
       omega (arith, start .pre .1 .0 .effect-source .words, start .pre .1 .0 .effect)
 
-  both-half-requires : both-lts.Need-half-requires both-calls both-at both.Post
-  both-half-requires c κs =
+  both-condition-if-requires : both-lts.Need-condition-if-requires both-calls both-at both.Post
+  both-condition-if-requires c κs =
       let at-row = c .before .before .before .before .before .before .before in
       let start = at-row .before .before .before .before .before .before .before in (
         omega (arith, start .pre .0, effects-lower (start .pre .1 .0) (start .pre .1 .1) (at-row .read-row .result) (at-row .read-row .ensures) .0),
@@ -161,17 +161,17 @@ module _ (t : ℕ) where
       let at-left = c .before .before .before .before .before .before .before .before .before in
       let at-row = at-left .before .before .before .before .before .before .before .before in
       let start = at-row .before .before .before .before .before .before .before in
-      left-full (start .pre .1 .0) (start .pre .1 .1) (at-row .read-row .result) (at-row .read-row .ensures) (at-left .half .ensures)
+      left-full (start .pre .1 .0) (start .pre .1 .1) (at-row .read-row .result) (at-row .read-row .ensures) (at-left .condition-if .ensures)
       (eq-eqb _ 65535 (c .if1 .taken))
 
-  both-half-requires-2 : both-lts.Need-half-requires-2 both-calls both-at both.Post
-  both-half-requires-2 c κs =
+  both-condition-if-requires-2 : both-lts.Need-condition-if-requires-2 both-calls both-at both.Post
+  both-condition-if-requires-2 c κs =
       let at-if1 = c .before .before .before .before .before .before .before in
       let at-left = at-if1 .before .before .before .before .before .before .before .before .before in
       let at-row = at-left .before .before .before .before .before .before .before .before in
       let start = at-row .before .before .before .before .before .before .before in (
         omega (arith, start .pre .0, effects-lower (start .pre .1 .0) (start .pre .1 .1) (at-row .read-row .result) (at-row .read-row .ensures) .1),
-        right-asks (start .pre .1 .0) (start .pre .1 .1) (at-row .read-row .result) (at-row .read-row .ensures) (at-left .half .ensures) (ne-eqb _ 65535 (at-if1 .if1 .left)) (at-left .half .kept .1 .1 .1 .1 .1 .1 .1 .1 .1 .1 .0),
+        right-asks (start .pre .1 .0) (start .pre .1 .1) (at-row .read-row .result) (at-row .read-row .ensures) (at-left .condition-if .ensures) (ne-eqb _ 65535 (at-if1 .if1 .left)) (at-left .condition-if .kept .1 .1 .1 .1 .1 .1 .1 .1 .1 .1 .0),
       )
 
   both-returns-2 : both-lts.Need-returns-2 both-calls both-at both.Post
@@ -181,8 +181,8 @@ module _ (t : ℕ) where
       let at-left = at-if1 .before .before .before .before .before .before .before .before .before in
       let at-row = at-left .before .before .before .before .before .before .before .before in
       let start = at-row .before .before .before .before .before .before .before in
-      right-full (start .pre .1 .0) (start .pre .1 .1) (at-row .read-row .result) (at-row .read-row .ensures) (at-left .half .ensures)
-      (ne-eqb _ 65535 (at-if1 .if1 .left)) (at-right .half2 .ensures) (eq-eqb _ 65535 (c .if2 .taken))
+      right-full (start .pre .1 .0) (start .pre .1 .1) (at-row .read-row .result) (at-row .read-row .ensures) (at-left .condition-if .ensures)
+      (ne-eqb _ 65535 (at-if1 .if1 .left)) (at-right .condition-if2 .ensures) (eq-eqb _ 65535 (c .if2 .taken))
 
   both-returns-3 : both-lts.Need-returns-3 both-calls both-at both.Post
   both-returns-3 c =
@@ -193,8 +193,8 @@ module _ (t : ℕ) where
       let at-left = at-if1 .before .before .before .before .before .before .before .before .before in
       let at-row = at-left .before .before .before .before .before .before .before .before in
       let start = at-row .before .before .before .before .before .before .before in
-      left-false (start .pre .1 .0) (start .pre .1 .1) (at-row .read-row .result) (at-row .read-row .ensures) (at-left .half .ensures)
-      (ne-eqb _ 65535 (at-if1 .if1 .left)) (at-right .half2 .ensures) (ne-eqb _ 65535 (at-if2 .if2 .left)) (c .if3 .taken ∙ at-falsity .falsity .ensures)
+      left-false (start .pre .1 .0) (start .pre .1 .1) (at-row .read-row .result) (at-row .read-row .ensures) (at-left .condition-if .ensures)
+      (ne-eqb _ 65535 (at-if1 .if1 .left)) (at-right .condition-if2 .ensures) (ne-eqb _ 65535 (at-if2 .if2 .left)) (c .if3 .taken ∙ at-falsity .falsity .ensures)
 
   both-returns-4 : both-lts.Need-returns-4 both-calls both-at both.Post
   both-returns-4 c =
@@ -205,8 +205,8 @@ module _ (t : ℕ) where
       let at-left = at-if1 .before .before .before .before .before .before .before .before .before in
       let at-row = at-left .before .before .before .before .before .before .before .before in
       let start = at-row .before .before .before .before .before .before .before in
-      right-false (start .pre .1 .0) (start .pre .1 .1) (at-row .read-row .result) (at-row .read-row .ensures) (at-left .half .ensures)
-      (ne-eqb _ 65535 (at-if1 .if1 .left)) (at-right .half2 .ensures) (ne-eqb _ 65535 (at-if2 .if2 .left)) (c .if4 .taken ∙ at-falsity .falsity .ensures)
+      right-false (start .pre .1 .0) (start .pre .1 .1) (at-row .read-row .result) (at-row .read-row .ensures) (at-left .condition-if .ensures)
+      (ne-eqb _ 65535 (at-if1 .if1 .left)) (at-right .condition-if2 .ensures) (ne-eqb _ 65535 (at-if2 .if2 .left)) (c .if4 .taken ∙ at-falsity .falsity .ensures)
 
   both-joined-requires : both-lts.Need-joined-requires both-calls both-at both.Post
   both-joined-requires c κs =
@@ -216,35 +216,35 @@ module _ (t : ℕ) where
       let at-left = at-if1 .before .before .before .before .before .before .before .before .before in
       let at-row = at-left .before .before .before .before .before .before .before .before in
       let start = at-row .before .before .before .before .before .before .before in
-      both-join-asks (start .pre .1 .0) (start .pre .1 .1) (at-row .read-row .result) (at-row .read-row .ensures) (at-left .half .ensures)
-      (ne-eqb _ 65535 (at-if1 .if1 .left)) (at-right .half2 .ensures) (ne-eqb _ 65535 (at-if2 .if2 .left))
+      both-join-asks (start .pre .1 .0) (start .pre .1 .1) (at-row .read-row .result) (at-row .read-row .ensures) (at-left .condition-if .ensures)
+      (ne-eqb _ 65535 (at-if1 .if1 .left)) (at-right .condition-if2 .ensures) (ne-eqb _ 65535 (at-if2 .if2 .left))
 
   both-same-length-17 : both-lts.Need-same-length-17 both-calls both-at both.Post
   both-same-length-17 c =
       let at-joined = c .before .before .before .before in
       let at-right = at-joined .before .before .before .before .before .before .before .before .before .before .before .before .before .before .before .before .before in
       let at-left = at-right .before .before .before .before .before .before .before .before .before .before .before .before .before .before .before .before .before in
-      at-joined .joined .kept .0 ∙ at-right .half2 .kept .1 .1 .0 ∙ at-left .half .kept .1 .1 .0
+      at-joined .joined .kept .0 ∙ at-right .condition-if2 .kept .1 .1 .0 ∙ at-left .condition-if .kept .1 .1 .0
 
   both-same-length-18 : both-lts.Need-same-length-18 both-calls both-at both.Post
   both-same-length-18 c =
       let at-joined = c .before .before .before .before in
       let at-right = at-joined .before .before .before .before .before .before .before .before .before .before .before .before .before .before .before .before .before in
       let at-left = at-right .before .before .before .before .before .before .before .before .before .before .before .before .before .before .before .before .before in
-      at-joined .joined .kept .1 .1 .1 .1 .1 .1 .1 .1 .0 ∙ at-right .half2 .kept .1 .1 .1 .1 .1 .1 .1 .1 .0 ∙
-      at-left .half .kept .1 .1 .1 .1 .1 .1 .1 .1 .0
+      at-joined .joined .kept .1 .1 .1 .1 .1 .1 .1 .1 .0 ∙ at-right .condition-if2 .kept .1 .1 .1 .1 .1 .1 .1 .1 .0 ∙
+      at-left .condition-if .kept .1 .1 .1 .1 .1 .1 .1 .1 .0
 
   both-same-length-19 : both-lts.Need-same-length-19 both-calls both-at both.Post
   both-same-length-19 c =
       let at-right = c .before .before .before .before .before .before .before .before .before .before .before .before .before .before .before .before .before .before .before .before .before in
       let at-left = at-right .before .before .before .before .before .before .before .before .before .before .before .before .before .before .before .before .before in
-      at-right .half2 .kept .1 .1 .1 .1 .1 .1 .1 .1 .1 .0 ∙ at-left .half .kept .1 .1 .1 .1 .1 .1 .1 .1 .1 .0
+      at-right .condition-if2 .kept .1 .1 .1 .1 .1 .1 .1 .1 .1 .0 ∙ at-left .condition-if .kept .1 .1 .1 .1 .1 .1 .1 .1 .1 .0
 
   both-same-length-20 : both-lts.Need-same-length-20 both-calls both-at both.Post
   both-same-length-20 c =
       let at-right = c .before .before .before .before .before .before .before .before .before .before .before .before .before .before .before .before .before .before .before .before .before in
       let at-left = at-right .before .before .before .before .before .before .before .before .before .before .before .before .before .before .before .before .before in
-      at-right .half2 .kept .1 .1 .1 .1 .1 .1 .1 .1 .1 .1 .0 ∙ at-left .half .kept .1 .1 .1 .1 .1 .1 .1 .1 .1 .1 .0
+      at-right .condition-if2 .kept .1 .1 .1 .1 .1 .1 .1 .1 .1 .1 .0 ∙ at-left .condition-if .kept .1 .1 .1 .1 .1 .1 .1 .1 .1 .1 .0
 
   both-returns-5 : both-lts.Need-returns-5 both-calls both-at both.Post
   both-returns-5 c =
@@ -255,8 +255,8 @@ module _ (t : ℕ) where
       let at-left = at-if1 .before .before .before .before .before .before .before .before .before in
       let at-row = at-left .before .before .before .before .before .before .before .before in
       let start = at-row .before .before .before .before .before .before .before in
-      both-done (start .pre .1 .0) (start .pre .1 .1) (at-row .read-row .result) (at-row .read-row .ensures) (at-left .half .ensures)
-      (ne-eqb _ 65535 (at-if1 .if1 .left)) (at-right .half2 .ensures) (ne-eqb _ 65535 (at-if2 .if2 .left)) (at-joined .joined .ensures _ _)
+      both-done (start .pre .1 .0) (start .pre .1 .1) (at-row .read-row .result) (at-row .read-row .ensures) (at-left .condition-if .ensures)
+      (ne-eqb _ 65535 (at-if1 .if1 .left)) (at-right .condition-if2 .ensures) (ne-eqb _ 65535 (at-if2 .if2 .left)) (at-joined .joined .ensures _ _)
 
   -- `built`
   built-read-row-requires : built-lts.Need-read-row-requires built-calls built-at built.Post
@@ -371,15 +371,15 @@ module _ (t : ℕ) where
       let at-built = at-keep .before .before .before .before .before .before .before .before .before .before .before .before in
       conditions-kept (at-built .built .ensures) (at-keep .keep .ensures)
 
-  -- `half`
-  half-lacks-requires : half-lts.Need-lacks-requires half-calls half-at half.Post
-  half-lacks-requires c κs =
+  -- `condition_if`
+  condition-if-lacks-requires : condition-if-lts.Need-lacks-requires condition-if-calls condition-if-at condition-if.Post
+  condition-if-lacks-requires c κs =
       let at-frame-of = c .before in
       let start = at-frame-of .before .before .before .before .before .before .before .before in
       rw (at-frame-of .frame-of .ensures) (in-set (start .pre .1), start .pre .1 .noted .sets .words)
 
-  half-returns : half-lts.Need-returns half-calls half-at half.Post
-  half-returns c =
+  condition-if-returns : condition-if-lts.Need-returns condition-if-calls condition-if-at condition-if.Post
+  condition-if-returns c =
       let at-if1 = c .before in
       let at-lacks = at-if1 .before in
       let at-frame-of = at-lacks .before .before in
@@ -387,13 +387,13 @@ module _ (t : ℕ) where
       answers-lacking (start .pre .1) (lacks-framed _ _ _ _ (at-frame-of .frame-of .ensures) (sym (at-if1 .if1 .taken) ∙ at-lacks .lacks .ensures))
       (c .falsity .ensures)
 
-  half-condition-requires : half-lts.Need-condition-requires half-calls half-at half.Post
-  half-condition-requires c κs =
+  condition-if-condition-requires : condition-if-lts.Need-condition-requires condition-if-calls condition-if-at condition-if.Post
+  condition-if-condition-requires c κs =
       let start = c .before .before .before .before .before .before .before .before .before .before .before .before .before .before .before .before .before in
       (omega (arith, start .pre .0), start .pre .1)
 
-  half-returns-2 : half-lts.Need-returns-2 half-calls half-at half.Post
-  half-returns-2 c =
+  condition-if-returns-2 : condition-if-lts.Need-returns-2 condition-if-calls condition-if-at condition-if.Post
+  condition-if-returns-2 c =
       let at-condition = c .before .before .before .before .before .before .before .before in
       at-condition .condition .ensures
 
@@ -505,12 +505,12 @@ module _ (t : ℕ) where
       (ne-eqb _ 65535 (at-if1 .if1 .left)) (λ z. at-if2 .if2 .left (z ∙ sym (at-falsity .falsity .ensures))) (at-image .sided .ensures)
       (ne-eqb _ 65535 (at-if3 .if3 .left)) (at-joined .joined .ensures _ _)
 
-pub +both+built+condition+half+under-spec : {M : Type 1} → statement M
-+both+built+condition+half+under-spec =
-    close μ-both μ-built μ-condition μ-half μ-under
+pub +both+built+condition+condition-if+under-spec : {M : Type 1} → statement M
++both+built+condition+condition-if+under-spec =
+    close μ-both μ-built μ-condition μ-condition-if μ-under
     (λ t. both-lts.spec (both-calls t) (both-at t) both.Post
-    (both-read-row-requires t) (λ c. search needs) (both-half-requires t) (λ c. search needs) (λ c. search needs) (λ c. search needs)
-    (λ c. search needs) (both-returns t) (λ c. search needs) (both-half-requires-2 t) (λ c. search needs) (λ c. search needs) (λ c. search needs)
+    (both-read-row-requires t) (λ c. search needs) (both-condition-if-requires t) (λ c. search needs) (λ c. search needs) (λ c. search needs)
+    (λ c. search needs) (both-returns t) (λ c. search needs) (both-condition-if-requires-2 t) (λ c. search needs) (λ c. search needs) (λ c. search needs)
     (λ c. search needs) (both-returns-2 t) (λ c κs. search needs) (λ c. search needs) (λ c. search needs) (λ c. search needs) (λ c. search needs)
     (both-returns-3 t) (λ c. search needs) (λ c. search needs) (λ c. search needs) (λ c. search needs) (both-returns-4 t) (both-joined-requires t)
     (both-same-length-17 t) (both-same-length-18 t) (both-same-length-19 t) (both-same-length-20 t) (both-returns-5 t))
@@ -522,9 +522,9 @@ pub +both+built+condition+half+under-spec : {M : Type 1} → statement M
     (λ c κs. search needs) (λ c. search needs) (λ c. search needs) (condition-returns-2 t) (condition-built-requires t) (λ c. search needs)
     (λ c. search needs) (λ c. search needs) (λ c. search needs) (condition-returns-3 t) (condition-keep-requires t) (condition-same-length-9 t)
     (condition-same-length-10 t) (condition-same-length-11 t) (condition-same-length-12 t) (condition-returns-4 t))
-    (λ t. half-lts.spec (half-calls t) (half-at t) half.Post
-    (λ c κs. search needs) (λ c. search needs) (half-lacks-requires t) (λ c κs. search needs) (λ c. search needs) (half-returns t)
-    (half-condition-requires t) (λ c. search needs) (λ c. search needs) (λ c. search needs) (λ c. search needs) (half-returns-2 t))
+    (λ t. condition-if-lts.spec (condition-if-calls t) (condition-if-at t) condition-if.Post
+    (λ c κs. search needs) (λ c. search needs) (condition-if-lacks-requires t) (λ c κs. search needs) (λ c. search needs) (condition-if-returns t)
+    (condition-if-condition-requires t) (λ c. search needs) (λ c. search needs) (λ c. search needs) (λ c. search needs) (condition-if-returns-2 t))
     (λ t. under-lts.spec (under-calls t) (under-at t) under.Post
     (under-read-row-requires t) (λ c. search needs) (under-condition-requires t) (λ c. search needs) (λ c. search needs) (λ c. search needs)
     (λ c. search needs) (under-returns t) (λ c κs. search needs) (λ c. search needs) (λ c. search needs) (λ c. search needs) (λ c. search needs)
