@@ -26,7 +26,7 @@ use Rattle.rule_writer.specs.declared.Frame.{Frame}
 use Rattle.rule_writer.specs.Inner.Writes.{Holds, Writes, Ready as RuleReady}
 use Rattle.rule_writer.proofs.Writing.{writes-none, writes-as, writes-variable}
 use Rattle.rule_writer.specs.Inner.Places.{begun}
-use Rattle.records.specs.Inner.Recorded.{change-at, changes-from}
+use Rattle.change_records.specs.Inner.Recorded.{change-at, changes-from}
 use Rattle.assembling.specs.Inner.Assembles.{changes-between, built-of, begins-at, built-in, assembled-in, WritesOperator, Holding, WroteOperator, InOrder, Assembles, AssembledAll}
 
 -- a change, as it is read

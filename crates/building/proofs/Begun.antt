@@ -16,10 +16,10 @@ use Rattle.formula_builder.specs.Inner.Held.{Store, store, held, twin-word, Twi
 use Rattle.formula_builder.proofs.Steps.{within-before}
 use Rattle.images.specs.Inner.Images.{image-at, memo-place, Images}
 use Rattle.images.proofs.Memos.{steady-image-at}
-use Rattle.changes.specs.Inner.Stands.{Leaves}
+use Rattle.variable_changes.specs.Inner.Stands.{Leaves}
 use Rattle.conditions.proofs.Memos.{effect-memo-blank}
-use Rattle.changes.proofs.Standing.{stands-next, makes-image, leaves-full}
-use Rattle.records.specs.Inner.Recorded.{Opens, Recorded}
+use Rattle.variable_changes.proofs.Standing.{stands-next, makes-image, leaves-full}
+use Rattle.change_records.specs.Inner.Recorded.{Opens, Recorded}
 use Rattle.operators.specs.declared.Tally.{Tally}
 use Rattle.operators.specs.Inner.Operator.{operator-built, operators-built, operator-here, BuildsOperator, OperatorWalked}
 use Rattle.operators.proofs.InOrder.{more-grows}

@@ -14,9 +14,9 @@ use Rattle.normal_form.proofs.ShapeRules.{All, none, also, all-append}
 use Rattle.formula_builder.specs.Inner.Index.{three}
 use Rattle.formula_builder.specs.declared.Frame.{Frame}
 use Rattle.formula_builder.proofs.Stored.{three-before, three-at}
-use Rattle.records.specs.Inner.Recorded.{acting, Recorded}
-use Rattle.records.proofs.Acting.{acting-all}
-use Rattle.records.proofs.Keeping.{same-changes, three-after}
+use Rattle.change_records.specs.Inner.Recorded.{acting, Recorded}
+use Rattle.change_records.proofs.Acting.{acting-all}
+use Rattle.change_records.proofs.Keeping.{same-changes, three-after}
 use Rattle.operators.specs.Inner.Operator.{all-changes, operator-built, operator-here}
 use Rattle.building.specs.Inner.Taken.{precondition-here, changes-here, many, Kept, AllKept}
 

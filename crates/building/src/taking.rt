@@ -10,7 +10,7 @@ use task::operator_rows::precondition_of;
 ghost use mathlib.Core.Path.{_≡_};
 ghost use mathlib.Core.Bool.{true};
 ghost use Rattle.formula_builder.specs.Inner.Held.{store};
-ghost use Rattle.changes.specs.Inner.Stands.{Leaves};
+ghost use Rattle.variable_changes.specs.Inner.Stands.{Leaves};
 ghost use Rattle.building.specs.Inner.Taken.{size-at, stopped, Fresh, Begun, Takes, Took};
 
 // No room, so many operators taken.

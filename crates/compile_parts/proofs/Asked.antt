@@ -16,7 +16,7 @@ use Rattle.conditions.proofs.Rows.{both-lower, under-lower, known-kind}
 use Rattle.conditions.proofs.Alone.{atom-within, sets-right}
 use Rattle.conditions.proofs.Notes.{noted-blank}
 use Rattle.effect_batches.specs.Inner.Firsts.{First, FindsFirst}
-use Rattle.changes.specs.Inner.Stands.{Leaves}
+use Rattle.variable_changes.specs.Inner.Stands.{Leaves}
 use Rattle.building.specs.declared.Progress.{Progress}
 use Rattle.building.specs.Inner.Taken.{size-at, Begun, Taken, TakesGoal, TookGoal, FromStart}
 use Rattle.building.proofs.Begun.{taken-none, goal-asks, goal-taken}

@@ -13,8 +13,8 @@ use Rattle.formula_builder.specs.declared.Frame.{Frame}
 use Rattle.formula_builder.specs.Inner.Held.{Store, held}
 use Rattle.images.specs.Inner.Images.{image-at}
 use Rattle.images.proofs.Memos.{steady-image-at}
-use Rattle.changes.specs.Inner.Stands.{Leaves}
-use Rattle.changes.proofs.Standing.{leaves-same}
+use Rattle.variable_changes.specs.Inner.Stands.{Leaves}
+use Rattle.variable_changes.proofs.Standing.{leaves-same}
 use Rattle.operators.specs.Inner.Operator.{operators-built, operator-here, operator-built, all-changes}
 use Rattle.building.specs.declared.Progress.{Progress}
 use Rattle.building.specs.Inner.Taken.{size-at, Taken, Takes}

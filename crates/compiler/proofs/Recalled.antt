@@ -14,8 +14,8 @@ use Rattle.normal_form.proofs.ShapeCounts.{assemble-split}
 use Rattle.normal_form.proofs.ShapeFinished.{no-changes}
 use Rattle.normal_form.proofs.ShapeRules.{All, none, also}
 use Rattle.formula_builder.specs.declared.Frame.{Frame}
-use Rattle.records.specs.Inner.Recorded.{acting, change-at, changes-from}
-use Rattle.records.proofs.Acting.{acting-operator, operator-more}
+use Rattle.change_records.specs.Inner.Recorded.{acting, change-at, changes-from}
+use Rattle.change_records.proofs.Acting.{acting-operator, operator-more}
 use Rattle.building.specs.Inner.Taken.{changes-here, many, Kept}
 use Rattle.building.proofs.Kept.{many-suc, many-fewer, acting-below}
 use Rattle.building.proofs.Parts.{made-here}

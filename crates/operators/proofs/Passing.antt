@@ -12,11 +12,11 @@ use Rattle.formula_builder.specs.declared.Frame.{Frame}
 use Rattle.formula_builder.specs.declared.Size.{Size}
 use Rattle.formula_builder.specs.Inner.Held.{Store, held}
 use Rattle.conditions.specs.Inner.Conditions.{effect-tree, condition-at, Unnamed}
-use Rattle.changes.specs.Inner.Stands.{Reaches}
+use Rattle.variable_changes.specs.Inner.Stands.{Reaches}
 use Rattle.atom_sets.specs.Inner.Sets.{lacks, set-from}
 use Rattle.atom_sets.proofs.Places.{none-from, none-lowest, some-lowest}
-use Rattle.records.specs.Inner.Recorded.{idle, acting, Recorded}
-use Rattle.records.proofs.Keeping.{acting-append}
+use Rattle.change_records.specs.Inner.Recorded.{idle, acting, Recorded}
+use Rattle.change_records.proofs.Keeping.{acting-append}
 use Rattle.operators.specs.Inner.Operator.{all-changes, Passes, NextTouched}
 
 -- What is passed over at v, by the word from v on.

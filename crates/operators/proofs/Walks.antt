@@ -19,13 +19,13 @@ use Rattle.formula_builder.proofs.Steps.{within-before}
 use Rattle.images.specs.Inner.Images.{image-at, Images, Asks}
 use Rattle.images.proofs.Memos.{steady-image-at}
 use Rattle.conditions.specs.Inner.Conditions.{effect-tree, Noted}
-use Rattle.changes.specs.Inner.Stands.{Stands, StandsAt, Leaves, Reaches, Makes, made}
+use Rattle.variable_changes.specs.Inner.Stands.{Stands, StandsAt, Leaves, Reaches, Makes, made}
 use Rattle.conditions.proofs.Memos.{conditions-of-images}
-use Rattle.changes.proofs.Standing.{stands-next, stands-at-next}
+use Rattle.variable_changes.proofs.Standing.{stands-next, stands-at-next}
 use Rattle.atom_sets.specs.Inner.Sets.{InSet}
-use Rattle.changes.specs.declared.Change.{Change}
-use Rattle.records.specs.Inner.Recorded.{Keeps, Opens, Recorded}
-use Rattle.records.proofs.Keeping.{recorded-none, recorded-few, recorded-more}
+use Rattle.variable_changes.specs.declared.Change.{Change}
+use Rattle.change_records.specs.Inner.Recorded.{Keeps, Opens, Recorded}
+use Rattle.change_records.proofs.Keeping.{recorded-none, recorded-few, recorded-more}
 use Rattle.operators.specs.declared.Tally.{Tally}
 use Rattle.operators.specs.Inner.Operator.{all-changes, operator-built, LooksOn, NextTouched, BuildsOperator, size-behind, Walked, OperatorWalked}
 use Rattle.operators.proofs.Passing.{stretch-passed, reaches-alike, recorded-alike}

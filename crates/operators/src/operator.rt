@@ -5,8 +5,8 @@ use formula_builder::Frame;
 use formula_builder::Size;
 use images::image_from;
 ghost use Rattle.formula_builder.specs.Inner.Held.{store};
-ghost use Rattle.changes.specs.Inner.Stands.{Leaves};
-ghost use Rattle.records.specs.Inner.Recorded.{Opens};
+ghost use Rattle.variable_changes.specs.Inner.Stands.{Leaves};
+ghost use Rattle.change_records.specs.Inner.Recorded.{Opens};
 ghost use Rattle.operators.specs.Inner.Operator.{BuildsOperator, operator-built, OperatorWalked, size-behind};
 
 // Builds the operator with precondition p and effect e, and records its changes behind those that are.

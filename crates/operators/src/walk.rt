@@ -1,18 +1,18 @@
 // The changes of all variables, upwards.
 use crate::Tally;
 use atom_sets::set_from;
-use changes::change_of;
+use change_records::keep_change;
 use formula_builder::Frame;
 use formula_builder::Size;
 use formula_builder::words_of;
-use records::keep_change;
 use rule_writer::Changes;
+use variable_changes::change_of;
 ghost use Prim.Native.Nat.{_≤_};
 ghost use lib.ListN.{length};
 ghost use Rattle.formula_builder.specs.Inner.Held.{store};
 ghost use Rattle.atom_sets.specs.Inner.Sets.{InSet, sets-end};
-ghost use Rattle.changes.specs.Inner.Stands.{StandsAt, Leaves};
-ghost use Rattle.records.specs.Inner.Recorded.{Opens};
+ghost use Rattle.variable_changes.specs.Inner.Stands.{StandsAt, Leaves};
+ghost use Rattle.change_records.specs.Inner.Recorded.{Opens};
 ghost use Rattle.operators.specs.Inner.Operator.{Passes, LooksOn, NextTouched, Walked, all-changes, size-behind};
 
 // How many variables from v on are passed over at once: none, if effect e names an atom of v; those left of v's word, if it names none of theirs

@@ -6,7 +6,7 @@ use mathlib.Core.List.{List}
 use lib.ListN.{length, replicate}
 use Rattle.task.specs.Table.{Lent}
 use Rattle.task.specs.Run.{Run}
-use Rattle.steps.specs.Inner.Steps.{running}
+use Rattle.operator_step.specs.Inner.Steps.{running}
 use Rattle.stepper.proofs.Calls.{same-run}
 use Rattle.plan.specs.declared.outcome.RunOutcome.{RunOutcome}
 use Rattle.plan.specs.declared.outcome.End.the-variants.{Refused}

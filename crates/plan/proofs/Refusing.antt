@@ -7,7 +7,7 @@ use lib.ListN.{length}
 use borrow.Author.Tests.{le-leb, lt-leb, leb-true}
 use Rattle.task.specs.Table.{Lent}
 use Rattle.task.specs.Check.{unless}
-use Rattle.steps.specs.Inner.Steps.{Ready}
+use Rattle.operator_step.specs.Inner.Steps.{Ready}
 use Rattle.stepper.proofs.Refusing.{first, first-none, rest-none, unless-kept, ready}
 pub use Rattle.stepper.proofs.Refusing.{not-refused}
 use Rattle.plan.specs.Outcome.{sequence-kept, early-refusal, run-refusal}

@@ -10,9 +10,9 @@ use lib.Seq.{drop-cons, drop-length}
 use Rattle.task.specs.declared.Head.{Head}
 use Rattle.task.specs.Table.{Task}
 use Rattle.task.specs.Run.{Run, Progress, ended, stopped, goal-holds, answer, run-on, plain-run}
-use Rattle.steps.specs.declared.Taken.{Taken}
-use Rattle.steps.specs.Inner.Steps.{StateReady, took, Takes}
-use Rattle.steps.proofs.Going.{goes-on, stops, taken-ready}
+use Rattle.operator_step.specs.declared.Taken.{Taken}
+use Rattle.operator_step.specs.Inner.Steps.{StateReady, took, Takes}
+use Rattle.operator_step.proofs.Going.{goes-on, stops, taken-ready}
 use Rattle.plan.specs.declared.outcome.End.the-variants.{Ended, Stopped}
 use Rattle.plan.specs.Outcome.{end-of, run-answer}
 use Rattle.plan.specs.Inner.Done.{RunDone}

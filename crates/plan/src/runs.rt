@@ -2,13 +2,13 @@
 ghost use Prim.Native.Nat.{_≤_};
 ghost use lib.ListN.{length};
 ghost use Rattle.task.specs.Table.{lent};
-ghost use Rattle.steps.specs.Inner.Steps.{running, Ready};
+ghost use Rattle.operator_step.specs.Inner.Steps.{running, Ready};
 ghost use Rattle.plan.specs.Outcome.{ran, RunGives};
 ghost use Rattle.plan.specs.Inner.Done.{RunDone};
 use crate::outcome::End;
 use crate::outcome::RunOutcome;
 use evaluating::holds;
-use steps::take;
+use operator_step::take;
 use task::Head;
 use task::clear::clear_bytes;
 

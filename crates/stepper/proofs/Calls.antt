@@ -7,9 +7,9 @@ use mathlib.Core.List.{List, [], _∷_}
 use lib.ListN.{length, replicate}
 use Rattle.task.specs.Table.{Lent, Task, task-of}
 use Rattle.task.specs.Run.{Run, Progress, Stop, ended, stopped, goal-holds, operator-of, effect-of-operator, applicable, charge, after-step, answer, run-on, plain-run}
-use Rattle.steps.specs.declared.Taken.{Taken}
-use Rattle.steps.specs.Inner.Steps.{running, took, Takes}
-use Rattle.steps.proofs.Going.{goes-on, stops}
+use Rattle.operator_step.specs.declared.Taken.{Taken}
+use Rattle.operator_step.specs.Inner.Steps.{running, took, Takes}
+use Rattle.operator_step.proofs.Going.{goes-on, stops}
 use Rattle.stepper.specs.declared.StepOutcome.{StepOutcome}
 use Rattle.stepper.specs.Stepped.{early-refusal, cleared, step-refused, step-told, step-by, stepped, StepGives}
 use Rattle.stepper.specs.Inner.Done.{StepDone}

@@ -13,7 +13,7 @@ use Rattle.task.specs.Check.{refusal, unless}
 use Rattle.task.proofs.Bounded.{and-left, and-right, every-at}
 use Rattle.task.proofs.Held.{length-initial, length-formulas, length-effects, length-operators, formula-held, effect-held, operator-held, goal-held}
 use Rattle.task.proofs.Kept.{kept-rules}
-use Rattle.steps.specs.Inner.Steps.{TablesReady, Ready}
+use Rattle.operator_step.specs.Inner.Steps.{TablesReady, Ready}
 use Rattle.stepper.specs.Stepped.{state-kept, step-scratch-kept, first-of, early-refusal}
 
 pub first : (n rest : ℕ) → (n ≡ 0 → ⊥) → n ≡ first-of n rest

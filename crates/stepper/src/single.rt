@@ -2,12 +2,12 @@
 ghost use mathlib.Core.Path.{_≡_};
 ghost use mathlib.Core.Bool.{false};
 ghost use Rattle.task.specs.Table.{lent};
-ghost use Rattle.steps.specs.Inner.Steps.{running, Ready};
+ghost use Rattle.operator_step.specs.Inner.Steps.{running, Ready};
 ghost use Rattle.stepper.specs.Stepped.{stepped, StepGives};
 ghost use Rattle.stepper.specs.Inner.Done.{StepDone};
 use crate::StepOutcome;
 use evaluating::holds;
-use steps::take;
+use operator_step::take;
 use task::Head;
 use task::clear::clear_bytes;
 

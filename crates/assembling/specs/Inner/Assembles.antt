@@ -13,7 +13,7 @@ use Rattle.rule_writer.specs.declared.Chain.{Chain}
 use Rattle.rule_writer.specs.declared.Frame.{Frame}
 use Rattle.rule_writer.specs.Inner.Writes.{FrameReady}
 use Rattle.rule_writer.specs.Inner.Places.{Placed, begun}
-use Rattle.records.specs.Inner.Recorded.{change-at, changes-from}
+use Rattle.change_records.specs.Inner.Recorded.{change-at, changes-from}
 
 -- the changes recorded from k up to an end
 unfoldable pub changes-between : List ℕ → ℕ → ℕ → List Changes

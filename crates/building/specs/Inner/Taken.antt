@@ -13,8 +13,8 @@ use Rattle.formula_builder.specs.declared.Step.{Step}
 use Rattle.formula_builder.specs.Inner.Held.{Store, store, held, size-of, RowsReady, TwinsNamed, Within}
 use Rattle.images.specs.Inner.Images.{image-at, Source, Asks, Images}
 use Rattle.conditions.specs.Inner.Conditions.{EffectSource}
-use Rattle.changes.specs.Inner.Stands.{Stands, Leaves}
-use Rattle.records.specs.Inner.Recorded.{acting, changes-from}
+use Rattle.variable_changes.specs.Inner.Stands.{Stands, Leaves}
+use Rattle.change_records.specs.Inner.Recorded.{acting, changes-from}
 use Rattle.operators.specs.Inner.Operator.{operator-here, operators-built}
 use Rattle.building.specs.declared.Progress.{Progress}
 

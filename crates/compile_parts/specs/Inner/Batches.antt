@@ -9,7 +9,7 @@ use Rattle.normal_form.specs.Builder.{start}
 use Rattle.formula_builder.specs.declared.Frame.{Frame}
 use Rattle.formula_builder.specs.Inner.Held.{Store}
 use Rattle.atom_sets.specs.Inner.Sets.{sets-end}
-use Rattle.changes.specs.Inner.Stands.{Leaves}
+use Rattle.variable_changes.specs.Inner.Stands.{Leaves}
 use Rattle.operators.specs.Inner.Operator.{operators-built}
 use Rattle.building.specs.declared.Progress.{Progress}
 use Rattle.building.specs.Inner.Taken.{size-at, Stood, Taken}

@@ -12,9 +12,9 @@ use Rattle.formula_builder.specs.Inner.Held.{Store, held}
 use Rattle.images.specs.Inner.Images.{image-at}
 use Rattle.conditions.specs.Inner.Conditions.{effect-tree}
 use Rattle.task.specs.Table.{operator-at}
-use Rattle.changes.specs.Inner.Stands.{StandsAt, Reaches}
+use Rattle.variable_changes.specs.Inner.Stands.{StandsAt, Reaches}
 use Rattle.atom_sets.specs.Inner.Sets.{lacks, sets-end}
-use Rattle.records.specs.Inner.Recorded.{Recorded}
+use Rattle.change_records.specs.Inner.Recorded.{Recorded}
 use Rattle.operators.specs.declared.Tally.{Tally}
 
 -- the changes of the variables below v

@@ -6,7 +6,7 @@ use Rattle.building.proofs.taking.take_operator.Tie as tie
 use mathlib.Core.Path.{refl, _∙_}
 use native.Mathlib.Omega.{arith}
 use Rattle.building.proofs.Begun.{leaves-stopped, took-full, asks-operator, opens, took-over, took-many, took}
-use Rattle.changes.proofs.Standing.{leaves-same}
+use Rattle.variable_changes.proofs.Standing.{leaves-same}
 
 returns : tie.Need-returns
 returns c =

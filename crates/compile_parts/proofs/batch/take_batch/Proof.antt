@@ -6,7 +6,7 @@ use native.Mathlib.Omega.{arith}
 use mathlib.Core.Path.{_≡_, refl, _∙_}
 use lib.ListN.{length}
 use Rattle.formula_builder.specs.Inner.Held.{store}
-use Rattle.changes.specs.Inner.Stands.{Leaves}
+use Rattle.variable_changes.specs.Inner.Stands.{Leaves}
 use Rattle.building.specs.Inner.Taken.{size-at, Taken}
 use Rattle.compile_parts.proofs.Batched.{still-taken, next-asks}
 

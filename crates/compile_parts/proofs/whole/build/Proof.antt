@@ -8,8 +8,8 @@ use mathlib.Core.Path.{_≡_, refl, _∙_}
 use lib.ListN.{length, getD}
 use Rattle.formula_builder.specs.Inner.Held.{store}
 use Rattle.atom_sets.specs.Inner.Sets.{sets-end}
-use Rattle.changes.specs.Inner.Stands.{Leaves}
-use Rattle.changes.proofs.Standing.{leaves-same}
+use Rattle.variable_changes.specs.Inner.Stands.{Leaves}
+use Rattle.variable_changes.proofs.Standing.{leaves-same}
 use Rattle.building.specs.Inner.Taken.{size-at, Taken}
 use Rattle.compile_parts.proofs.Asked.{finds, finds-first, known, none-kept, noted, first-taken, next-batch, last-asks, all-built}
 

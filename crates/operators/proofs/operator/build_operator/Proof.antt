@@ -8,7 +8,7 @@ use Rattle.operators.proofs.operator.build_operator.Lts as lts
 use Rattle.images.proofs.image_from.Reads as image-from-reads
 use Rattle.operators.proofs.walk.build_changes.Reads as build-changes-reads
 use mathlib.Core.Path.{refl, _∙_}
-use Rattle.changes.proofs.Standing.{leaves-full}
+use Rattle.variable_changes.proofs.Standing.{leaves-full}
 use Rattle.operators.proofs.Walks.{precondition-full, stands-behind, operator-walked}
 
 same-length : tie.Need-same-length

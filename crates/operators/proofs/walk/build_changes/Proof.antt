@@ -5,9 +5,9 @@ use Rattle.operators.proofs.walk.build_changes.Statement.{statement}
 use Rattle.operators.proofs.walk.build_changes.Tie as tie
 use Rattle.operators.proofs.walk.build_changes.Reads as reads
 use Rattle.operators.proofs.walk.build_changes.Lts as lts
-use Rattle.changes.proofs.change_of.Reads as change-of-reads
+use Rattle.variable_changes.proofs.change_of.Reads as change-of-reads
 use Rattle.operators.proofs.walk.next_touched.Reads as next-touched-reads
-use Rattle.records.proofs.keep_change.Reads as keep-change-reads
+use Rattle.change_records.proofs.keep_change.Reads as keep-change-reads
 use Prim.Native.Nat.{_-_}
 use mathlib.Core.Path.{_≡_, refl, _∙_}
 use native.Mathlib.Omega.{arith}
@@ -15,7 +15,7 @@ use lib.ListN.{length}
 use Rattle.formula_builder.specs.Inner.Held.{store, held}
 use Rattle.operators.proofs.Walks.{change-asks, change-made, looks-on, Walking, walking-begins, walking-asks, walking-keeps, walking-stops, walking-more, walking-ends}
 use Rattle.conditions.specs.Inner.Conditions.{Noted}
-use Rattle.changes.proofs.Standing.{leaves-same, leaves-full}
+use Rattle.variable_changes.proofs.Standing.{leaves-same, leaves-full}
 
 abbrev Inv-loop : tie.InvT-loop
 Inv-loop formulas effects notes₀ e frame table₀ originals₀ scratch₀ from records₀ n words rows₀ twins₀ k₀ v₀ notes table originals scratch records rows twins k v =

@@ -6,8 +6,8 @@ use native.Mathlib.Omega.{arith}
 use mathlib.Core.Path.{_≡_, refl, _∙_}
 use lib.ListN.{length}
 use borrow.Author.Needs.{needs}
-use Rattle.steps.specs.Inner.Steps.{running}
-use Rattle.steps.proofs.Taking.{valuable, goal-told, ready-again}
+use Rattle.operator_step.specs.Inner.Steps.{running}
+use Rattle.operator_step.proofs.Taking.{valuable, goal-told, ready-again}
 use Rattle.plan.proofs.Running.{Goes, starts, one-more, after-ready, stopped-run, ended-run}
 
 abbrev Inv-loop : tie.InvT-loop

@@ -3,8 +3,8 @@ use borrow.Author.Needs.{needs}
 use Rattle.stepper.proofs.single.step_ready.Statement.{statement}
 use Rattle.stepper.proofs.single.step_ready.Tie as tie
 use mathlib.Core.Path.{_∙_}
-use Rattle.steps.proofs.Taking.{valuable, goal-told, ready-again}
-use Rattle.steps.proofs.Going.{taken-ready}
+use Rattle.operator_step.proofs.Taking.{valuable, goal-told, ready-again}
+use Rattle.operator_step.proofs.Going.{taken-ready}
 use Rattle.stepper.proofs.Calls.{step-stopped, step-finished}
 
 returns : tie.Need-returns
