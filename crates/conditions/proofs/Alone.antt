@@ -42,16 +42,6 @@ module _ (frame : Frame) (formulas effects scratch : List ℕ) (source : EffectS
     kind-read : row-at effects i .kind ≡ w .kind
     kind-read = ap (λ (r : Row). r .kind) (sym q)
 
-    pub both-within : w .kind ≡ 3 → (w .a < i) × (w .b < i)
-    both-within k =
-        let l = both-lower frame formulas effects scratch source i h (kind-read ∙ k) in
-        (omega (arith, l .0, ap (λ (r : Row). r .a) q), omega (arith, l .1, ap (λ (r : Row). r .b) q))
-
-    pub under-within : w .kind ≡ 4 → w .b < i
-    under-within k =
-        let l = under-lower frame formulas effects scratch source i h (kind-read ∙ k) in
-        omega (arith, l .1, ap (λ (r : Row). r .b) q)
-
   -- Of one atom.
   module _ (clear : Bool) (v : ℕ) where
     unnamed-both :

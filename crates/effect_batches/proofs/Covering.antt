@@ -12,7 +12,7 @@ use Rattle.normal_form.specs.Conditions.{condition}
 use Rattle.normal_form.specs.Operators.{changes-of}
 use Rattle.normal_form.proofs.Growth.{steady-bind, steady-each}
 use Rattle.normal_form.proofs.Steady.{steady-guarded, steady-changes}
-use Rattle.normal_form.proofs.Adds.{AddsNothing, nothing-later, nothing-first, nothing-next, nothing-left, nothing-right, nothing-each, nothing-sets, nothing-clears}
+use Rattle.normal_form.proofs.Adds.{AddsNothing, nothing-first, nothing-next, nothing-left, nothing-right, nothing-each, nothing-sets, nothing-clears}
 use Rattle.formula_builder.specs.declared.Frame.{Frame}
 use Rattle.formula_builder.specs.declared.Size.{Size}
 use Rattle.formula_builder.specs.Inner.Held.{Store, held, side}
@@ -27,17 +27,6 @@ use Rattle.effect_batches.specs.Inner.Numbers.{Before, BeganBatch}
 use Rattle.effect_batches.specs.Inner.Filling.{Covered, AllCovered, Fills}
 use Rattle.effect_batches.specs.Inner.Next.{NextBatch}
 use Rattle.effect_batches.proofs.Firsts.{memo, source, row-kept}
-
-pub covered-grows :
-    {frame : Frame} {formulas effects : List ℕ} {s u : St} {e : ℕ}
-    → Grows s u
-    → Covered frame formulas effects s e
-    → Covered frame formulas effects u e
-covered-grows {frame} {formulas} {effects} {s} {u} {e} g c =
-    record {
-      effect = c .effect;
-      again = λ t p v. nothing-later (steady-condition-at frame formulas effects t e) g (c .again t p v);
-    }
 
 -- A row that a covered row names is covered.
 module _ {frame : Frame} {effects : List ℕ} (rows : Rows frame effects) (formulas : List ℕ) {s : St} where

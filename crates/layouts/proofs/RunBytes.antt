@@ -4,10 +4,6 @@ use lib.ListN.{getD}
 use Rattle.task.specs.Run.{Run, is-plan}
 use Rattle.layouts.specs.Layout.{low-bytes, flag, run-bytes}
 
-pub goal-byte : (r : Run) → getD (run-bytes r) 12 0 ≡ flag (r .goal)
-unfolding run-bytes low-bytes
-goal-byte r = refl
-
 pub plan-byte : (r : Run) → getD (run-bytes r) 13 0 ≡ flag (is-plan r)
 unfolding run-bytes low-bytes
 plan-byte r = refl

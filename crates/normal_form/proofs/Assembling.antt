@@ -7,7 +7,7 @@ use mathlib.Core.Path.{_≡_, refl, sym, ap, _∙_}
 use mathlib.Core.Bool.{Bool, true, false, cond}
 use mathlib.Core.List.{List, [], _∷_, _++_, append-assoc}
 use lib.ListN.{length, take, drop, take-append-drop}
-use lib.Seq.{take-all, take-suc}
+use lib.Seq.{take-suc}
 use lib.Dec.{eqb, ltb}
 use borrow.Author.Tests.{eq-eqb}
 use Rattle.task.specs.Table.{Task}
@@ -52,10 +52,6 @@ module _ (t : Task) where
   abbrev twins : List ℕ
   twins = built t .st .twins
 
-  pub before-none : assembled-before t 0 ≡ unassembled
-  unfolding assembled-before assemble
-  before-none = refl
-
   pub before-more :
       (o : ℕ)
       → o < length (t .operators)
@@ -73,12 +69,6 @@ module _ (t : Task) where
           assemble n twins (assemble n twins unassembled (take o (built t .value .operators))) (built-at t o ∷ [])
           ≡ assemble-operator n twins (assemble n twins unassembled (take o (built t .value .operators))) (built-at t o)
       one = unfold assemble in refl
-
-  pub before-all : assembled-before t (length (t .operators)) ≡ assembled t
-  unfolding assembled-before assembled
-  before-all =
-      ap (λ (l : List Built). assemble n twins unassembled l)
-      (take-all (length (t .operators)) (built t .value .operators) (omega (arith, built-operators t)))
 
   -- what stands before operator o, stands in the end
   before-grows : (o : ℕ) → Prefix (assembled-before t o .effects) (finished t .effects)

@@ -2,34 +2,30 @@
 -- source's tables and on those that compiling gave are alike. Assumes nothing.
 use Prim.Native.Nat.{ℕ, zero, suc, _+_, _-_, _*_, _≤_, _<_}
 use native.Mathlib.Omega.{arith}
-use mathlib.Core.Path.{_≡_, refl, sym, ap, _∙_}
+use mathlib.Core.Path.{_≡_, refl, ap, _∙_}
 use mathlib.Core.Bool.{Bool, true, false}
 use mathlib.Core.List.{List}
 use mathlib.Core.Logic.{_↔_}
-use lib.ListN.{length, replicate, length-append, length-replicate}
+use lib.ListN.{length, replicate}
 use lib.Dec.{leb, eqb, eqb·suc-zero}
 use borrow.Author.Tests.{leb-true, leb-false, le-leb, lt-leb, eqb-true, eqb-false, eq-eqb, ne-eqb}
 use Rattle.task.specs.declared.Head.{Head}
 use Rattle.task.specs.Table.{Lent, Task, task-of, operator-width}
 use Rattle.task.specs.Check.{counts-kept, goal-kept, room as has-room, long-enough, initial-kept, twins-kept, formulas-kept, effects-kept, operators-kept, unless, refusal}
 use Rattle.task.specs.Rules.{Checked}
-use Rattle.task.specs.Run.{plain-run, effect-of-operator}
-use Rattle.task.specs.Corresponding.{Corresponding}
+use Rattle.task.specs.Run.{effect-of-operator}
 use Rattle.task.specs.Words.{words-of, operator-words, head-of, padded}
 use Rattle.task.proofs.Bounded.{and-left, and-right, and-both}
-use Rattle.task.proofs.Held.{length-initial}
 use Rattle.task.proofs.Kept.{kept-rules}
 use Rattle.task.proofs.Passed.{room-tested, counts-tested}
 use Rattle.task.proofs.Words.{lent-in, task-in, kept-in}
 use Rattle.normal_form.specs.Finished.{finished}
 use Rattle.normal_form.specs.Flat.{Flat}
 use Rattle.normal_form.specs.Positive.{Positive}
-use Rattle.normal_form.specs.Alike.{Alike}
 use Rattle.normal_form.specs.Compiled.{Room, compile-scratch-kept, output-lengths, fits, Fits, compile-refusal, compiled-head, not-compiled, CompileOutcome, nothing-given, task-given, outcome-by, compiling, given}
 use Rattle.normal_form.proofs.ShapePassed.{finished-variables, finished-rules, positive}
 use Rattle.normal_form.proofs.ShapeFinished.{finished-operators, flat}
 use Rattle.normal_form.proofs.ShapeLimits.{finished-limits}
-use Rattle.normal_form.proofs.Demand.{alike-from, initial-correspond}
 
 -- The test of limits and room.
 module _ (t : Task) (room : Room) where
@@ -310,30 +306,3 @@ module _ (l : Lent) (room : Room) (h : Head) (success : compiling l room .answer
 
   pub given-flat : (o : ℕ) → Flat (effect-of-operator (task-of (given h (compiling l room))) o)
   given-flat o = rw given-task (flat (task-of l) o)
-
-  -- the initial states correspond
-  pub given-initial :
-      let compiled = task-of (given h (compiling l room)) in
-      Corresponding (compiled .originals) (task-of l .initial) (compiled .initial)
-  given-initial = rw given-task (initial-correspond (task-of l) source-rules)
-
-  -- Demand 3 about calls: from corresponding states, whatever the list of operator numbers, the plain runs on the source's tables and on the
-  -- tables that compiling gave are alike.
-  pub given-alike :
-      let compiled = task-of (given h (compiling l room)) in
-      (s s′ : List ℕ)
-      → length s ≡ l .head .variables
-      → Corresponding (compiled .originals) s s′
-      → (numbers : List ℕ)
-      → Alike (compiled .originals) (plain-run (task-of l) s numbers) (plain-run compiled s′ numbers)
-  given-alike s s′ width =
-      rw given-task
-      (alike-from (task-of l) source-rules s s′
-      (width ∙ sym (length-initial l (kept-rules l (given-compiles l room h success .passes) .0))))
-
--- Lengths: a table at exit is as long as it was lent.
-pub length-padded : (n : ℕ) (words : List ℕ) → length words ≤ n → length (padded n words) ≡ n
-unfolding padded
-length-padded n words h =
-    length-append words (replicate (n - length words) 0)
-    ∙ omega (arith, length-replicate {A = ℕ} (n - length words) 0)

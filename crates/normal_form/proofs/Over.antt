@@ -1,19 +1,15 @@
 -- How many rows, twins and effect rows the limits and the lent tables leave room for: if the finished task fits, no moment of building or of writing
 -- has more. So whoever stops at the first without room answers 15 rightly. Assumes nothing.
-use Prim.Native.Nat.{ℕ, _≤_, _<_}
+use Prim.Native.Nat.{ℕ, _≤_}
 use native.Mathlib.Omega.{arith}
-use lib.ListN.{length, take}
+use lib.ListN.{length}
 use Rattle.task.specs.Table.{Task}
 use Rattle.normal_form.specs.Builder.{St}
 use Rattle.normal_form.specs.Growth.{Grows}
-use Rattle.normal_form.specs.Assembly.{rules, write-rules}
 use Rattle.normal_form.specs.Finished.{built, finished}
 use Rattle.normal_form.specs.Compiled.{Room, Fits}
 use Rattle.normal_form.proofs.ShapePassed.{finished-variables}
-use Rattle.normal_form.proofs.ShapeAssembled.{unwritten}
-use Rattle.normal_form.proofs.ShapeFinished.{built-at}
 use Rattle.normal_form.proofs.ShapeSizes.{grows-fewer}
-use Rattle.normal_form.proofs.Assembling.{assembled-before, moment-effects}
 use Rattle.normal_form.specs.Inner.Allowed.{Allows}
 
 -- rows and twins within what is allowed
@@ -35,18 +31,3 @@ module _ (t : Task) (room : Room) (rows twins effects : ℕ) (allows : Allows (l
       (omega (arith, fit .tables .initial)) (fit .tables .twins)
       in
       record { rows-within = omega (arith, f .rows); twins-within = omega (arith, f .twins) }
-
-  -- in operator o, before variable v
-  pub writing-within :
-      (o v : ℕ)
-      → o < length (t .operators)
-      → length
-      (write-rules (unwritten (assembled-before t o .effects))
-      (rules (length (t .initial)) (built t .st .twins) (take v (built-at t o .changes)))
-      .rows)
-      ≤ effects
-  writing-within o v h =
-      let all : length (finished t .effects) ≤ effects =
-      allows .effects-allowed (length (finished t .effects)) (fit .limits .effects) (fit .tables .effects)
-      in
-      omega (arith, moment-effects t o v h)

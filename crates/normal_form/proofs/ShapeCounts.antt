@@ -9,17 +9,14 @@ use mathlib.Core.List.{List, [], _∷_, _++_, foldl-append}
 use lib.ListN.{length, length-append}
 use lib.Dec.{eqb, ltb}
 use borrow.Author.Tests.{eq-eqb, ne-eqb}
-use Rattle.task.specs.Table.{Row, Task}
+use Rattle.task.specs.Table.{Row}
 use Rattle.task.specs.Semantics.{Atom, sets, clears}
 use Rattle.normal_form.specs.Builder.{place}
 use Rattle.normal_form.specs.Operators.{Changes, Built}
-use Rattle.normal_form.specs.Assembly.{Rule, rule, with-twin, rules-of, rules, Written, rule-rows, write-rule, write-rules, Assembled, assemble-operator, assemble, unassembled}
-use Rattle.normal_form.specs.Finished.{built, assembled, finished}
+use Rattle.normal_form.specs.Assembly.{Rule, rule, with-twin, rules-of, rules, Written, rule-rows, write-rule, write-rules, Assembled, assemble-operator, assemble}
 use Rattle.normal_form.proofs.ShapeRule.{write-stands}
 use Rattle.normal_form.proofs.ShapeRules.{All, none, also}
 use Rattle.normal_form.proofs.ShapeEach.{Upwards, start, next}
-use Rattle.normal_form.proofs.ShapeEffects.{all-at}
-use Rattle.normal_form.proofs.ShapeFinished.{no-built, built-operators, built-upwards}
 use Rattle.normal_form.proofs.ShapeAssembled.{unwritten}
 
 module _ (w : Written) (r : Rule) where
@@ -170,15 +167,3 @@ module _ (n : ℕ) (twins : List ℕ) where
 upwards-length : {m : ℕ} {cs : List Changes} → Upwards m cs → length cs ≡ m
 upwards-length start = refl
 upwards-length (next {cs = cs} c e u) = omega (arith, length-append cs (c ∷ []), upwards-length u)
-
--- at most 1 + 12 × 512 × 256 effect rows for a source within the limits: more than 16 bits
-pub effects-few :
-    (t : Task) → length (finished t .effects) ≤ 1 + 12 * length (t .initial) * length (t .operators)
-unfolding finished assembled unassembled
-effects-few t =
-    let n = length (t .initial) in
-    let few : All (λ b. length (b .changes) ≤ n) (built t .value .operators) =
-    all-at _ no-built (built t .value .operators)
-    (λ o h. omega (arith, upwards-length (built-upwards t o (rw (built-operators t) at h))))
-    in
-    rw (built-operators t) at (assemble-few n (built t .st .twins) n unassembled (built t .value .operators) few)

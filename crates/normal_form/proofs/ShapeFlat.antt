@@ -177,12 +177,5 @@ module _ (n : ℕ) (twins : List ℕ) where
   pub rules-distinct : {m : ℕ} {cs : List Changes} → Upwards m cs → m ≤ n → Distinct (atoms (rules n twins cs))
   rules-distinct u h = rules-apart u h .once
 
--- What is not flat: an atom without a condition, and an atom twice.
-bare-conjunct : {l : Atom} {ls : List Atom} → Conjuncts (atomic l) ls → ⊥
-bare-conjunct = elim [ ]
-
-pub bare-atom : (l : Atom) → Flat (atomic l) → ⊥
-bare-atom l (conjunctive c d) = bare-conjunct c
-
 pub twice : (p q : Formula) (l : Atom) → Flat (both (under p (atomic l)) (under q (atomic l))) → ⊥
 twice p q l (conjunctive (more (one p2 l2) (one q2 l3)) d) = d .0 .0 refl

@@ -1,12 +1,11 @@
 -- Growth never goes back: what stands at any moment of building is no longer than what stands in the end. So whoever stops at the first row or
 -- twin without room is right that the finished task has none. Assumes nothing.
-use Prim.Native.Nat.{ℕ, zero, suc, _+_, _≤_, _<_}
+use Prim.Native.Nat.{ℕ, zero, suc, _≤_, _<_}
 use native.Mathlib.Omega.{arith}
 use native.Mathlib.Decide.{decLe}
 use mathlib.Core.Path.{_≡_}
 use lib.ListN.{length}
 use Rattle.task.specs.Table.{Task}
-use Rattle.task.specs.Rules.{Limits}
 use Rattle.task.specs.Semantics.{Effect, sets, clears}
 use Rattle.task.specs.Tree.{formula-of}
 use Rattle.task.specs.Run.{operator-of, effect-of-operator}
@@ -18,7 +17,6 @@ use Rattle.normal_form.specs.Operators.{Changes, changes-of, built-opera
 use Rattle.normal_form.specs.Finished.{built, finished}
 use Rattle.normal_form.proofs.Growth.{longer, grows-refl, grows-trans, steady-give, steady-bind}
 use Rattle.normal_form.proofs.Steady.{steady-image, steady-condition, steady-deletes, steady-changes, steady-operator}
-use Rattle.normal_form.proofs.ShapePassed.{finished-variables}
 
 -- No more rows and no more twins.
 pub record Fewer (s t : St) : Type 0 where
@@ -118,14 +116,3 @@ module _ (t : Task) where
           Grows (each (suc o) (built-operator t) start .st) (built t .st)
           → Grows (built-operator t o (each o (built-operator t) start .st) .st) (built t .st)
       next g = unfold each bind give in g
-
--- if the finished task keeps the limits, what stands at any moment keeps them
-pub within-limits :
-    (t : Task) (s : St)
-    → Grows s (built t .st)
-    → Limits (finished t)
-    → (length (t .initial) + length (s .twins) ≤ 512) × (length (s .rows) ≤ 4096)
-unfolding finished
-within-limits t s g l =
-    let f = grows-fewer g in
-    (omega (arith, f .twins, l .variables, finished-variables t), omega (arith, f .rows, l .formulas))

@@ -3,7 +3,7 @@ use Prim.Native.Nat.{ℕ, _+_, _≤_, _<_}
 use native.Mathlib.Omega.{arith}
 use native.Mathlib.Numerals.{add-one}
 use mathlib.Core.Path.{_≡_, refl, sym, ap, _∙_}
-use mathlib.Core.Bool.{Bool, true, false, not, true≢false}
+use mathlib.Core.Bool.{Bool, true, false, true≢false}
 use mathlib.Core.List.{List, [], _∷_, _++_}
 use lib.ListN.{length}
 use Rattle.normal_form.specs.Builder.{St, give, bind, each, plain}
@@ -16,7 +16,7 @@ use Rattle.formula_builder.specs.declared.Size.{Size}
 use Rattle.formula_builder.specs.declared.Step.{Step}
 use Rattle.formula_builder.specs.Inner.Held.{Store, held, size-of}
 use Rattle.formula_builder.proofs.Steps.{within-before}
-use Rattle.images.specs.Inner.Images.{image-at, Images, Asks}
+use Rattle.images.specs.Inner.Images.{image-at, Images}
 use Rattle.images.proofs.Memos.{steady-image-at}
 use Rattle.conditions.specs.Inner.Conditions.{effect-tree, Noted}
 use Rattle.variable_changes.specs.Inner.Stands.{Stands, StandsAt, Leaves, Reaches, Makes, made}
@@ -311,19 +311,6 @@ module _ (frame : Frame) (formulas effects : List ℕ) (p e : ℕ) {at : Size} {
             record { state = same ∙ d .state; ready = d .ready; memo = d .memo; effect-memo = d .effect-memo };
         over = λ z w. y .over z (rw same at w);
       }
-
--- what the image of the precondition asks
-pub asks-precondition :
-    {frame : Frame} {formulas effects notes : List ℕ} {at : Size} {s : Store} {scratch : List ℕ} {p e : ℕ}
-    → BuildsOperator frame formulas effects notes at s scratch p e
-    → Asks frame formulas at s scratch p
-asks-precondition a =
-    record {
-      source = a .stands .stands .source;
-      ready = a .stands .stands .ready;
-      memo = a .stands .stands .memo;
-      formula = a .formula;
-    }
 
 -- where building stands behind it
 pub stands-behind :

@@ -4,8 +4,8 @@ use Prim.Native.Nat.{ℕ, _+_, _*_, _≤_, _<_}
 use native.Mathlib.Omega.{arith}
 use mathlib.Core.Path.{_≡_, refl, sym, ap, ap₂, _∙_}
 use mathlib.Core.Bool.{Bool, true, false, not, cond, true≢false}
-use mathlib.Core.List.{List, [], _∷_, _++_, append-assoc, append-nil}
-use lib.ListN.{length, getD, replicate, length-append, length-set, length-replicate}
+use mathlib.Core.List.{List, [], _∷_, _++_, append-assoc}
+use lib.ListN.{length, getD, length-append, length-set}
 use lib.Dec.{eqb, ltb}
 use borrow.Author.Tests.{eq-eqb, ne-eqb, lt-ltb, le-ltb}
 use Rattle.task.specs.Table.{Row}
@@ -13,13 +13,10 @@ use Rattle.task.specs.Semantics.{sets, clears}
 use Rattle.task.specs.Words.{words-of, padded}
 use Rattle.normal_form.specs.Builder.{place}
 use Rattle.normal_form.specs.Operators.{Changes}
-use Rattle.normal_form.specs.Assembly.{Rule, rule, with-twin, rules-of, rules, Written, atom-row, rule-rows, write-rule, write-rules, unassembled}
-use Rattle.normal_form.proofs.Assembling.{rules-none}
+use Rattle.normal_form.specs.Assembly.{Rule, rule, with-twin, rules-of, rules, Written, atom-row, rule-rows, write-rule, write-rules}
 use Rattle.normal_form.proofs.Growth.{longer}
-use Rattle.normal_form.proofs.Padded.{padded-empty}
 use Rattle.task.proofs.Stores.{padded-row}
 use Rattle.task.specs.Inner.Stored.{three}
-use Rattle.normal_form.proofs.ShapeAssembled.{unwritten}
 use Rattle.normal_form.proofs.ShapeCounts.{first-length, next-length, rules-split}
 use Rattle.normal_form.proofs.ShapeRules.{rules-snoc}
 use Rattle.normal_form.proofs.ShapeWritten.{rules-prefix}
@@ -27,7 +24,7 @@ use Rattle.rule_writer.specs.declared.Chain.{Chain}
 use Rattle.rule_writer.specs.declared.Rule.{Rule as CodeRule}
 use Rattle.rule_writer.specs.declared.Frame.{Frame}
 use Rattle.rule_writer.specs.declared.Changes.{Changes as CodeChanges}
-use Rattle.rule_writer.specs.Inner.Places.{Placed, begun}
+use Rattle.rule_writer.specs.Inner.Places.{Placed}
 use Rattle.rule_writer.specs.Inner.Writes.{atom-of, kind-of, changes-in, alone, rule-in, twin-rule-in, all-in, two-rows, Holds, Ready, First, Next, Writes}
 
 abbrev pub filled : Chain → Chain
@@ -314,18 +311,6 @@ module _ (frame : Frame) (k : ℕ) (r : CodeRule) where
       k < frame .twins → twin-rule-in frame k r ≡ rule (r .condition) (atom-of (not (r .sets)) (frame .variables + k))
   twin-there h = rw (lt-ltb k (frame .twins) h)
 
-pub holds-begun : (n : ℕ) → 3 ≤ n → Holds (unwritten (unassembled .effects)) (begun 1) (replicate n 0)
-holds-begun n h =
-    record {
-      rows = unfold unassembled in refl;
-      stands = refl;
-      words = padded-empty n h ∙ ap (λ (k : ℕ). padded k (words-of (unassembled .effects))) (sym (length-replicate n 0));
-    }
-
-pub holds-next :
-    {w : Written} {at : Chain} {table : List ℕ} → Holds w at table → Holds (unwritten (w .rows)) (begun (at .rows)) table
-holds-next h = record { rows = h .rows; stands = refl; words = h .words }
-
 -- all rules of one variable, if its twin is at place k
 changes-written :
     (frame : Frame) (twins : List ℕ) (k : ℕ) (c : CodeChanges)
@@ -368,11 +353,3 @@ module _ (n : ℕ) (twins : List ℕ) (cs : List Changes) (c : Changes) {room : 
       → Writes (rules-of n twins c) room a mid after r
       → Writes (rules n twins (cs ++ (c ∷ []))) room at before after r
   writes-variable x y = writes-as (rules-snoc n twins cs c) (writes-both x y)
-
-  pub writes-past :
-      c .adds ≡ 0
-      → c .deletes ≡ 0
-      → Writes (rules n twins cs) room at before mid a
-      → Writes (rules n twins (cs ++ (c ∷ []))) room at before mid a
-  writes-past p q x =
-      writes-as (rules-snoc n twins cs c ∙ rw (rules-none n twins c p q) (append-nil (rules n twins cs))) x

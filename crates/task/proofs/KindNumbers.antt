@@ -64,28 +64,3 @@ by-effect-kind P n p0 p1 p2 p3 p4 p5 = go (effect-kind n) (effect-number n)
     go both-kind e = p3 e
     go under-kind e = p4 e
     go unknown-effect e = p5 e
-
-pub by-formula-kind :
-    (P : FormulaKind → Type 0) (n : ℕ)
-    → (n ≡ 0 → P false-kind)
-    → (n ≡ 1 → P true-kind)
-    → (n ≡ 2 → P variable-kind)
-    → (n ≡ 3 → P not-kind)
-    → (n ≡ 4 → P and-kind)
-    → (n ≡ 5 → P or-kind)
-    → (n ≡ 6 → P implies-kind)
-    → (n ≡ 7 → P equivalent-kind)
-    → (8 ≤ n → P unknown-formula)
-    → P (formula-kind n)
-by-formula-kind P n p0 p1 p2 p3 p4 p5 p6 p7 p8 = go (formula-kind n) (formula-number n)
-  where
-    go : (k : FormulaKind) → HasFormulaNumber n k → P k
-    go false-kind e = p0 e
-    go true-kind e = p1 e
-    go variable-kind e = p2 e
-    go not-kind e = p3 e
-    go and-kind e = p4 e
-    go or-kind e = p5 e
-    go implies-kind e = p6 e
-    go equivalent-kind e = p7 e
-    go unknown-formula e = p8 e

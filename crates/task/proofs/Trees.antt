@@ -158,10 +158,3 @@ module _ (v f : ℕ) (formulas effects : List Row) (down : EffectsDown v f effec
         (λ l. formula-grows w formulas formulas-down more-formulas (r .a) (omega arith))
         (λ l. effect-grows-within d more-formulas more (r .a) (omega arith))
         (λ l. effect-grows-within d more-formulas more (r .b) (omega arith)))
-
-    pub effect-grows :
-        (more-formulas more : List Row) (i : ℕ)
-        → i < length effects
-        → effect-of (formulas ++ more-formulas) (effects ++ more) i ≡ effect-of formulas effects i
-    unfolding effect-of
-    effect-grows more-formulas more i b = effect-grows-within (suc i) more-formulas more i b

@@ -21,7 +21,7 @@ use Rattle.formula_builder.proofs.Steps.{builds-stands, within-before}
 use Rattle.images.specs.Inner.Images.{Memo, Images}
 use Rattle.images.proofs.Memos.{done-grows}
 use Rattle.conditions.specs.declared.Target.{Target}
-use Rattle.conditions.specs.Inner.Conditions.{effect-tree, condition-at, EffectMemo, Noted, Asks, Conditions}
+use Rattle.conditions.specs.Inner.Conditions.{effect-tree, EffectMemo, Noted, Asks, Conditions}
 use Rattle.conditions.proofs.Memos.{effect-memo-grows, conditions-as, conditions-leaf, conditions-bind, conditions-stop}
 use Rattle.variable_changes.specs.Inner.Stands.{Stands, StandsAt, Deletes, Leaves, Reaches, Makes}
 

@@ -10,7 +10,7 @@ use mathlib.Core.Path.{_∙_}
 use Rattle.conditions.specs.Inner.Conditions.{effect-tree, condition-at}
 use Rattle.variable_changes.proofs.Standing.{asks-condition, leaves-full, set-full, clear-full, change-made, stands-at-next}
 use borrow.Author.Tests.{eq-eqb, ne-eqb}
-use Rattle.formula_builder.specs.Inner.Held.{sized, framed}
+use Rattle.formula_builder.specs.Inner.Held.{framed}
 
 returns : tie.Need-returns
 unfolding condition-at
