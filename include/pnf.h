@@ -84,9 +84,9 @@ enum {
 
 /*
  * Measured by tests/client/stack.c, on 4,096 formulas and 4,096 effects nested as deep as they
- * go: pnf_compile takes 6,495,720 bytes, pnf_run 192,376, pnf_read 52,824.
+ * go: pnf_compile takes 4,136,688 bytes, pnf_run 192,376, pnf_read 52,824.
  */
-#define PNF_STACK_BYTES (14u * 512u * 1024u)
+#define PNF_STACK_BYTES (11u * 512u * 1024u)
 
 /*
  * Reads a task file into its tables.
