@@ -1,5 +1,6 @@
 /*
- * pnf: reading, compiling and running propositional planning tasks, for C and C++.
+ * pnf: reading, compiling and running propositional planning tasks, and the cheapest plan
+ * of small ones, for C and C++.
  *
  * A task crosses as its task file, a state as one byte a variable (0 or 1), operator
  * numbers as 16 bits. All integers in all buffers are little-endian; none is aligned.
@@ -49,16 +50,21 @@ enum {
     PNF_NO_OPERATOR = 17,    /* running stopped: number not below O */
     PNF_NOT_APPLICABLE = 18, /* running stopped: precondition false */
     PNF_SEQUENCE = 19,       /* running: sequence of odd length, or too long */
-    PNF_OUTPUT_SHORT = 20    /* tables, out or result is shorter than its layout */
+    PNF_OUTPUT_SHORT = 20,   /* tables, out or result is shorter than its layout */
+    PNF_MANY_VARIABLES = 21, /* planning: more than 10 variables, twins among them */
+    PNF_NO_PLAN = 22,        /* planning: there is no plan */
+    PNF_PLAN_LONG = 23       /* planning: out is shorter than two bytes a step */
 };
 
-/* Limits of a task, and of a run. */
+/* Limits of a task, of a run, and of a task that is planned for and its plan. */
 #define PNF_MOST_VARIABLES 512
 #define PNF_MOST_TWINS 256
 #define PNF_MOST_FORMULAS 4096
 #define PNF_MOST_EFFECTS 4096
 #define PNF_MOST_OPERATORS 256
 #define PNF_MOST_STEPS 65535
+#define PNF_MOST_PLAN_VARIABLES 10
+#define PNF_MOST_PLAN_STEPS 1023
 
 /* No task file is longer: an out of this length is never too short. */
 #define PNF_MOST_FILE_BYTES 43341
@@ -73,7 +79,10 @@ enum {
     PNF_TABLES_BYTES(PNF_MOST_VARIABLES, PNF_MOST_TWINS, PNF_MOST_FORMULAS, \
                      PNF_MOST_EFFECTS, PNF_MOST_OPERATORS)
 
-/* Results, and where the fields of a run's result stand. */
+/* No plan takes more bytes: an out of this length is never too short for one. */
+#define PNF_MOST_PLAN_BYTES (2 * PNF_MOST_PLAN_STEPS)
+
+/* Results, and where the fields of a run's and of a plan's result stand. */
 #define PNF_COMPILE_RESULT_BYTES 4
 #define PNF_RUN_RESULT_BYTES 16
 #define PNF_RUN_STEPS 0 /* 4 bytes */
@@ -81,10 +90,13 @@ enum {
 #define PNF_RUN_GOAL 12 /* 1 byte: 1 if the goal holds in the last state */
 #define PNF_RUN_PLAN 13 /* 1 byte: 1 if the run was not stopped and the goal holds */
 #define PNF_RUN_STOP 14 /* 2 bytes: 17, 18, or 0 if the run was not stopped */
+#define PNF_PLAN_RESULT_BYTES 12
+#define PNF_PLAN_STEPS 0 /* 4 bytes */
+#define PNF_PLAN_COST 4  /* 8 bytes */
 
 /*
  * Measured by tests/client/stack.c, on 4,096 formulas and 4,096 effects nested as deep as they
- * go: pnf_compile takes 4,136,688 bytes, pnf_run 192,376, pnf_read 52,824.
+ * go: pnf_compile takes 4,136,688 bytes, pnf_run 192,375, pnf_plan 97,095, pnf_read 52,824.
  */
 #define PNF_STACK_BYTES (11u * 512u * 1024u)
 
@@ -116,6 +128,18 @@ uint32_t pnf_run(const uint8_t *file, size_t file_len,
                  uint8_t *state, size_t state_len,
                  const uint8_t *sequence, size_t sequence_len,
                  uint8_t *result, size_t result_len);
+
+/*
+ * The cheapest plan from the initial state of a task of at most 10 variables, twins among
+ * them: of those that cost the least one with the fewest steps, of these the first by
+ * operator numbers, compared from the front.
+ * Numbers: those of the file, 21, 20 (result), 22, 23 (out).
+ * Afterwards out holds the plan's operator numbers and result its steps and cost, and 0
+ * behind them; both all 0 unless PNF_OK.
+ */
+uint32_t pnf_plan(const uint8_t *file, size_t file_len,
+                  uint8_t *out, size_t out_len,
+                  uint8_t *result, size_t result_len);
 
 #ifdef __cplusplus
 }

@@ -11,3 +11,5 @@ pub mod DemandThreeCalls
 pub mod Examples
 pub mod Numbers
 pub mod Refusals
+pub mod CheapestPlan
+pub mod PlanEntry

@@ -44,7 +44,7 @@ use Rattle.claims.proofs.DemandTwoProgram.{own-fits}
 use Rattle.claims.proofs.DemandTwoRuns.{stopped-where}
 
 -- a test and its rule
-given :
+pub given :
     (b : Bool) (number m : ℕ) {rule : Type 0} {behind : ℕ → Type 0}
     → (b ≡ true ↔ rule)
     → (rule → behind m)
@@ -55,7 +55,7 @@ given true number m e rest =
 given false number m e rest = broken (λ r. false≢true (e .1 r)) refl
 
 -- tests of two numbers
-at-most : (a b : ℕ) → leb a b ≡ true ↔ a ≤ b
+pub at-most : (a b : ℕ) → leb a b ≡ true ↔ a ≤ b
 at-most a b = (leb-true a b, le-leb a b)
 
 below : (a b : ℕ) → ltb a b ≡ true ↔ a < b
@@ -80,19 +80,34 @@ tables-first true true true true true true true false m = refl
 tables-first true true true true true true true true m = refl
 
 module _ (l : Lent) where
-  tables-given : (behind : ℕ → Type 0) (m : ℕ) → behind m → tables-numbers l behind (first-of (refusal l) m)
+  -- what stands behind them may rest on their passing
+  pub tables-given-passed : (behind : ℕ → Type 0) (m : ℕ) → (Passed l → behind m) → tables-numbers l behind (first-of (refusal l) m)
   unfolding refusal
-  tables-given behind m rest =
+  tables-given-passed behind m rest =
       rw (tables-first (counts-kept (l .head)) (goal-kept (l .head)) (long-enough l) (initial-kept l) (twins-kept l) (formulas-kept l)
       (effects-kept l) (operators-kept l) m)
-      (given (counts-kept (l .head)) 6 _ (counts-tested (l .head)) (λ _.
-      given (goal-kept (l .head)) 7 _ (goal-tested (l .head)) (λ _.
-      given (long-enough l) 5 _ (lengths-tested l) (λ _.
-      given (initial-kept l) 8 _ (initial-tested l) (λ _.
-      given (twins-kept l) 9 _ (twins-tested l) (λ _.
-      given (formulas-kept l) 10 _ (formulas-tested l) (λ _.
-      given (effects-kept l) 11 _ (effects-tested l) (λ _.
-      given (operators-kept l) 12 _ (operators-tested l) (λ _. rest)))))))))
+      (given (counts-kept (l .head)) 6 _ (counts-tested (l .head)) (λ r6.
+      given (goal-kept (l .head)) 7 _ (goal-tested (l .head)) (λ r7.
+      given (long-enough l) 5 _ (lengths-tested l) (λ r5.
+      given (initial-kept l) 8 _ (initial-tested l) (λ r8.
+      given (twins-kept l) 9 _ (twins-tested l) (λ r9.
+      given (formulas-kept l) 10 _ (formulas-tested l) (λ r10.
+      given (effects-kept l) 11 _ (effects-tested l) (λ r11.
+      given (operators-kept l) 12 _ (operators-tested l) (λ r12.
+      rest
+      (record {
+        counts = counts-tested (l .head) .1 r6;
+        goal = goal-tested (l .head) .1 r7;
+        lengths = lengths-tested l .1 r5;
+        initial = initial-tested l .1 r8;
+        twins = twins-tested l .1 r9;
+        formulas = formulas-tested l .1 r10;
+        effects = effects-tested l .1 r11;
+        operators = operators-tested l .1 r12;
+      }))))))))))
+
+  tables-given : (behind : ℕ → Type 0) (m : ℕ) → behind m → tables-numbers l behind (first-of (refusal l) m)
+  tables-given behind m rest = tables-given-passed behind m (λ _. rest)
 
 alone : (n : ℕ) → first-of n 0 ≡ n
 alone zero = refl
@@ -150,7 +165,7 @@ compile-gives-the-first l room =
     given (fits (finished (task-of l)) room) 15 0 (fits-tested (finished (task-of l)) room) (λ _. refl)))))
 
 -- Stepping and running.
-state-tested : (v : ℕ) (s : List ℕ) → state-kept v s ≡ true ↔ StateRule v s
+pub state-tested : (v : ℕ) (s : List ℕ) → state-kept v s ≡ true ↔ StateRule v s
 unfolding state-kept
 state-tested v s = (
   λ e.
@@ -284,7 +299,7 @@ compiled-told t o r =
     go true e true f false g = rw (e, f, g)
     go true e true f true g = rw (e, f, g)
 
-sequence-tested : (q : List ℕ) → eqb (length q % 2) 0 && sequence-kept (numbers-of q) ≡ true ↔ SequenceRule q
+pub sequence-tested : (q : List ℕ) → eqb (length q % 2) 0 && sequence-kept (numbers-of q) ≡ true ↔ SequenceRule q
 unfolding sequence-kept
 sequence-tested q =
     let half = eqb (length q % 2) 0 in
@@ -313,7 +328,7 @@ stop-told ended = no-stop refl refl
 stop-told (stopped n) = stopped-by refl
 
 module _ (file : List ℕ) (bytes : OfBytes file) where
-  file-given :
+  pub file-given :
       (behind : Task → ℕ → Type 0) (number : Verdict → ℕ)
       → ((k : ℕ) → number (rejected k) ≡ k)
       → ((t : Task) → Rules t → behind t (number (accepted t)))
@@ -358,16 +373,16 @@ module _ (file : List ℕ) (bytes : OfBytes file) where
       given (leb 16 r) 20 _ (at-most 16 r) (λ _. stop-told (plain-run t state (numbers-of sequence) .stop))))))
 
 -- Refused by no number exactly if all rules are kept: read off the theorems above, since no rule has the number 0.
-passed-on : {rule : Type 0} (k : ℕ) {behind : ℕ → Type 0} {n : ℕ} → Given rule (suc k) behind n → n ≡ 0 → rule × behind n
+pub passed-on : {rule : Type 0} (k : ℕ) {behind : ℕ → Type 0} {n : ℕ} → Given rule (suc k) behind n → n ≡ 0 → rule × behind n
 passed-on k (broken r e) z = absurd (omega arith)
 passed-on k (keeps r b) z = (r, b)
 
-behind-kept : {rule : Type 0} {k : ℕ} {behind : ℕ → Type 0} {n : ℕ} → Given rule k behind n → rule → behind n
+pub behind-kept : {rule : Type 0} {k : ℕ} {behind : ℕ → Type 0} {n : ℕ} → Given rule k behind n → rule → behind n
 behind-kept (broken d e) r = absurd (d r)
 behind-kept (keeps r b) q = b
 
 module _ (l : Lent) {behind : ℕ → Type 0} {n : ℕ} (g : tables-numbers l behind n) where
-  tables-passed : n ≡ 0 → (LongEnough l × Checked (task-of l)) × behind n
+  pub tables-passed : n ≡ 0 → (LongEnough l × Checked (task-of l)) × behind n
   tables-passed z =
       let g6 = passed-on 5 g z in
       let g7 = passed-on 6 (g6 .1) z in
@@ -391,7 +406,7 @@ module _ (l : Lent) {behind : ℕ → Type 0} {n : ℕ} (g : tables-numbers l be
       in
       (kept-rules l (not-refused l p), g12 .1)
 
-  tables-behind : LongEnough l × Checked (task-of l) → behind n
+  pub tables-behind : LongEnough l × Checked (task-of l) → behind n
   tables-behind k =
       let p = passed l (rules-kept l (k .0) (k .1)) in
       behind-kept
@@ -457,7 +472,7 @@ ran-exactly-if l s numbers scratch =
 same-task : (t u : Task) → Rules t → Rules u → file-of t ≡ file-of u → t ≡ u
 same-task t u r q e = no-file-begins-another t u [] r q (append-nil (file-of t) ∙ e) .0
 
-file-behind :
+pub file-behind :
     {file : List ℕ} {behind : Task → ℕ → Type 0} {n : ℕ}
     → FileNumber file behind n
     → (t : Task)

@@ -43,10 +43,10 @@ use Rattle.claims.specs.Zero.{AllZero, ZeroPast, ReadLeaves, WriteLeaves
 use Rattle.file_format.proofs.OfBytes.{bytes-each}
 
 -- what zeros are, and words with zeros behind them
-all-zero : (n : ℕ) → AllZero n (replicate n 0)
+pub all-zero : (n : ℕ) → AllZero n (replicate n 0)
 all-zero n = record { size = length-replicate n 0; zeros = λ i h. getD-replicate n i 0 0 h }
 
-zero-past :
+pub zero-past :
     (n : ℕ) (words : List ℕ) (k : ℕ)
     → length words ≡ k
     → k ≤ n
@@ -64,7 +64,7 @@ zero-past n words k e h =
           ∙ getD-replicate (n - length words) (i - length words) 0 0 (omega arith);
     }
 
-words-past : (n : ℕ) (words : List ℕ) → length words ≤ n → ZeroPast (length words) n (words ++ replicate (n - length words) 0)
+pub words-past : (n : ℕ) (words : List ℕ) → length words ≤ n → ZeroPast (length words) n (words ++ replicate (n - length words) 0)
 words-past n words h = zero-past n words (length words) refl h
 
 rows-past :

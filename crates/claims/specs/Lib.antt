@@ -6,3 +6,4 @@ pub mod Zero
 pub mod Order
 pub mod Files
 pub mod Program
+pub mod CheapestPlan

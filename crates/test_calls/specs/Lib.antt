@@ -1,4 +1,5 @@
 pub mod Buffers
 pub mod Compiling
+pub mod Planning
 pub mod Reading
 pub mod Running

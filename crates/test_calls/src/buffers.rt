@@ -9,6 +9,17 @@ pub fn flag(b: bool) -> u64
     if b { 1 } else { 0 }
 }
 
+// Two words, if the buffer has just two.
+pub fn tell_two(buffer: &mut [u64], first: u64, second: u64)
+    ensures { λ _. ⌜ now (buffer .exit) ≡ told-words (first ∷ second ∷ []) (now (buffer .entry)) ⌝ }
+{
+    if buffer.len() != 2 {
+        return;
+    }
+    buffer[0] = first;
+    buffer[1] = second;
+}
+
 // Three words, if the buffer has just three.
 pub fn tell_three(buffer: &mut [u64], first: u64, second: u64, third: u64)
     ensures { λ _. ⌜ now (buffer .exit) ≡ told-words (first ∷ second ∷ third ∷ []) (now (buffer .entry)) ⌝ }

@@ -5,7 +5,7 @@ ghost use Rattle.plan.specs.Outcome.{stepped, ran};
 ghost use Rattle.test_calls.specs.Running.{refusal-of, stop-told, stop-step, ended-goal, StepTells, RunTells};
 use plan::End;
 
-fn wide(x: u32) -> u64
+pub fn wide(x: u32) -> u64
     ensures { λ r. ⌜ r ≡ x ⌝ }
 {
     x as u64

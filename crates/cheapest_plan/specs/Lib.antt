@@ -1,0 +1,4 @@
+pub mod Cheapest
+pub mod Order
+pub mod Planned
+pub mod Inner

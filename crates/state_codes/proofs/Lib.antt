@@ -1,0 +1,5 @@
+pub mod Bits
+pub mod Coding
+pub mod Masking
+pub mod Meaning
+pub mod States

@@ -1,0 +1,3 @@
+-- What only inner functions ask and leave; no promise to a caller rests on it.
+pub mod Masks
+pub mod States
