@@ -1,6 +1,8 @@
 /*
  * client FILE [OPERATOR ...]: compiles the task file and runs the operators on it and on
  * its compiled task, each from its own initial state.
+ * client FILE plan: compiles the task file and prints the cheapest plan of it and of its
+ * compiled task.
  *
  * Exit status: 0 a plan of both; 1 no plan; 2 refused; 3 bad usage.
  */
@@ -16,7 +18,7 @@ static uint8_t sequence[2 * (PNF_MOST_STEPS + 1)];
 
 static void usage(void)
 {
-    fprintf(stderr, "usage: client FILE [OPERATOR ...]\n");
+    fprintf(stderr, "usage: client FILE [plan | OPERATOR ...]\n");
     exit(3);
 }
 
@@ -72,6 +74,27 @@ static int run(const char *name, const uint8_t *file, size_t file_len, size_t se
     return result[PNF_RUN_PLAN];
 }
 
+/* Prints the cheapest plan of the file's task; 1 if there is one. */
+static int plan(const char *name, const uint8_t *file, size_t file_len)
+{
+    uint8_t out[PNF_MOST_PLAN_BYTES];
+    uint8_t result[PNF_PLAN_RESULT_BYTES];
+    uint32_t answer = pnf_plan(file, file_len, out, sizeof out, result, sizeof result);
+    unsigned long long steps = number(result + PNF_PLAN_STEPS, 4), k;
+
+    if (answer == PNF_NO_PLAN) {
+        printf("%-8s no plan\n", name);
+        return 0;
+    }
+    if (answer != PNF_OK)
+        refused("planning", answer);
+    printf("%-8s steps %llu, charge %llu, plan", name, steps, number(result + PNF_PLAN_COST, 8));
+    for (k = 0; k < steps; k++)
+        printf(" %u", word(out + 2 * k));
+    printf("\n");
+    return 1;
+}
+
 static size_t read_file(const char *name)
 {
     FILE *input = fopen(name, "rb");
@@ -107,18 +130,26 @@ static size_t put_sequence(int count, char **words)
 int main(int argc, char **argv)
 {
     uint8_t result[PNF_COMPILE_RESULT_BYTES];
-    size_t source_len, sequence_len;
+    size_t source_len, compiled_len, sequence_len = 0;
     uint32_t answer;
-    int source_plan, compiled_plan;
+    int planning, source_plan, compiled_plan;
 
     if (argc < 2)
         usage();
     source_len = read_file(argv[1]);
-    sequence_len = put_sequence(argc - 2, argv + 2);
+    planning = argc == 3 && strcmp(argv[2], "plan") == 0;
+    if (!planning)
+        sequence_len = put_sequence(argc - 2, argv + 2);
     answer = pnf_compile(source, source_len, compiled, sizeof compiled, result, sizeof result);
     if (answer != PNF_OK)
         refused("compiling", answer);
-    source_plan = run("source", source, source_len, sequence_len);
-    compiled_plan = run("compiled", compiled, (size_t)number(result, 4), sequence_len);
+    compiled_len = (size_t)number(result, PNF_COMPILE_RESULT_BYTES);
+    if (planning) {
+        source_plan = plan("source", source, source_len);
+        compiled_plan = plan("compiled", compiled, compiled_len);
+    } else {
+        source_plan = run("source", source, source_len, sequence_len);
+        compiled_plan = run("compiled", compiled, compiled_len, sequence_len);
+    }
     return source_plan && compiled_plan ? 0 : 1;
 }

@@ -1,5 +1,5 @@
 /*
- * Layouts, buffer lengths, dirty buffers, and every number that the three calls give, held
+ * Layouts, buffer lengths, dirty buffers, and every number that the four calls give, held
  * to bytes written by hand from the scope. The last line is 'N passed, M failed'.
  *
  * Every buffer is a block of its own of just its length, so that a checker of memory sees
@@ -146,12 +146,35 @@ static void expect_no_run(const char *what, struct run r, uint32_t number)
     expect_run(what, r, number, r.state, NULL, 0);
 }
 
+static void expect_plan(const char *what, const uint8_t *bytes, size_t length, size_t out_len,
+                        size_t result_len, uint32_t number, const uint8_t *plan, size_t plan_len,
+                        const uint8_t *answer, size_t answer_len)
+{
+    uint8_t *file = copy(bytes, length), *out = lent(out_len), *result = lent(result_len);
+    uint32_t given = pnf_plan(file, length, out, out_len, result, result_len);
+    check(what, given == number);
+    check(what, holds(out, out_len, plan, plan_len));
+    check(what, holds(result, result_len, answer, answer_len));
+    check(what, length == 0 || memcmp(file, bytes, length) == 0);
+    free(file);
+    free(out);
+    free(result);
+}
+
+/* No plan is given: both outputs are all 0. */
+static void expect_no_plan(const char *what, const uint8_t *bytes, size_t length, size_t out_len,
+                           size_t result_len, uint32_t number)
+{
+    expect_plan(what, bytes, length, out_len, result_len, number, NULL, 0, NULL, 0);
+}
+
 static void sizes(void)
 {
     check("head", PNF_HEAD_BYTES == 12);
     check("largest tables", PNF_MOST_TABLES_BYTES == 51724);
     check("whole example's tables", sizeof whole_tables == 74);
     check("results", PNF_COMPILE_RESULT_BYTES == 4 && PNF_RUN_RESULT_BYTES == 16);
+    check("a plan's result", PNF_PLAN_RESULT_BYTES == 12 && PNF_MOST_PLAN_BYTES == 2046);
     check("twins", 2 * PNF_MOST_TWINS == PNF_MOST_VARIABLES);
 }
 
@@ -270,6 +293,53 @@ static void longest_runs(void)
     free(sequence);
 }
 
+/* One variable that operators 0, at cost 2, and 1, at cost 1, set; the goal is the variable. */
+static const uint8_t cheaper[] = {
+    0x3d, 1, 0, 2, 0, 1, 0, 2, 0, 1, 0,                           /* head */
+    0x00, 0x10, 0x20, 0x10,                                       /* true; v0; set v0 */
+    0x04, 2, 0, 0x04, 1, 0                                        /* operators */
+};
+
+/* The plans of the whole example, on the source and on the compiled task, and of `cheaper`. */
+static void planning(void)
+{
+    static const uint8_t numbers[2] = {0, 0}, other[2] = {1, 0}, smallest[] = {0x04, 1, 0, 0x10};
+    static const uint8_t cost_3[12] = {1, 0, 0, 0, 3}, cost_1[12] = {1, 0, 0, 0, 1}, none[12];
+    size_t length;
+
+    for (length = 2; length < 9; length++) {
+        expect_plan("source", whole, sizeof whole, length, 12, PNF_OK, numbers, 2, cost_3, 12);
+        expect_plan("compiled", whole_compiled, sizeof whole_compiled, length, 12, PNF_OK, numbers,
+                    2, cost_3, 12);
+        expect_plan("cheaper", cheaper, sizeof cheaper, length, 12, PNF_OK, other, 2, cost_1, 12);
+    }
+    for (length = 0; length < 2; length++)
+        expect_no_plan("out too short", cheaper, sizeof cheaper, length, 12, PNF_PLAN_LONG);
+    for (length = 12; length < 21; length++)
+        expect_plan("result long enough", cheaper, sizeof cheaper, 2, length, PNF_OK, other, 2,
+                    cost_1, 12);
+    for (length = 0; length < 9; length++)
+        expect_plan("empty plan", smallest, sizeof smallest, length, 12, PNF_OK, NULL, 0, none, 12);
+}
+
+/* 21, then 20, then 22, then 23. */
+static void refused_plans(void)
+{
+    static const uint8_t many[] = {0x05, 11, 0, 1, 0, 0, 0, 0x10}; /* 11 variables, goal true */
+    static const uint8_t never[] = {0x04, 1, 0, 0x00};             /* goal false */
+    size_t length;
+
+    expect_no_plan("11 variables", many, sizeof many, 9, 12, PNF_MANY_VARIABLES);
+    expect_no_plan("21 before 20", many, sizeof many, 0, 0, PNF_MANY_VARIABLES);
+    expect_no_plan("1 before 21", many, sizeof many - 1, 9, 12, PNF_FILE_ENDS);
+    for (length = 0; length < 12; length++) {
+        expect_no_plan("result too short", cheaper, sizeof cheaper, 2, length, PNF_OUTPUT_SHORT);
+        expect_no_plan("20 before 22", never, sizeof never, 9, length, PNF_OUTPUT_SHORT);
+        expect_no_plan("20 before 23", cheaper, sizeof cheaper, 0, length, PNF_OUTPUT_SHORT);
+        expect_no_plan("no plan", never, sizeof never, length, 12, PNF_NO_PLAN);
+    }
+}
+
 struct damaged {
     const char *what;
     uint32_t number;
@@ -277,7 +347,7 @@ struct damaged {
     uint8_t bytes[13];
 };
 
-/* The numbers of a file: all three calls give them, whatever else is wrong. */
+/* The numbers of a file: all four calls give them, whatever else is wrong. */
 static void damaged_files(void)
 {
     static const struct damaged files[] = {
@@ -311,6 +381,8 @@ static void damaged_files(void)
         expect_no_run(f->what, r, f->number);
         r.result_len = 16;
         expect_no_run(f->what, r, f->number);
+        expect_no_plan(f->what, f->bytes, f->length, 7, 12, f->number);
+        expect_no_plan(f->what, f->bytes, f->length, 0, 1, f->number);
     }
 }
 
@@ -333,11 +405,14 @@ static void null_pointers(void)
     check("read nothing", pnf_read(NULL, 0, NULL, 0) == PNF_FILE_ENDS);
     check("compile nothing", pnf_compile(NULL, 0, NULL, 0, NULL, 0) == PNF_FILE_ENDS);
     check("run nothing", pnf_run(NULL, 0, NULL, 0, NULL, 0, NULL, 0) == PNF_FILE_ENDS);
+    check("plan nothing", pnf_plan(NULL, 0, NULL, 0, NULL, 0) == PNF_FILE_ENDS);
     check("no tables", pnf_read(smallest, 4, NULL, 0) == PNF_OUTPUT_SHORT);
     check("no out", pnf_compile(smallest, 4, NULL, 0, NULL, 0) == PNF_OUTPUT_SHORT);
     check("no result", pnf_run(smallest, 4, NULL, 0, NULL, 0, NULL, 0) == PNF_OUTPUT_SHORT);
+    check("no plan's result", pnf_plan(smallest, 4, NULL, 0, NULL, 0) == PNF_OUTPUT_SHORT);
+    check("empty plan", pnf_plan(smallest, 4, NULL, 0, result, PNF_PLAN_RESULT_BYTES) == PNF_OK);
     check("empty run", pnf_run(smallest, 4, NULL, 0, NULL, 0, result, sizeof result) == PNF_OK);
-    check("empty plan", result[PNF_RUN_PLAN] == 1 && result[PNF_RUN_COST] == 0);
+    check("empty run is a plan", result[PNF_RUN_PLAN] == 1 && result[PNF_RUN_COST] == 0);
 }
 
 int main(void)
@@ -353,6 +428,8 @@ int main(void)
         running();
         refused_runs();
         longest_runs();
+        planning();
+        refused_plans();
         damaged_files();
         over_a_limit();
         null_pointers();

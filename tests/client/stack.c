@@ -11,6 +11,7 @@
 #include <string.h>
 #include <sys/mman.h>
 
+#define CALLS 4
 #define PAINT 0xa5
 #define STACK (PNF_STACK_BYTES + 64u * 1024u) /* and what starting a thread takes */
 
@@ -95,6 +96,13 @@ static void *call_run(void *unused)
     return unused;
 }
 
+static void *call_plan(void *unused)
+{
+    static uint8_t out[PNF_MOST_PLAN_BYTES], result[PNF_PLAN_RESULT_BYTES];
+    answer = pnf_plan(file, file_len, out, sizeof out, result, sizeof result);
+    return unused;
+}
+
 static void *call_nothing(void *unused) { return unused; }
 
 /* The bytes of a painted stack that a call in a thread of its own used. */
@@ -122,9 +130,9 @@ static size_t used(void *(*call)(void *))
 
 int main(void)
 {
-    static const char *const names[] = {"read", "compile", "run"};
-    static void *(*const calls[])(void *) = {call_read, call_compile, call_run};
-    size_t most[3] = {0, 0, 0}, start = used(call_nothing);
+    static const char *const names[] = {"read", "compile", "run", "plan"};
+    static void *(*const calls[CALLS])(void *) = {call_read, call_compile, call_run, call_plan};
+    size_t most[CALLS] = {0, 0, 0, 0}, start = used(call_nothing);
     unsigned kind, failed = 0;
     enum way way;
     int i;
@@ -132,18 +140,18 @@ int main(void)
     for (kind = 3; kind <= 7; kind++)
         for (way = LEFT; way <= UNDER; way++) {
             put_deepest(kind, way);
-            for (i = 0; i < 3; i++) {
+            for (i = 0; i < CALLS; i++) {
                 size_t bytes = used(calls[i]) - start;
-                if (answer != PNF_OK && answer != PNF_OVER_LIMIT)
+                if (answer != PNF_OK && answer != PNF_OVER_LIMIT && answer != PNF_NO_PLAN)
                     abort();
                 if (bytes > most[i])
                     most[i] = bytes;
             }
         }
-    for (i = 0; i < 3; i++) {
+    for (i = 0; i < CALLS; i++) {
         printf("pnf_%s takes %zu bytes of stack\n", names[i], most[i]);
         failed += most[i] >= PNF_STACK_BYTES;
     }
-    printf("%u passed, %u failed\n", 3 - failed, failed);
+    printf("%u passed, %u failed\n", CALLS - failed, failed);
     return failed > 0;
 }

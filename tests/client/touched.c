@@ -21,5 +21,7 @@ int main(int argc, char **argv)
         return (int)pnf_compile(file, sizeof file, out, sizeof out, result, PNF_COMPILE_RESULT_BYTES);
     if (strcmp(entry, "run") == 0)
         return (int)pnf_run(file, sizeof file, NULL, 0, NULL, 0, result, sizeof result);
+    if (strcmp(entry, "plan") == 0)
+        return (int)pnf_plan(file, sizeof file, NULL, 0, result, PNF_PLAN_RESULT_BYTES);
     return 0;
 }

@@ -1,6 +1,8 @@
-//! What the three C entries give (docs/C-INTERFACE.md), by the other
+//! What the four C entries give (docs/C-INTERFACE.md), by the other
 //! implementation: the number and every buffer at exit.
 
+use crate::best::cheapest::plan_of;
+use crate::cheapest::MOST_PLANNED;
 use crate::compile::compile as compile_tables;
 use crate::file::{file_of, read_task, LARGEST};
 use crate::semantics::{self, MOST_STEPS};
@@ -9,6 +11,7 @@ use crate::task::*;
 pub const HEAD_SIZE: usize = 12;
 pub const COMPILE_RESULT_SIZE: usize = 4;
 pub const RUN_RESULT_SIZE: usize = 16;
+pub const PLAN_RESULT_SIZE: usize = 12;
 /// No file is longer.
 pub const MOST_FILE_BYTES: usize = 43_341;
 
@@ -19,9 +22,9 @@ pub struct Read {
     pub tables: Vec<u8>,
 }
 
-/// What compiling leaves.
+/// What compiling or planning leaves.
 #[derive(Clone, Debug, PartialEq, Eq)]
-pub struct Compile {
+pub struct Given {
     pub number: u32,
     pub out: Vec<u8>,
     pub result: Vec<u8>,
@@ -47,7 +50,7 @@ pub fn read(file: &[u8], tables_length: usize) -> Read {
     }
 }
 
-pub fn compile(file: &[u8], out_length: usize, result_length: usize) -> Compile {
+pub fn compile(file: &[u8], out_length: usize, result_length: usize) -> Given {
     let answer = compiled_file(file).and_then(|file| {
         enough(out_length, file.len())?;
         enough(result_length, COMPILE_RESULT_SIZE)?;
@@ -59,7 +62,7 @@ pub fn compile(file: &[u8], out_length: usize, result_length: usize) -> Compile 
         0 => (out.len() as u32).to_le_bytes().to_vec(),
         _ => Vec::new(),
     };
-    Compile {
+    Given {
         number,
         out: filled(out, out_length),
         result: filled(result, result_length),
@@ -78,6 +81,17 @@ pub fn run(file: &[u8], state: &[u8], sequence: &[u8], result_length: usize) -> 
             result: filled(run_result(&outcome), result_length),
             state: outcome.state,
         },
+    }
+}
+
+pub fn plan(file: &[u8], out_length: usize, result_length: usize) -> Given {
+    let answer = planned(file, out_length, result_length);
+    let number = number(&answer);
+    let (out, result) = answer.unwrap_or_default();
+    Given {
+        number,
+        out: filled(out, out_length),
+        result: filled(result, result_length),
     }
 }
 
@@ -128,6 +142,28 @@ fn outcome(
     let numbers: Vec<u16> = numbers.map(|n| u16::from_le_bytes([n[0], n[1]])).collect();
     let scratch = MOST_FORMULAS + MOST_EFFECTS;
     Ok(semantics::run(&task, state, scratch, &numbers))
+}
+
+/// The file's numbers, 21, 20, 22, 23; the plan's numbers, its steps and
+/// cost.
+fn planned(
+    file: &[u8],
+    out_length: usize,
+    result_length: usize,
+) -> Result<(Vec<u8>, Vec<u8>), Refusal> {
+    let task = read_task(file, &LARGEST)?;
+    if usize::from(task.head.variables) > MOST_PLANNED {
+        return Err(21);
+    }
+    enough(result_length, PLAN_RESULT_SIZE)?;
+    let plan = plan_of(&task).ok_or(22u16)?;
+    let out = words(&plan.numbers);
+    if out.len() > out_length {
+        return Err(23);
+    }
+    let mut result = (plan.numbers.len() as u32).to_le_bytes().to_vec();
+    result.extend(plan.cost.to_le_bytes());
+    Ok((out, result))
 }
 
 /// Steps, cost, goal, plan, stop.

@@ -1,7 +1,17 @@
-//! The library's three C entries. Buffers stand between guards, which must
+//! The library's four C entries. Buffers stand between guards, which must
 //! be whole afterwards; `Err` says which was not.
 
-use crate::entries::{Compile, Read, Run};
+use crate::entries::{Given, Read, Run};
+
+/// A file, what it gives, and a result.
+type Giving = unsafe extern "C" fn(
+    file: *const u8,
+    file_len: usize,
+    out: *mut u8,
+    out_len: usize,
+    result: *mut u8,
+    result_len: usize,
+) -> u32;
 
 #[link(name = "entries", kind = "static")]
 extern "C" {
@@ -21,6 +31,14 @@ extern "C" {
         state_len: usize,
         sequence: *const u8,
         sequence_len: usize,
+        result: *mut u8,
+        result_len: usize,
+    ) -> u32;
+    fn pnf_plan(
+        file: *const u8,
+        file_len: usize,
+        out: *mut u8,
+        out_len: usize,
         result: *mut u8,
         result_len: usize,
     ) -> u32;
@@ -84,18 +102,27 @@ pub fn read(bytes: &[u8], tables_length: usize, fill: u8) -> Result<Read, String
     })
 }
 
-pub fn compile(
+pub fn compile(file: &[u8], out: usize, result: usize, fill: u8) -> Result<Given, String> {
+    given(pnf_compile, file, out, result, fill)
+}
+
+pub fn plan(file: &[u8], out: usize, result: usize, fill: u8) -> Result<Given, String> {
+    given(pnf_plan, file, out, result, fill)
+}
+
+fn given(
+    call: Giving,
     bytes: &[u8],
     out_length: usize,
     result_length: usize,
     fill: u8,
-) -> Result<Compile, String> {
+) -> Result<Given, String> {
     let mut file = Guarded::new(bytes);
     let mut out = Guarded::filled(out_length, fill);
     let mut result = Guarded::filled(result_length, fill);
     // Each pointer and length belong to one guarded buffer.
     let number = unsafe {
-        pnf_compile(
+        call(
             file.pointer(),
             bytes.len(),
             out.pointer(),
@@ -105,7 +132,7 @@ pub fn compile(
         )
     };
     file.unchanged(bytes, "file")?;
-    Ok(Compile {
+    Ok(Given {
         number,
         out: out.bytes("out")?,
         result: result.bytes("result")?,

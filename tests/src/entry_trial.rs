@@ -1,7 +1,7 @@
-//! One file through the three C entries of the library and of the other
+//! One file through the four C entries of the library and of the other
 //! implementation; the differential tests and the fuzzer share it.
 
-use crate::entries::{self, COMPILE_RESULT_SIZE, HEAD_SIZE, RUN_RESULT_SIZE};
+use crate::entries::{self, COMPILE_RESULT_SIZE, HEAD_SIZE, PLAN_RESULT_SIZE, RUN_RESULT_SIZE};
 use crate::entry_calls as library;
 use crate::file::{read_task, LARGEST};
 use crate::generate;
@@ -43,6 +43,14 @@ pub fn same_run(
     same(file, call, found, expected)
 }
 
+pub fn same_plan(file: &[u8], out_length: usize, result_length: usize, fill: u8) -> Verdict {
+    let expected = entries::plan(file, out_length, result_length);
+    let found = library::plan(file, out_length, result_length, fill);
+    let call =
+        || format!("pnf_plan, out_len {out_length}, result_len {result_length}, fill {fill}");
+    same(file, call, found, expected)
+}
+
 fn same<T: PartialEq + std::fmt::Debug>(
     file: &[u8],
     call: impl Fn() -> String,
@@ -69,7 +77,7 @@ fn hex(bytes: &[u8]) -> String {
     format!("[{}] {text}{more}", bytes.len())
 }
 
-/// The three calls on one file, with lengths around the layouts' sizes and
+/// The four calls on one file, with lengths around the layouts' sizes and
 /// some states and sequences.
 pub fn file(random: &mut Random, file: &[u8]) -> Verdict {
     reading(random, file)?;
@@ -77,7 +85,7 @@ pub fn file(random: &mut Random, file: &[u8]) -> Verdict {
     for _ in 0..3 {
         running(random, file)?;
     }
-    Ok(())
+    planning(random, file)
 }
 
 fn reading(random: &mut Random, file: &[u8]) -> Verdict {
@@ -128,6 +136,22 @@ fn running(random: &mut Random, file: &[u8]) -> Verdict {
         _ => RUN_RESULT_SIZE,
     };
     same_run(file, &state, &sequence, result_length, random.pick(&FILLS))
+}
+
+/// An out just long enough, one byte too short, and any; half a number more
+/// among them.
+fn planning(random: &mut Random, file: &[u8]) -> Verdict {
+    let all = entries::plan(file, 2 * 1023, PLAN_RESULT_SIZE);
+    let steps = usize::from(u16::from_le_bytes([all.result[0], all.result[1]]));
+    let needed = match all.number {
+        0 => 2 * steps,
+        _ => random.below(20),
+    };
+    for out_length in [needed, needed.saturating_sub(1), near(random, needed)] {
+        same_plan(file, out_length, PLAN_RESULT_SIZE, random.pick(&FILLS))?;
+    }
+    let (out_length, result_length) = (near(random, needed), near(random, PLAN_RESULT_SIZE));
+    same_plan(file, out_length, result_length, random.pick(&FILLS))
 }
 
 /// Lengths near the needed one, and far from it.

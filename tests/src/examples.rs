@@ -138,6 +138,24 @@ pub fn running() -> Task {
     draft.finish(goal)
 }
 
+/// A journey whose cheapest plan is neither the shortest nor the first by
+/// numbers; halfway, there, pass are variables 0 to 2. Operators: a pass that
+/// is free; direct; two ways halfway; on from there, without and with a pass.
+pub fn journey() -> Task {
+    let mut draft = Draft::new(&[0, 0, 0]);
+    let yes = draft.yes();
+    let [halfway, there, pass] = [0, 1, 2].map(|v| draft.variable(v));
+    let (not_halfway, both) = (draft.not(halfway), draft.and(halfway, pass));
+    let [go_halfway, arrive, get_pass] = [0, 1, 2].map(|v| draft.set(v));
+    draft.operator(yes, get_pass, 0);
+    draft.operator(not_halfway, arrive, 9);
+    draft.operator(yes, go_halfway, 1);
+    draft.operator(yes, go_halfway, 1);
+    draft.operator(halfway, arrive, 3);
+    draft.operator(both, arrive, 3);
+    draft.finish(there)
+}
+
 /// 002's bicycle; home, uni, lecture, bike, locked are variables 0 to 4.
 pub fn bicycle() -> Task {
     let mut draft = Draft::new(&[1, 0, 0, 1, 1]);

@@ -25,6 +25,13 @@ impl Element for u16 {
     }
 }
 
+impl Element for u32 {
+    const GUARD: u32 = 0xa55a_a55a;
+    fn from_number(number: u64) -> u32 {
+        number as u32
+    }
+}
+
 impl Element for u64 {
     const GUARD: u64 = 0xa55a_a55a_a55a_a55a;
     fn from_number(number: u64) -> u64 {

@@ -3,6 +3,7 @@
 //! `reference` holds each to its plain form.
 
 pub mod builder;
+pub mod cheapest;
 pub mod compile;
 pub mod kept;
 pub mod print;

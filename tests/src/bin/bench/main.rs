@@ -1,6 +1,6 @@
 //! Compares the library's times with those of the other implementation in
 //! its quickest form: one table, ratios of medians. The first argument picks
-//! one group: files, runs, compiling, program or hostile, of which the table
+//! one group: files, runs, planning, compiling, program or hostile, of which the table
 //! has the slowest file alone. Beside the table:
 //! `worst [FAMILY]` has the files made to be slow, `nets` nets and chains of
 //! effect rows at many counts, `search [SEED [SECONDS]]` looks for more,
@@ -16,6 +16,8 @@ mod calls;
 mod compiling;
 #[cfg(feature = "reading")]
 mod files;
+#[cfg(feature = "planning")]
+mod planning;
 mod program;
 #[cfg(feature = "running")]
 mod runs;
@@ -58,6 +60,10 @@ fn table(report: Report, group: Option<&str>) -> std::io::Result<()> {
     #[cfg(feature = "running")]
     if asked("runs") {
         runs::compare(report);
+    }
+    #[cfg(feature = "planning")]
+    if asked("planning") {
+        planning::compare(report);
     }
     if asked("program") {
         program::compare(report)?;

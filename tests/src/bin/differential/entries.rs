@@ -1,14 +1,16 @@
-//! Group `entries`: the three C entries against the other implementation.
+//! Group `entries`: the four C entries against the other implementation.
 //! Group `corpus`: the same on the files of examples and tests/corpus.
 
 use saqwillo_tests::damage;
 use saqwillo_tests::entries as other;
 use saqwillo_tests::entry_calls as library;
-use saqwillo_tests::entry_trial::{self, same_compile, same_read, same_run};
+use saqwillo_tests::entry_trial::{self, same_compile, same_plan, same_read, same_run};
 use saqwillo_tests::examples;
 use saqwillo_tests::file::file_of;
 use saqwillo_tests::generate::{self, Shape};
-use saqwillo_tests::harness::{Test, Trial, Verdict};
+use saqwillo_tests::harness::{same, Test, Trial, Verdict};
+use saqwillo_tests::long_plans;
+use saqwillo_tests::moves;
 use saqwillo_tests::random::Random;
 use saqwillo_tests::stored;
 use saqwillo_tests::task::{Head, Task};
@@ -35,6 +37,10 @@ pub fn tests() -> Vec<Test> {
         test("long sequences", long_sequences),
         test("lengths where small tables end", where_small_tables_end),
         test("source and compiled alike", alike),
+        test("plans of moves", plans_of_moves),
+        test("the longest plans", longest_plans),
+        test("planning's refusals", refused_plans),
+        test("source and compiled plan alike", planned_alike),
         Test {
             group: "corpus",
             name: "files",
@@ -55,6 +61,7 @@ fn all_examples() -> Vec<Task> {
         examples::bicycle(),
         examples::flat_effect(),
         examples::effect_normal_form(),
+        examples::journey(),
         examples::set_and_clear(),
         examples::set_under_other(),
         examples::toggle(),
@@ -111,6 +118,9 @@ fn all_lengths(trial: &mut Trial) -> Verdict {
             same_run(&file, state, &[0, 0, 0], length, 0xff)?;
             same_run(&file, &vec![0; length], &[0, 0], 16, 0xff)?;
             same_run(&file, state, &vec![0; length], 16, 0xff)?;
+            same_plan(&file, 40, length, 0xff)?;
+            same_plan(&file, length, 12, 0xff)?;
+            same_plan(&file, 3, length, 0xff)?;
         }
     }
     Ok(())
@@ -353,6 +363,121 @@ fn alike(trial: &mut Trial) -> Verdict {
         0..=4000 => Err("  few tasks compiled".to_string()),
         _ => Ok(()),
     }
+}
+
+/// Tasks that mostly have a plan, with every length of out around its own.
+fn plans_of_moves(trial: &mut Trial) -> Verdict {
+    let (mut long, mut none) = (0, 0);
+    for _ in 0..4_000 {
+        let random = &mut trial.random;
+        let (operators, costs) = (random.pick(&[1, 3, 8, 20]), random.pick(&[1, 3, 65_536]));
+        let task = match random.chance(60) {
+            true => {
+                let variables = random.between(1, 5);
+                moves::line(random, variables, operators.min(64 >> variables), costs)
+            }
+            false => {
+                let variables = random.between(0, 11);
+                moves::task(random, variables, operators, costs)
+            }
+        };
+        let file = file(&task);
+        let all = other::plan(&file, 2046, 12);
+        long += u32::from(all.number == 0 && all.result[0] > 4);
+        none += u32::from(all.number == 22);
+        let needed = match all.number {
+            0 => 2 * usize::from(u16::from_le_bytes([all.result[0], all.result[1]])),
+            _ => 4,
+        };
+        for length in needed.saturating_sub(3)..needed + 4 {
+            trial.case();
+            same_plan(&file, length, 12, 0xff)?;
+        }
+        same_plan(&file, needed, 11, 0xff)?;
+        same_plan(&file, needed, 13, 0xff)?;
+    }
+    let enough = long > 200 && none > 200;
+    same(&format!("{long} long, {none} none"), enough, true)
+}
+
+/// A counter of 10 variables: 1,023 steps, 2,046 bytes.
+fn longest_plans(trial: &mut Trial) -> Verdict {
+    for operators in [1, 2, 256] {
+        let task = long_plans::counter(10, operators, |_| 65_535);
+        let file = file(&task);
+        for length in [0, 2044, 2045, 2046, 2047, 5000] {
+            trial.case();
+            same_plan(&file, length, 12, 0xff)?;
+            same_plan(&file, length, 11, 0xff)?;
+        }
+        let left = library::plan(&file, 2046, 12, 0xff)?;
+        same("steps", &left.result[..4], &[0xff, 0x03, 0, 0][..])?;
+    }
+    for reachable in [true, false] {
+        trial.case();
+        let lanes = file(&long_plans::lanes(3, 7, reachable));
+        same_plan(&lanes, 2046, 12, 0xff)?;
+        same_plan(&file(&long_plans::largest_rows(reachable)), 2046, 12, 0xff)?;
+    }
+    Ok(())
+}
+
+/// 21 before 20 before 22 before 23, and the file's own before all of them.
+fn refused_plans(trial: &mut Trial) -> Verdict {
+    let none = {
+        let mut task = generate::plain(Head::from_words([1, 0, 1, 0, 0, 0]));
+        task.set_formula(0, [0, 0, 0]);
+        file(&task)
+    };
+    let large = file(&generate::plain(Head::from_words([11, 5, 2, 2, 1, 0])));
+    let long = file(&long_plans::counter(3, 2, |_| 1));
+    for (file, out_length, result_length, number) in [
+        (&large, 0, 0, 21),
+        (&large, 99, 11, 21),
+        (&large, 99, 12, 21),
+        (&none, 0, 11, 20),
+        (&none, 0, 12, 22),
+        (&none, 99, 12, 22),
+        (&long, 0, 11, 20),
+        (&long, 0, 12, 23),
+        (&long, 13, 12, 23),
+        (&long, 14, 12, 0),
+        (&long, 15, 12, 0),
+    ] {
+        trial.case();
+        same_plan(file, out_length, result_length, 0xff)?;
+        let left = library::plan(file, out_length, result_length, 0xff)?;
+        same("number", left.number, number)?;
+        let damaged = &file[..file.len() - 1];
+        same_plan(damaged, out_length, result_length, 0xff)?;
+    }
+    Ok(())
+}
+
+/// Where both have at most 10 variables, a task and its compiled task have
+/// the same cheapest plan, by the library alone.
+fn planned_alike(trial: &mut Trial) -> Verdict {
+    let mut plans = 0;
+    for _ in 0..5_000 {
+        let shape = Shape::small(&mut trial.random, false);
+        let task = generate::task(&mut trial.random, &shape);
+        let source = file(&task);
+        let compiled = library::compile(&source, other::MOST_FILE_BYTES, 4, 0xff)?;
+        let length = usize::from(u16::from_le_bytes([compiled.result[0], compiled.result[1]]));
+        let one = library::plan(&source, 2046, 12, 0xff)?;
+        let two = library::plan(&compiled.out[..length], 2046, 12, 0xff)?;
+        if compiled.number != 0 || two.number == 21 {
+            continue;
+        }
+        trial.case();
+        plans += u32::from(one.number == 0);
+        if one != two {
+            return Err(format!(
+                "  file {source:02x?}\n  source {one:?}\n  compiled {two:?}"
+            ));
+        }
+    }
+    same(&format!("{plans} plans"), plans > 1_000, true)
 }
 
 fn corpus(trial: &mut Trial) -> Verdict {

@@ -24,6 +24,8 @@ mod deep_rows;
 mod demand_3;
 #[cfg(feature = "reading")]
 mod file_order;
+#[cfg(feature = "planning")]
+mod planning;
 #[cfg(feature = "reading")]
 mod reading;
 #[cfg(feature = "running")]
@@ -64,5 +66,7 @@ fn main() {
     }
     #[cfg(all(feature = "running", feature = "compiling"))]
     tests.extend(demand_3::tests());
+    #[cfg(feature = "planning")]
+    tests.extend(planning::tests());
     std::process::exit(saqwillo_tests::harness::run(&tests));
 }

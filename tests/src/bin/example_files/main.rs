@@ -17,6 +17,7 @@ fn main() -> std::io::Result<()> {
         ("bicycle", examples::bicycle()),
         ("flat_effect", examples::flat_effect()),
         ("effect_normal_form", examples::effect_normal_form()),
+        ("journey", examples::journey()),
     ] {
         let file = file_of(&task.head, &task.tables);
         std::fs::write(folder.join(name).with_extension("out"), program(&file))?;

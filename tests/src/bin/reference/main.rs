@@ -3,6 +3,7 @@
 //! Arguments: `[--seed N] [GROUP ...]`.
 
 mod best;
+mod cheapest;
 mod compiling;
 mod examples;
 mod files;
@@ -17,5 +18,6 @@ fn main() {
     tests.extend(runs::tests());
     tests.extend(compiling::tests());
     tests.extend(best::tests());
+    tests.extend(cheapest::tests());
     std::process::exit(harness::run(&tests));
 }

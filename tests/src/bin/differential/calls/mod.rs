@@ -3,6 +3,8 @@
 
 #[cfg(feature = "compiling")]
 pub mod compiling;
+#[cfg(feature = "planning")]
+pub mod planning;
 #[cfg(feature = "reading")]
 pub mod reading;
 #[cfg(feature = "running")]
