@@ -33,7 +33,7 @@ enum {
     PNF_OK = 0,
     PNF_FILE_ENDS = 1,       /* the file ends inside a field or row */
     PNF_UNUSED_BIT = 2,      /* an unused map bit or a spare bit of the initial state is 1 */
-    PNF_PRESENT_ZERO = 3,    /* a field that is present is 0 */
+    PNF_PRESENT_ZERO = 3,    /* a present field is 0, or a present percent 100 (0 it may be) */
     PNF_BYTES_FOLLOW = 4,    /* bytes follow the last row */
     PNF_TABLE_SHORT = 5,     /* (a lent table is too short for its count) */
     PNF_COUNT = 6,           /* a count of the head is outside its limits */
@@ -53,7 +53,8 @@ enum {
     PNF_OUTPUT_SHORT = 20,   /* tables, out or result is shorter than its layout */
     PNF_MANY_VARIABLES = 21, /* planning: more than 10 variables, twins among them */
     PNF_NO_PLAN = 22,        /* planning: there is no plan */
-    PNF_PLAN_LONG = 23       /* planning: out is shorter than two bytes a step */
+    PNF_PLAN_LONG = 23,      /* planning: out is shorter than two bytes a step */
+    PNF_PERCENT = 24         /* an operator's percent is above 200 */
 };
 
 /* Limits of a task, of a run, and of a task that is planned for and its plan. */
@@ -67,14 +68,18 @@ enum {
 #define PNF_MOST_PLAN_STEPS 1023
 
 /* No task file is longer: an out of this length is never too short. */
-#define PNF_MOST_FILE_BYTES 43341
+#define PNF_MOST_FILE_BYTES 43853
 
-/* Tables: the head, V initial bytes, W originals, then F + E + O rows of three words. */
+/*
+ * Tables: the head, V initial bytes, W originals, F + E rows of three words, then O rows of
+ * four: precondition, effect, cost, percent.
+ */
 #define PNF_HEAD_BYTES 12
 #define PNF_ROW_BYTES 6
+#define PNF_OPERATOR_BYTES 8
 #define PNF_TABLES_BYTES(v, w, f, e, o) \
     ((size_t)PNF_HEAD_BYTES + (size_t)(v) + 2 * (size_t)(w) + \
-     PNF_ROW_BYTES * ((size_t)(f) + (size_t)(e) + (size_t)(o)))
+     PNF_ROW_BYTES * ((size_t)(f) + (size_t)(e)) + PNF_OPERATOR_BYTES * (size_t)(o))
 #define PNF_MOST_TABLES_BYTES \
     PNF_TABLES_BYTES(PNF_MOST_VARIABLES, PNF_MOST_TWINS, PNF_MOST_FORMULAS, \
                      PNF_MOST_EFFECTS, PNF_MOST_OPERATORS)
@@ -82,7 +87,10 @@ enum {
 /* No plan takes more bytes: an out of this length is never too short for one. */
 #define PNF_MOST_PLAN_BYTES (2 * PNF_MOST_PLAN_STEPS)
 
-/* Results, and where the fields of a run's and of a plan's result stand. */
+/*
+ * Results, and where the fields of a run's and of a plan's result stand. The cost is the sum of
+ * the steps' charges, each its operator's cost x percent / 100 to the nearest, a half upwards.
+ */
 #define PNF_COMPILE_RESULT_BYTES 4
 #define PNF_RUN_RESULT_BYTES 16
 #define PNF_RUN_STEPS 0 /* 4 bytes */
@@ -96,13 +104,13 @@ enum {
 
 /*
  * Measured by tests/client/stack.c, on 4,096 formulas and 4,096 effects nested as deep as they
- * go: pnf_compile takes 4,136,688 bytes, pnf_run 192,375, pnf_plan 97,095, pnf_read 52,824.
+ * go: pnf_compile takes 4,137,712 bytes, pnf_run 192,888, pnf_plan 97,592, pnf_read 53,338.
  */
 #define PNF_STACK_BYTES (11u * 512u * 1024u)
 
 /*
  * Reads a task file into its tables.
- * Numbers: those of the file (1, 2, 3, 6, 7, 9, 10, 11, 12, 4, first fault first), 20.
+ * Numbers: those of the file (1, 2, 3, 6, 7, 9, 10, 11, 12, 24, 4, first fault first), 20.
  * Afterwards tables holds the layout and 0 behind it; all 0 unless PNF_OK.
  */
 uint32_t pnf_read(const uint8_t *file, size_t file_len,

@@ -6,7 +6,7 @@ use Rattle.task.specs.Bounded.{upto}
 use Rattle.task.specs.Table.{Row, Task, formula-kind, effect-kind, operator}
 use Rattle.task.specs.Semantics.{holds, effcond, value-after, apply}
 use Rattle.task.specs.Tree.{formula-node, formula-within, formula-of, effect-node, effect-within, effect-of}
-use Rattle.task.specs.Run.{operator-of, effect-of-operator, goal-holds, applicable, charge, after-step, answer, run-on, plain-run, unstopped, is-plan}
+use Rattle.task.specs.Run.{operator-of, effect-of-operator, goal-holds, applicable, charge-of, charge, after-step, answer, run-on, plain-run, unstopped, is-plan}
 use Rattle.cheapest_plan.specs.Cheapest.{behind, lists-of, lists-upto, Pick, no-plan, plan-of, no-dearer, unless-later, first-cheapest, cheapest}
 
 abbrev pub words : ℕ → ℕ → ℕ → Row
@@ -20,7 +20,7 @@ task first second goal =
       originals = [];
       formulas = words 2 0 0 ∷ words 2 1 0 ∷ words 1 0 0 ∷ words 0 0 0 ∷ words 5 0 1 ∷ [];
       effects = words 1 0 0 ∷ words 1 1 0 ∷ words 4 0 1 ∷ words 3 0 2 ∷ [];
-      operators = operator 2 3 first ∷ operator 2 1 second ∷ [];
+      operators = operator 2 3 first 100 ∷ operator 2 1 second 100 ∷ [];
       goal = goal;
     }
 
@@ -28,7 +28,7 @@ task first second goal =
 result : (first second goal : ℕ) → Pick
 unfolding
     upto formula-kind effect-kind holds effcond value-after apply formula-node formula-within formula-of effect-node effect-within effect-of
-    operator-of effect-of-operator goal-holds applicable charge after-step answer run-on plain-run unstopped is-plan
+    operator-of effect-of-operator goal-holds applicable charge-of charge after-step answer run-on plain-run unstopped is-plan
     behind lists-of lists-upto no-dearer unless-later first-cheapest cheapest
 result first second goal = cheapest (task first second goal)
 

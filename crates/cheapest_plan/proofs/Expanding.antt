@@ -6,7 +6,7 @@ use mathlib.Core.Bool.{Bool, true, false}
 use mathlib.Core.List.{List}
 use lib.ListN.{length, getD}
 use Rattle.task.specs.Table.{Operator, operator-at}
-use Rattle.task.specs.Run.{applicable, charge, operator-of}
+use Rattle.task.specs.Run.{applicable, charge-of, charge, operator-of}
 use Rattle.task.specs.Inner.Values.{bit}
 use Rattle.state_codes.specs.Inner.Masks.{next-code}
 use Rattle.state_queue.specs.Inner.Queue.{Roomy}
@@ -72,14 +72,14 @@ module _
           (yes : getD values asked 0 ≡ 0 → ⊥)
           {effect price : ℕ}
           (changes : effect ≡ operator-at operators k .effect)
-          (charged : price ≡ operator-at operators k .cost)
+          (charged : price ≡ charge-of (operator-at operators k))
         where
           pub charge-is : charge (h .t) (state-of (length (h .t .initial)) state) k ≡ price
           unfolding charge
-          charge-is = ap (λ (o : Operator). o .cost) (h .row k below) ∙ sym charged
+          charge-is = ap charge-of (h .row k below) ∙ sym charged
 
           -- the sums fit
-          pub sums-fit : (cost + price ≤ 67107841) × (steps + 1 ≤ 1024)
+          pub sums-fit : (cost + price ≤ 134215681) × (steps + 1 ≤ 1024)
           sums-fit =
               let s = state-of (length (h .t .initial)) state in
               let c = taken-cheap (h .ground) (at .stepping .searching) s place (h .p) (h .c) (at .stepping .is-taken) in

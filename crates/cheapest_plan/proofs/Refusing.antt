@@ -10,10 +10,11 @@ use lib.Dec.{leb}
 use lib.ListN.{length, getD, List·getD-eq-default}
 use lib.Pow.{shl-exact, pow-mono}
 use borrow.Author.Tests.{le-leb, lt-leb, leb-true}
-use Rattle.task.specs.Table.{Lent, Operator, task-of, operator-at}
+use Rattle.task.specs.Table.{Lent, Operator, operator-width, task-of, operator-at}
 use Rattle.task.specs.Check.{refusal, unless}
 use Rattle.task.specs.Rules.{no-operator}
-use Rattle.task.specs.Run.{charge, operator-of}
+use Rattle.task.proofs.Charges.{charge-most}
+use Rattle.task.specs.Run.{charge-of, charge, operator-of}
 use Rattle.task.proofs.Bounded.{and-left, and-right, length-upto, getD-upto}
 use Rattle.task.proofs.Held.{length-initial, length-effects, length-operators}
 use Rattle.task.proofs.Kept.{kept-rules}
@@ -80,16 +81,10 @@ module _ (l : Lent) (scratch words : List ℕ) (n : ℕ) (checked : n ≡ refusa
 
 -- once none is given, a search may begin
 module _ (l : Lent) (words16 : (i : ℕ) → getD (l .operators) i 0 < 65536) where
-  pub cheap : (s : List ℕ) (o : ℕ) → charge (task-of l) s o ≤ 65535
-  unfolding charge operator-of task-of operator-at
-  cheap s o = go (decLt o (l .head .operators))
-    where
-      go : Dec (o < l .head .operators) → getD (task-of l .operators) o no-operator .cost ≤ 65535
-      go (yes h) =
-          rw (getD-upto (l .head .operators) (operator-at (l .operators)) o no-operator h) (omega (arith, words16 (3 * o + 2)))
-      go (no h) =
-          let outside : length (task-of l .operators) ≤ o = omega (arith, length-upto (l .head .operators) (operator-at (l .operators))) in
-          rw (List·getD-eq-default (task-of l .operators) no-operator {n = o} outside) (omega arith)
+  low-cost : (o : ℕ) → o < l .head .operators → getD (task-of l .operators) o no-operator .cost ≤ 65535
+  unfolding task-of operator-at
+  low-cost o h =
+      rw (getD-upto (l .head .operators) (operator-at (l .operators)) o no-operator h) (omega (arith, words16 (operator-width * o + 2)))
 
   module _ (scratch words : List ℕ) (passed : search-refusal l scratch words ≡ 0) where
     later : ℕ
@@ -105,6 +100,18 @@ module _ (l : Lent) (words16 : (i : ℕ) → getD (l .operators) i 0 < 65536) wh
         leb-true (l .head .variables) 10
         (unless-kept (few-variables (l .head)) 21 (unless (search-scratch-kept (l .head) scratch words) 14 0) (omega arith)
         (rest-none (refusal l) later passed))
+
+    pub cheap : (s : List ℕ) (o : ℕ) → charge (task-of l) s o ≤ 131070
+    unfolding charge operator-of
+    cheap s o = go (decLt o (length (task-of l .operators)))
+      where
+        go : Dec (o < length (task-of l .operators)) → charge-of (getD (task-of l .operators) o no-operator) ≤ 131070
+        go (yes h) =
+            charge-most (getD (task-of l .operators) o no-operator) (low-cost o (rw (length-operators l) at h))
+            (kept-rules l tables-passed .1 .operator o h .percent)
+        go (no h) =
+            let outside : length (task-of l .operators) ≤ o = omega arith in
+            rw (List·getD-eq-default (task-of l .operators) no-operator {n = o} outside) (charge-most no-operator (omega arith) (omega arith))
 
     roomy : (step-scratch-kept (l .head) scratch && leb (4 * 2 ^ l .head .variables) (length words)) ≡ true
     unfolding search-refusal later search-scratch-kept

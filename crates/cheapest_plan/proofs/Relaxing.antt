@@ -28,12 +28,12 @@ use Rattle.cheapest_plan.proofs.Searching.{kept, taken-before, queues}
 use Rattle.cheapest_plan.proofs.Comparing.{not-last, behind}
 use Rattle.cheapest_plan.proofs.Holding.{update, code-there, updated, other-state, Stands, is-unreached, is-queued, is-taken, stands-at, still-taken, holds-changed}
 
--- a list costs at most 65,535 for each step
+-- a list costs at most 131,070 for each step
 pub leads-cheap :
     {t : Task} {s p to : List ℕ} {c : ℕ}
-    → ((x : List ℕ) (o : ℕ) → charge t x o ≤ 65535)
+    → ((x : List ℕ) (o : ℕ) → charge t x o ≤ 131070)
     → Leads t s p to c
-    → c ≤ 65535 * length p
+    → c ≤ 131070 * length p
 leads-cheap cheap (stays e z) = omega arith
 leads-cheap cheap (goes {s = s} {numbers = p} {o = o} {d = d} a l z) = omega (arith, cheap s o, leads-cheap cheap l)
 
@@ -57,7 +57,7 @@ module _ {t : Task} {n : ℕ} (ground : Ground t n) {status : List ℕ → Statu
       no-later-short (searching .best s bits p c is (short .numbers) (short .cost) (short .leads)) (short .no-later)
       (omega (arith, short .steps, ground .states))
 
-  pub taken-cheap : (s : List ℕ) → Bits (length (t .initial)) s → (p : List ℕ) (c : ℕ) → status s ≡ taken p c → c ≤ 65535 * length p
+  pub taken-cheap : (s : List ℕ) → Bits (length (t .initial)) s → (p : List ℕ) (c : ℕ) → status s ≡ taken p c → c ≤ 131070 * length p
   taken-cheap s bits p c is = leads-cheap (ground .cheap) (searching .leads s bits p c (stands is))
 
   -- states that are taken have lists of their own
@@ -114,7 +114,7 @@ module _ {n : ℕ} {words : List ℕ} {to cost steps step : ℕ} {notes : List �
   few : length (h .p) < n
   few = taken-short (h .ground) (h .stepping .searching) (left-state h) place (h .p) (h .c) (h .stepping .is-taken)
 
-  pub bounded : (cost ≤ 67107841) × (steps ≤ 1024) × (0 < cost)
+  pub bounded : (cost ≤ 134215681) × (steps ≤ 1024) × (0 < cost)
   bounded =
       let c = taken-cheap (h .ground) (h .stepping .searching) (left-state h) place (h .p) (h .c) (h .stepping .is-taken) in
       let d = h .ground .cheap (left-state h) (h .k) in

@@ -4,7 +4,7 @@ ghost use Rattle.cheapest_plan.specs.Inner.Visits.{Steppable, StepsOn, E
 use crate::relax::SECOND;
 use crate::relax::relax;
 use state_codes::next_code;
-use task::operator_rows::cost_of;
+use task::operator_rows::charge_of;
 use task::operator_rows::effect_of;
 use task::operator_rows::precondition_of;
 
@@ -35,7 +35,7 @@ fn step_from(
     }
     let effect = effect_of(operators, o) as usize;
     let t = next_code(state, masks[effect]);
-    let charge = cost_of(operators, o) as u32;
+    let charge = charge_of(operators, o);
     let step = (256 * (state + 1) + o) as u32;
     relax(words, n, t, cost + charge, steps + 1, step, notes);
 }

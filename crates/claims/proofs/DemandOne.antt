@@ -4,7 +4,7 @@ use mathlib.Core.Path.{_≡_}
 use mathlib.Core.Logic.{_↔_}
 use mathlib.Core.List.{List, []}
 use lib.ListN.{length}
-use Rattle.task.specs.Table.{Lent, Task, task-of, row-part}
+use Rattle.task.specs.Table.{Lent, Task, task-of, part}
 use Rattle.task.specs.Check.{refusal}
 use Rattle.task.specs.Words.{lent-of}
 use Rattle.task.specs.Rules.{LentWords, LongEnough, Rules}
@@ -28,11 +28,12 @@ accepted-exactly-if l words = (
 pub every-task-accepted : (t : Task) → Rules t → LentWords (lent-of t) × (refusal (lent-of t) ≡ 0) × (task-of (lent-of t) ≡ t)
 every-task-accepted t rules = (words-lent t rules, lent-kept t (rules .checked), task-of-lent t)
 
--- A row on request, of any words and any number: the row's three words where it is wholly inside them, else the empty part.
+-- A row on request, of any width, words and number: the row's words where it is wholly inside them, else the empty part. So of formulas and effects
+-- (`row-part`) and of operators (`operator-part`).
 pub row-part-is-empty-or-the-row :
-    (words : List ℕ) (i : ℕ)
-    → (3 * i + 3 ≤ length words → IsRow words i (row-part words i)) × (length words < 3 * i + 3 → row-part words i ≡ [])
-row-part-is-empty-or-the-row words i = (
-  λ inside. record { three = row-length words i inside; word = row-word words i inside },
-  no-part words i,
+    (width : ℕ) (words : List ℕ) (i : ℕ)
+    → (width * i + width ≤ length words → IsRow width words i (part width words i)) × (length words < width * i + width → part width words i ≡ [])
+row-part-is-empty-or-the-row width words i = (
+  λ inside. record { size = row-length width words i inside; word = row-word width words i inside },
+  no-part width words i,
 )

@@ -22,6 +22,7 @@ use Rattle.printing.proofs.Apart.{lines-no-refusal}
 use Rattle.entry_tables.specs.Own.{own, compile-number}
 use Rattle.compile_text.specs.Text.{compiled-text-by, compiled-text, text-by, text-of}
 use Rattle.compile_text.proofs.TextWays.{cut-text}
+use Rattle.claims.proofs.FileNumbers.{told-some}
 use Rattle.claims.specs.Statements.{OfBytes, Compiles}
 use Rattle.claims.specs.Program.{PrintsCompiled, Prints, prints-task, prints-refusal}
 use Rattle.claims.proofs.DemandTwoFiles.{file-accepted-exactly-if}
@@ -111,7 +112,7 @@ prints-exactly input bytes = go (reading own input) refl
     go (accepted t) e =
         let a = file-accepted-exactly-if own input t bytes .0 e in
         of-task t (a .0) (a .1)
-    go (rejected n) e = prints-refusal n (λ z. omega (arith, rejected-by own input n e .0, z)) (prints-number input n e)
+    go (rejected n) e = prints-refusal n (λ z. omega (arith, told-some (rejected-by own input n e), z)) (prints-number input n e)
 
 -- So a task's lines are printed for the file of a task that compiles, and for no other input; and they are those of its compiled task.
 pub prints-for-no-other :
@@ -127,6 +128,6 @@ prints-for-no-other input t bytes e = go (prints-exactly input bytes)
 pub compiling-task-not-refused : (t : Task) (n : ℕ) → Compiles t → text-of (file-of t) ≡ refusal-line n → ⊥
 compiling-task-not-refused t n c e = lines-no-refusal (finished t) n (sym (prints-compiled-task t c) ∙ e)
 
--- What stands behind the first 43,342 bytes of an input changes nothing.
-pub long-input : (input : List ℕ) (n : ℕ) → 43342 ≤ n → text-of (take n input) ≡ text-of input
+-- What stands behind the first 43,854 bytes of an input changes nothing.
+pub long-input : (input : List ℕ) (n : ℕ) → 43854 ≤ n → text-of (take n input) ≡ text-of input
 long-input input n h = cut-text input n h

@@ -104,7 +104,7 @@ unfolding after-step costs
 costs-done none = omega arith
 costs-done {t} {p} (more {o = o} below e d) = omega (arith, costs-done d, charged t (p .state) o)
 
--- A run that is not stopped did every number, and its cost is the sum of the costs in the operators' rows.
+-- A run that is not stopped did every number, and its cost is the sum of the operators' charges.
 pub unstopped-run-does-all :
     (t : Task) (s numbers : List ℕ) → plain-run t s numbers .stop ≡ ended → plain-run t s numbers .steps ≡ length numbers
 unfolding answer

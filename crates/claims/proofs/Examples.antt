@@ -1,13 +1,13 @@
 -- The worked examples hold: one theorem computes the whole table.
 use mathlib.Core.Path.{_≡_, refl}
 use mathlib.Core.List.{map}
-use Rattle.task.specs.Bounded.{every, upto}
+use Rattle.task.specs.Bounded.{every, upto, or-else, first-number}
 use Rattle.task.specs.Table.{formula-kind, effect-kind, row-at, operator-at, task-of}
-use Rattle.task.specs.Check.{counts-kept, goal-kept, long-enough, initial-kept, twin-kept, twins-kept, formula-words-kept, formula-kept, formulas-kept, effect-words-kept, effect-kept, effects-kept, operator-kept, operators-kept, refusal}
+use Rattle.task.specs.Check.{counts-kept, goal-kept, long-enough, initial-kept, twin-kept, twins-kept, formula-words-kept, formula-kept, formulas-kept, effect-words-kept, effect-kept, effects-kept, operator-kept, percent-kept, operator-number, operators-number, refusal}
 use Rattle.task.specs.Words.{joined as words-joined, row-words, operator-row-words, words-of, operator-words, head-of, lent-of, padded}
 use Rattle.task.specs.Semantics.{holds, effcond, value-after, apply}
 use Rattle.task.specs.Tree.{formula-node, formula-within, formula-of, effect-node, effect-within, effect-of}
-use Rattle.task.specs.Run.{operator-of, effect-of-operator, goal-holds, applicable, charge, after-step, answer, run-on, plain-run}
+use Rattle.task.specs.Run.{operator-of, effect-of-operator, goal-holds, applicable, charge-of, charge, after-step, answer, run-on, plain-run}
 use Rattle.normal_form.specs.Builder.{give, bind, each, place, including, same-row, row, twin, variable-row, twin-row, start, choice, join-as, join, pair}
 use Rattle.normal_form.specs.Image.{literal, image}
 use Rattle.normal_form.specs.Conditions.{guarded, condition}
@@ -27,10 +27,10 @@ use Rattle.claims.specs.Examples.{outcome, Example, table}
 -- every entry of the table is told as it stands there
 pub table-holds : map (λ (x : Example). outcome (x .asked)) table ≡ map (λ (x : Example). x .told) table
 unfolding
-    outcome every upto formula-kind effect-kind row-at operator-at task-of counts-kept goal-kept long-enough initial-kept twin-kept twins-kept
-    formula-words-kept formula-kept formulas-kept effect-words-kept effect-kept effects-kept operator-kept operators-kept refusal
+    outcome every upto or-else first-number formula-kind effect-kind row-at operator-at task-of counts-kept goal-kept long-enough initial-kept twin-kept twins-kept
+    formula-words-kept formula-kept formulas-kept effect-words-kept effect-kept effects-kept operator-kept percent-kept operator-number operators-number refusal
     words-joined row-words operator-row-words words-of operator-words head-of lent-of holds effcond value-after apply formula-node formula-within
-    formula-of effect-node effect-within effect-of operator-of effect-of-operator goal-holds applicable charge after-step answer run-on
+    formula-of effect-node effect-within effect-of operator-of effect-of-operator goal-holds applicable charge-of charge after-step answer run-on
     plain-run give bind each place including same-row row twin variable-row twin-row start choice join-as join pair literal image
     guarded condition deletes-of changes-of built-operator parts rule with-twin rules-of rules atom-row rule-rows write-rule write-rules
     assemble-operator assemble unassembled built assembled twin-values finished

@@ -1,3 +1,4 @@
+pub mod FileNumbers
 pub mod DemandOne
 pub mod DemandTwoFiles
 pub mod DemandTwoRuns
@@ -12,4 +13,5 @@ pub mod Examples
 pub mod Numbers
 pub mod Refusals
 pub mod CheapestPlan
+pub mod OperatorRecords
 pub mod PlanEntry

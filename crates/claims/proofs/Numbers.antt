@@ -9,15 +9,16 @@ use mathlib.Core.List.{List, [], append-nil}
 use lib.ListN.{length, getD}
 use lib.Dec.{leb, ltb, eqb}
 use borrow.Author.Tests.{leb-true, le-leb, ltb-true, lt-ltb, eqb-true, eq-eqb, ne-eqb}
-use Rattle.task.specs.Bounded.{every}
-use Rattle.task.specs.Table.{Lent, Task, operator-at, task-of}
-use Rattle.task.specs.Check.{counts-kept, goal-kept, long-enough, initial-kept, twins-kept, formulas-kept, effects-kept, operators-kept, state-kept, sequence-kept, unless, refusal}
-use Rattle.task.specs.Rules.{Limits, Checked, Rules, LongEnough}
+use Rattle.task.specs.Bounded.{every, or-else, first-number}
+use Rattle.task.specs.Table.{Operator, Lent, Task, operator-at, task-of}
+use Rattle.task.specs.Check.{counts-kept, goal-kept, long-enough, initial-kept, twins-kept, formulas-kept, effects-kept, operator-kept, percent-kept, operator-number, operators-number, state-kept, sequence-kept, unless, refusal}
+use Rattle.task.specs.Rules.{OperatorRule, Limits, Checked, Rules, LongEnough}
 use Rattle.task.specs.Words.{head-of}
 use Rattle.task.specs.Semantics.{holds}
 use Rattle.task.specs.Tree.{formula-of}
 use Rattle.task.specs.Run.{operator-of, applicable, answer, run-on, Stop, ended, stopped, plain-run}
-use Rattle.task.proofs.Bounded.{and-left, and-right, and-both, every-at, every-from}
+use Rattle.task.proofs.Bounded.{and-left, and-right, and-both, every-at, every-from, first-at}
+use Rattle.task.proofs.RowRules.{operator-told}
 use Rattle.task.proofs.Held.{length-operators, operator-held}
 use Rattle.task.proofs.Kept.{kept-rules, rules-kept}
 use Rattle.task.proofs.Passed.{Passed, passed, not-refused, counts-tested, goal-tested, lengths-tested, initial-tested, twins-tested, formulas-tested, effects-tested, operators-tested}
@@ -37,8 +38,10 @@ use Rattle.compiled_file.specs.Filed.{filed-by, filed, compiled-file-by, compil
 use Rattle.compile_entry.specs.Entry.{compile-entry, compile-entry-by}
 use Rattle.run_entry.specs.Entry.{run-given, run-entry, run-entry-by}
 use Rattle.claims.specs.Statements.{OfBytes}
+use Rattle.claims.specs.Numbers.{PartsRule, broken-row, OperatorRows, first-broken, all-keep}
 use Rattle.claims.specs.Numbers.{Given, broken, keeps, no-rule-left, tables-numbers, write-number, compile-answer-number, end-number, write-numbers, compile-numbers, StateRule, state-numbers, step-numbers, run-numbers, FileNumber, not-read}
 use Rattle.claims.specs.Numbers.{was-read, read-entry-numbers, FileFits, compile-entry-numbers, SequenceRule, StopNumber, no-stop, stopped-by, run-entry-numbers, WriteKept, StateKept, StepKept, RunKept, ReadEntryKept, CompileEntryKept, RunEntryKept}
+use Rattle.claims.proofs.FileNumbers.{told-some}
 use Rattle.claims.proofs.DemandTwoFiles.{file-accepted-exactly-if, reading-what-was-written, no-file-begins-another}
 use Rattle.claims.proofs.DemandTwoProgram.{own-fits}
 use Rattle.claims.proofs.DemandTwoRuns.{stopped-where}
@@ -66,18 +69,77 @@ same a b = (eqb-true a b, eq-eqb a b)
 
 -- the tables' own numbers, and what stands behind them
 tables-first :
-    (a b c d e f g h : Bool) (m : ℕ)
-    → first-of (unless a 6 (unless b 7 (unless c 5 (unless d 8 (unless e 9 (unless f 10 (unless g 11 (unless h 12 0)))))))) m
-    ≡ unless a 6 (unless b 7 (unless c 5 (unless d 8 (unless e 9 (unless f 10 (unless g 11 (unless h 12 m)))))))
-tables-first false b c d e f g h m = refl
-tables-first true false c d e f g h m = refl
-tables-first true true false d e f g h m = refl
-tables-first true true true false e f g h m = refl
-tables-first true true true true false f g h m = refl
-tables-first true true true true true false g h m = refl
-tables-first true true true true true true false h m = refl
-tables-first true true true true true true true false m = refl
-tables-first true true true true true true true true m = refl
+    (a b c d e f g : Bool) (r m : ℕ)
+    → first-of (unless a 6 (unless b 7 (unless c 5 (unless d 8 (unless e 9 (unless f 10 (unless g 11 r))))))) m
+    ≡ unless a 6 (unless b 7 (unless c 5 (unless d 8 (unless e 9 (unless f 10 (unless g 11 (first-of r m)))))))
+tables-first false b c d e f g r m = refl
+tables-first true false c d e f g r m = refl
+tables-first true true false d e f g r m = refl
+tables-first true true true false e f g r m = refl
+tables-first true true true true false f g r m = refl
+tables-first true true true true true false g r m = refl
+tables-first true true true true true true false r m = refl
+tables-first true true true true true true true r m = refl
+
+parts-tested : (f e : ℕ) (o : Operator) → operator-kept f e o ≡ true ↔ PartsRule f e o
+unfolding operator-kept
+parts-tested f e o = (
+  λ q.
+      let a = ltb (o .precondition) f in
+      let b = ltb (o .effect) e in
+      record { formula = ltb-true (o .precondition) f (and-left a b q); changes = ltb-true (o .effect) e (and-right a b q) },
+  λ r. and-both (lt-ltb (o .precondition) f (r .formula)) (lt-ltb (o .effect) e (r .changes)),
+)
+
+percent-tested : (o : Operator) → percent-kept o ≡ true ↔ o .percent ≤ 200
+unfolding percent-kept
+percent-tested o = at-most (o .percent) 200
+
+-- the number of an operator row that breaks a rule
+row-broken : (f e : ℕ) (o : Operator) (n : ℕ) → operator-number f e o ≡ suc n → broken-row f e o (suc n)
+unfolding operator-number
+row-broken f e o n is = go (operator-kept f e o) refl (percent-kept o) refl is
+  where
+    go : (a : Bool) → operator-kept f e o ≡ a → (b : Bool) → percent-kept o ≡ b → unless a 12 (unless b 24 0) ≡ suc n → broken-row f e o (suc n)
+    go false p b q is = broken (λ r. false≢true (sym p ∙ parts-tested f e o .1 r)) (sym is)
+    go true p false q is = keeps (parts-tested f e o .0 p) (broken (λ r. false≢true (sym q ∙ percent-tested o .1 r)) (sym is))
+    go true p true q is = absurd (omega arith)
+
+-- where the first number that is not 0 stands
+record Found (n : ℕ) (f : ℕ → ℕ) (number : ℕ) : Type 0 where
+  at : ℕ
+  below : at < n
+  clear : (k : ℕ) → k < at → f k ≡ 0
+  here : f at ≡ number
+
+first-found : (n : ℕ) (f : ℕ → ℕ) (number : ℕ) → first-number n f ≡ suc number → Found n f (suc number)
+unfolding first-number or-else
+first-found zero f number e = absurd (omega arith)
+first-found (suc n) f number e = go (first-number n f) refl (first-found n f number) e
+  where
+    go :
+        (r : ℕ)
+        → first-number n f ≡ r
+        → (first-number n f ≡ suc number → Found n f (suc number))
+        → or-else r (f n) ≡ suc number
+        → Found (suc n) f (suc number)
+    go zero q before e = record { at = n; below = omega arith; clear = first-at n f q; here = e }
+    go (suc r) q before e =
+        let w = before (q ∙ e) in
+        record { at = w .at; below = omega (arith, w .below); clear = w .clear; here = w .here }
+
+-- the operators' number, and what stands behind it
+operators-given : (l : Lent) (behind : ℕ → Type 0) (m : ℕ) → (operators-number l ≡ 0 → behind m) → OperatorRows l behind (first-of (operators-number l) m)
+operators-given l behind m rest = go (operators-number l) refl
+  where
+    go : (r : ℕ) → operators-number l ≡ r → OperatorRows l behind (first-of r m)
+    go zero q = all-keep (operators-tested l .0 q) (rest q)
+    go (suc r) q =
+        let f = l .head .formulas in
+        let e = l .head .effects in
+        let w = first-found (l .head .operators) (λ i. operator-number f e (operator-at (l .operators) i)) r (unfold operators-number in q) in
+        first-broken (w .at) (w .below) (λ k b. operator-told f e (operator-at (l .operators) k) (w .clear k b))
+        (row-broken f e (operator-at (l .operators) (w .at)) r (w .here))
 
 module _ (l : Lent) where
   -- what stands behind them may rest on their passing
@@ -85,7 +147,7 @@ module _ (l : Lent) where
   unfolding refusal
   tables-given-passed behind m rest =
       rw (tables-first (counts-kept (l .head)) (goal-kept (l .head)) (long-enough l) (initial-kept l) (twins-kept l) (formulas-kept l)
-      (effects-kept l) (operators-kept l) m)
+      (effects-kept l) (operators-number l) m)
       (given (counts-kept (l .head)) 6 _ (counts-tested (l .head)) (λ r6.
       given (goal-kept (l .head)) 7 _ (goal-tested (l .head)) (λ r7.
       given (long-enough l) 5 _ (lengths-tested l) (λ r5.
@@ -93,7 +155,7 @@ module _ (l : Lent) where
       given (twins-kept l) 9 _ (twins-tested l) (λ r9.
       given (formulas-kept l) 10 _ (formulas-tested l) (λ r10.
       given (effects-kept l) 11 _ (effects-tested l) (λ r11.
-      given (operators-kept l) 12 _ (operators-tested l) (λ r12.
+      operators-given l behind m (λ r12.
       rest
       (record {
         counts = counts-tested (l .head) .1 r6;
@@ -103,7 +165,7 @@ module _ (l : Lent) where
         twins = twins-tested l .1 r9;
         formulas = formulas-tested l .1 r10;
         effects = effects-tested l .1 r11;
-        operators = operators-tested l .1 r12;
+        operators = r12;
       }))))))))))
 
   tables-given : (behind : ℕ → Type 0) (m : ℕ) → behind m → tables-numbers l behind (first-of (refusal l) m)
@@ -341,7 +403,7 @@ module _ (file : List ℕ) (bytes : OfBytes file) where
           was-read t (a .0) (a .1) (rw e (rest t (a .1)))
       go (rejected k) e =
           let n : number (reading own file) ≡ k = ap number e ∙ refusal-told k in
-          not-read (rw n e) (λ z. omega (arith, rejected-by own file k e .0, n, z))
+          not-read (rw n e) (λ z. omega (arith, told-some (rejected-by own file k e), n, z))
 
   pub read-entry-gives-the-first : (n : ℕ) → read-entry-numbers file n (read-entry file n .number)
   unfolding read-entry read-entry-by laid
@@ -381,6 +443,23 @@ pub behind-kept : {rule : Type 0} {k : ℕ} {behind : ℕ → Type 0} {n : ℕ} 
 behind-kept (broken d e) r = absurd (d r)
 behind-kept (keeps r b) q = b
 
+row-told : (f e : ℕ) (o : Operator) {n : ℕ} → broken-row f e o n → (n ≡ 0 → ⊥) × (OperatorRule f e o → ⊥)
+row-told f e o (broken r q) = (λ z. omega arith, λ rule. r (record { formula = rule .formula; changes = rule .changes }))
+row-told f e o (keeps p (broken r q)) = (λ z. omega arith, λ rule. r (rule .percent))
+row-told f e o (keeps p (keeps r q)) = absurd q
+
+abbrev RowRules : Lent → Type 0
+RowRules l = (i : ℕ) → i < l .head .operators → OperatorRule (l .head .formulas) (l .head .effects) (operator-at (l .operators) i)
+
+module _ (l : Lent) {behind : ℕ → Type 0} {n : ℕ} where
+  rows-passed : OperatorRows l behind n → n ≡ 0 → RowRules l × behind n
+  rows-passed (first-broken i h before b) z = absurd (row-told (l .head .formulas) (l .head .effects) (operator-at (l .operators) i) b .0 z)
+  rows-passed (all-keep r b) z = (r, b)
+
+  rows-behind : OperatorRows l behind n → RowRules l → behind n
+  rows-behind (first-broken i h before b) r = absurd (row-told (l .head .formulas) (l .head .effects) (operator-at (l .operators) i) b .1 (r i h))
+  rows-behind (all-keep r b) q = b
+
 module _ (l : Lent) {behind : ℕ → Type 0} {n : ℕ} (g : tables-numbers l behind n) where
   pub tables-passed : n ≡ 0 → (LongEnough l × Checked (task-of l)) × behind n
   tables-passed z =
@@ -391,7 +470,7 @@ module _ (l : Lent) {behind : ℕ → Type 0} {n : ℕ} (g : tables-numbers l be
       let g9 = passed-on 8 (g8 .1) z in
       let g10 = passed-on 9 (g9 .1) z in
       let g11 = passed-on 10 (g10 .1) z in
-      let g12 = passed-on 11 (g11 .1) z in
+      let g12 = rows-passed l (g11 .1) z in
       let p : Passed l =
       record {
         counts = counts-tested (l .head) .1 (g6 .0);
@@ -409,7 +488,7 @@ module _ (l : Lent) {behind : ℕ → Type 0} {n : ℕ} (g : tables-numbers l be
   pub tables-behind : LongEnough l × Checked (task-of l) → behind n
   tables-behind k =
       let p = passed l (rules-kept l (k .0) (k .1)) in
-      behind-kept
+      rows-behind l
       (behind-kept
       (behind-kept
       (behind-kept

@@ -29,6 +29,7 @@ use Rattle.layouts.proofs.Sizes.{length-word-bytes}
 use Rattle.run_entry.specs.Entry.{run-given, run-entry-by, run-entry}
 use Rattle.plan_entry.specs.Entry.{PlanEntry, nothing-planned, plan-bytes, plan-laid, plan-picked, plan-number, plan-given, plan-entry-by, plan-entry}
 use Rattle.plan_entry.proofs.PlanBytes.{numbers-of-words}
+use Rattle.claims.proofs.FileNumbers.{told-some}
 use Rattle.claims.specs.Statements.{OfBytes, Compiles}
 use Rattle.claims.specs.Numbers.{Given, broken, keeps, no-rule-left, not-read, was-read, SequenceRule}
 use Rattle.claims.specs.CheapestPlan.{HasPlan, PlanBytesFit, plan-entry-numbers, PlanEntryKept, PlanForC, PlanEntryLeaves, PlanRuns}
@@ -220,7 +221,7 @@ module _ (file : List ℕ) (bytes : OfBytes file) (o r : ℕ) where
 
       go : (x : Verdict) → reading own file ≡ x → PlanEntryLeaves file o r (plan-entry-by x o r)
       go (accepted t) q = by-number t q (leb (length (t .initial)) 10) (leb 12 r) refl refl
-      go (rejected k) q = no-answer k (rejected-by own file k q .0)
+      go (rejected k) q = no-answer k (told-some (rejected-by own file k q))
 
   -- The numbers that were given, run from the initial state on the same file, are a plan, and running tells the steps and the cost that planning told.
   pub given-plan-runs :

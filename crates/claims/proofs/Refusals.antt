@@ -37,6 +37,7 @@ use Rattle.read_entry.specs.Entry.{read-entry-by, read-entry}
 use Rattle.run_entry.specs.Entry.{run-given, run-entry-by, run-entry}
 use Rattle.compiled_file.specs.Filed.{no-file, filed-by, filed, compiled-file-by, compiled-file}
 use Rattle.compile_entry.specs.Entry.{compile-entry-by, compile-entry}
+use Rattle.claims.proofs.FileNumbers.{told-some, told-apart}
 use Rattle.claims.specs.Statements.{OfBytes}
 use Rattle.claims.proofs.DemandTwoRuns.{stopped-where}
 use Rattle.claims.specs.Zero.{AllZero, ZeroPast, ReadLeaves, WriteLeaves, CompileLeaves, StepLeaves, RunLeaves, ReadEntryLeaves, CompileEntryLeaves, RunNumber, not-stopped, stopped-outside, stopped-not-applicable, RunEntryLeaves}
@@ -258,7 +259,7 @@ read-entry-leaves file n = go (reading own file) refl
     go (rejected k) q =
         record {
           after-refusal = λ d. all-zero n;
-          after-success = λ e. absurd (omega (arith, rejected-by own file k q));
+          after-success = λ e. absurd (omega (arith, told-some (rejected-by own file k q)));
         }
 
 -- pnf_compile: a number other than 0 leaves both outputs all 0; with 0 a task was read, and past its compiled task's file, and past the 4 bytes of
@@ -303,7 +304,7 @@ compile-entry-leaves file o r = go (reading own file) refl
 
     go : (x : Reading) → reading own file ≡ x → CompileEntryLeaves file o r (compile-entry-by x o r)
     go (accepted t) q = by-number t q (compile-number t)
-    go (rejected k) q = no-answer k (rejected-by own file k q .0)
+    go (rejected k) q = no-answer k (told-some (rejected-by own file k q))
 
 -- pnf_run: a number other than 0, 17 and 18 leaves the state as it was and the result all 0; with these a run was made, and past its 16 bytes all is 0.
 pub run-entry-leaves : (file s q : List ℕ) (n : ℕ) → RunEntryLeaves s n (run-entry file s q n)
@@ -352,4 +353,4 @@ run-entry-leaves file s q n = go (reading own file) refl
     go (accepted t) e = by-number t (run-number (length (t .initial)) s q n) refl
     go (rejected k) e =
         let b = rejected-by own file k e in
-        no-answer k (λ m. omega (arith, between k (b .0) m))
+        no-answer k (λ m. let r = between k (told-some b) m in told-apart b (omega (arith, r)) (omega (arith, r)))

@@ -73,14 +73,14 @@ not-in-row-three a = task-tables (0 ∷ 0 ∷ 0 ∷ []) (a-row 2 0 0 ∷ a-row 2
 -- set and clear v0 together: effects set v0; clear v0; both
 abbrev pub set-and-clear : Lent
 set-and-clear =
-    task-tables (0 ∷ []) (a-row 1 0 0 ∷ []) (a-row 1 0 0 ∷ a-row 2 0 0 ∷ a-row 3 0 1 ∷ []) (operator 0 2 0 ∷ []) 0
+    task-tables (0 ∷ []) (a-row 1 0 0 ∷ []) (a-row 1 0 0 ∷ a-row 2 0 0 ∷ a-row 3 0 1 ∷ []) (operator 0 2 0 100 ∷ []) 0
 
 -- v0 sets v1, v1 always cleared: formulas v0; true. Effects set v1; 0 under v0; clear v1; both 1 and 2
 abbrev pub set-overrules : Lent
 set-overrules =
     task-tables (0 ∷ 0 ∷ []) (a-row 2 0 0 ∷ a-row 1 0 0 ∷ [])
     (a-row 1 1 0 ∷ a-row 4 0 0 ∷ a-row 2 1 0 ∷ a-row 3 1 2 ∷ [])
-    (operator 1 3 5 ∷ [])
+    (operator 1 3 5 100 ∷ [])
     0
 
 -- set v0 under not v0, clear v0 under v0: formulas v0; not 0; true. Effects set v0; 0 under 1; clear v0; 2 under 0; both 1 and 3
@@ -88,20 +88,24 @@ abbrev pub flip : Lent
 flip =
     task-tables (0 ∷ []) (a-row 2 0 0 ∷ a-row 3 0 0 ∷ a-row 1 0 0 ∷ [])
     (a-row 1 0 0 ∷ a-row 4 1 0 ∷ a-row 2 0 0 ∷ a-row 4 0 2 ∷ a-row 3 1 3 ∷ [])
-    (operator 2 4 0 ∷ [])
+    (operator 2 4 0 100 ∷ [])
     2
 
 -- a formula over an empty effect: formulas v0; not 0; true. Effects empty; 0 under 1
 abbrev pub over-empty : Lent
 over-empty =
-    task-tables (0 ∷ []) (a-row 2 0 0 ∷ a-row 3 0 0 ∷ a-row 1 0 0 ∷ []) (a-row 0 0 0 ∷ a-row 4 1 0 ∷ []) (operator 2 1 0 ∷ []) 2
+    task-tables (0 ∷ []) (a-row 2 0 0 ∷ a-row 3 0 0 ∷ a-row 1 0 0 ∷ []) (a-row 0 0 0 ∷ a-row 4 1 0 ∷ []) (operator 2 1 0 100 ∷ []) 2
 
--- the whole example: formulas v0; v1; not 0; not 1; 0 and 3. Effects set v0; clear v1; 1 under 1; both 0 and 2. Operator (2, 3, cost 3). Goal 4
+-- one variable, formula true, effect set v0, and these operators (02, K2)
+abbrev pub with-operators : List Operator → Lent
+with-operators operators = task-tables (0 ∷ []) (a-row 1 0 0 ∷ []) (a-row 1 0 0 ∷ []) operators 0
+
+-- the whole example: formulas v0; v1; not 0; not 1; 0 and 3. Effects set v0; clear v1; 1 under 1; both 0 and 2. Operator (2, 3, cost 3, percent 100). Goal 4
 abbrev pub whole : Lent
 whole =
     task-tables (0 ∷ 1 ∷ []) (a-row 2 0 0 ∷ a-row 2 1 0 ∷ a-row 3 0 0 ∷ a-row 3 1 0 ∷ a-row 4 0 3 ∷ [])
     (a-row 1 0 0 ∷ a-row 2 1 0 ∷ a-row 4 1 1 ∷ a-row 3 0 2 ∷ [])
-    (operator 2 3 3 ∷ [])
+    (operator 2 3 3 100 ∷ [])
     4
 
 -- its file
@@ -145,13 +149,13 @@ whole-compiled =
           ∷ a-row 4 3 9
           ∷ a-row 3 8 10
           ∷ [];
-      operators = operator 2 11 3 ∷ [];
+      operators = operator 2 11 3 100 ∷ [];
       goal = 6;
     }
 
 -- room that the whole example's compiled task just fills
 abbrev pub enough-room : Room
-enough-room = record { initial = 4; twins = 2; formulas = 21; effects = 36; operators = 3; scratch = 18 }
+enough-room = record { initial = 4; twins = 2; formulas = 21; effects = 36; operators = 4; scratch = 18 }
 
 abbrev pub table : List Example
 table =
@@ -166,6 +170,18 @@ table =
     -- row 3 "not 3" gives 10, "not 2" passes
     ∷ record { asked = check (not-in-row-three 3); told = told-number 10 }
     ∷ record { asked = check (not-in-row-three 2); told = told-number 0 }
+    -- percent 200 passes, 201 gives 24; 12 comes before 24 in a row, and a row before the next (02, K2)
+    ∷ record { asked = check (with-operators (operator 0 0 1 200 ∷ [])); told = told-number 0 }
+    ∷ record { asked = check (with-operators (operator 0 0 1 201 ∷ [])); told = told-number 24 }
+    ∷ record { asked = check (with-operators (operator 0 1 1 201 ∷ [])); told = told-number 12 }
+    ∷ record { asked = check (with-operators (operator 0 0 1 201 ∷ operator 0 1 1 0 ∷ [])); told = told-number 24 }
+    -- cost 1 at 50 percent is charged 1, at 49 nothing; cost 9 at 0 nothing, cost 65,535 at 200 percent 131,070
+    ∷ record {
+      asked =
+          run (with-operators (operator 0 0 1 50 ∷ operator 0 0 1 49 ∷ operator 0 0 9 0 ∷ operator 0 0 65535 200 ∷ []))
+          (0 ∷ []) (0 ∷ 1 ∷ 2 ∷ 3 ∷ []) (replicate 2 0);
+      told = answers (record { steps = 4; cost = 131071; goal = true; end = Ended true }) (1 ∷ []);
+    }
     -- O 0, goal true: the empty run is a plan (it ended with the goal true) of cost 0
     ∷ record {
       asked = run (variables 0) [] [] (0 ∷ []);
@@ -190,7 +206,7 @@ table =
             originals = [];
             formulas = a-row 0 0 0 ∷ a-row 1 0 0 ∷ [];
             effects = a-row 0 0 0 ∷ a-row 1 0 0 ∷ a-row 4 1 1 ∷ [];
-            operators = operator 1 2 0 ∷ [];
+            operators = operator 1 2 0 100 ∷ [];
             goal = 1;
           });
     }
@@ -204,7 +220,7 @@ table =
             originals = 0 ∷ [];
             formulas = a-row 0 0 0 ∷ a-row 1 0 0 ∷ a-row 2 0 0 ∷ a-row 2 2 0 ∷ [];
             effects = a-row 0 0 0 ∷ a-row 1 1 0 ∷ a-row 4 2 1 ∷ a-row 2 1 0 ∷ a-row 4 3 3 ∷ a-row 3 2 4 ∷ [];
-            operators = operator 1 5 5 ∷ [];
+            operators = operator 1 5 5 100 ∷ [];
             goal = 2;
           });
     }
@@ -231,7 +247,7 @@ table =
                 ∷ a-row 4 4 9
                 ∷ a-row 3 8 10
                 ∷ [];
-            operators = operator 1 11 0 ∷ [];
+            operators = operator 1 11 0 100 ∷ [];
             goal = 1;
           });
     }
@@ -245,7 +261,7 @@ table =
             originals = [];
             formulas = a-row 0 0 0 ∷ a-row 1 0 0 ∷ [];
             effects = a-row 0 0 0 ∷ [];
-            operators = operator 1 0 0 ∷ [];
+            operators = operator 1 0 0 100 ∷ [];
             goal = 1;
           });
     }
@@ -256,6 +272,6 @@ table =
       told =
           printed
           (bytes
-          "t 4 2 7 12 1 6\ni 0110\nw 2 0\nw 3 1\nf 0 0 0 0\nf 1 1 0 0\nf 2 2 2 0\nf 3 2 1 0\nf 4 2 0 0\nf 5 2 3 0\nf 6 4 4 5\ne 0 0 0 0\ne 1 1 0 0\ne 2 4 1 1\ne 3 2 2 0\ne 4 4 1 3\ne 5 3 2 4\ne 6 2 1 0\ne 7 4 3 6\ne 8 3 5 7\ne 9 1 3 0\ne 10 4 3 9\ne 11 3 8 10\no 0 2 11 3\n");
+          "t 4 2 7 12 1 6\ni 0110\nw 2 0\nw 3 1\nf 0 0 0 0\nf 1 1 0 0\nf 2 2 2 0\nf 3 2 1 0\nf 4 2 0 0\nf 5 2 3 0\nf 6 4 4 5\ne 0 0 0 0\ne 1 1 0 0\ne 2 4 1 1\ne 3 2 2 0\ne 4 4 1 3\ne 5 3 2 4\ne 6 2 1 0\ne 7 4 3 6\ne 8 3 5 7\ne 9 1 3 0\ne 10 4 3 9\ne 11 3 8 10\no 0 2 11 3 100\n");
     }
     ∷ []

@@ -7,3 +7,4 @@ pub mod Order
 pub mod Files
 pub mod Program
 pub mod CheapestPlan
+pub mod OperatorRecords

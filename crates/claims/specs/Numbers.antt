@@ -5,7 +5,7 @@ use mathlib.Core.Path.{_≡_}
 use mathlib.Core.Bool.{true}
 use mathlib.Core.List.{List}
 use lib.ListN.{length, getD}
-use Rattle.task.specs.Table.{Lent, Task, row-at, operator-at, task-of, formula-kind, effect-kind}
+use Rattle.task.specs.Table.{Operator, Lent, Task, row-at, operator-at, task-of, formula-kind, effect-kind}
 use Rattle.task.specs.Rules.{FormulaRule, EffectRule, OperatorRule, Counts, TwinRule, Limits, Checked, Rules, LongEnough}
 use Rattle.task.specs.Semantics.{holds}
 use Rattle.task.specs.Tree.{formula-of}
@@ -30,6 +30,27 @@ pub data Given (rule : Type 0) (number : ℕ) (behind : ℕ → Type 0) (n : ℕ
 abbrev pub no-rule-left : ℕ → Type 0
 no-rule-left n = n ≡ 0
 
+-- An operator row has two places (02, K2): 12, its precondition and its effect are rows of their tables; 24, its percent is at most 200.
+pub record PartsRule (f e : ℕ) (o : Operator) : Type 0 where
+  pub formula : o .precondition < f
+  pub changes : o .effect < e
+
+abbrev pub broken-row : (f e : ℕ) → Operator → ℕ → Type 0
+broken-row f e o = Given (PartsRule f e o) 12 (Given (o .percent ≤ 200) 24 (λ n. ⊥))
+
+-- Operator rows, row by row: the first that breaks a rule tells the number, so 24 in row 0 comes before 12 in row 1; or all keep theirs.
+pub data OperatorRows (l : Lent) (behind : ℕ → Type 0) (n : ℕ) : Type 0 where
+  first-broken :
+      (i : ℕ)
+      → i < l .head .operators
+      → ((k : ℕ) → k < i → OperatorRule (l .head .formulas) (l .head .effects) (operator-at (l .operators) k))
+      → broken-row (l .head .formulas) (l .head .effects) (operator-at (l .operators) i) n
+      → OperatorRows l behind n
+  all-keep :
+      ((i : ℕ) → i < l .head .operators → OperatorRule (l .head .formulas) (l .head .effects) (operator-at (l .operators) i))
+      → behind n
+      → OperatorRows l behind n
+
 -- Head, initial bytes, twin row, formula row, effect row, operator row
 abbrev pub tables-numbers : Lent → (behind : ℕ → Type 0) → ℕ → Type 0
 tables-numbers l behind =
@@ -45,7 +66,7 @@ tables-numbers l behind =
     (Given
     ((i : ℕ) → i < h .effects → let r = row-at (l .effects) i in EffectRule (h .variables) (h .formulas) i (effect-kind (r .kind)) (r .a) (r .b))
     11
-    (Given ((i : ℕ) → i < h .operators → OperatorRule (h .formulas) (h .effects) (operator-at (l .operators) i)) 12 behind)))))))
+    (OperatorRows l behind)))))))
 
 -- the number of an answer, 0 where the call was not refused
 abbrev pub write-number : WriteAnswer → ℕ

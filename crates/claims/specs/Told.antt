@@ -10,20 +10,20 @@ use Rattle.task.specs.Table.{Task}
 use Rattle.task.specs.Rules.{no-operator}
 use Rattle.task.specs.Semantics.{Effect, sets, clears, holds, effcond}
 use Rattle.task.specs.Tree.{formula-of, effect-of}
-use Rattle.task.specs.Run.{ended, plain-run}
+use Rattle.task.specs.Run.{ended, charge-of, plain-run}
 use Rattle.stepper.specs.Stepped.{Stepped}
 use Rattle.plan.specs.declared.outcome.End.the-variants.{Stopped}
 use Rattle.plan.specs.Outcome.{Ran}
 
--- "A row is three words": row i of a table of words.
-pub record IsRow (words : List ℕ) (i : ℕ) (part : List ℕ) : Type 0 where
-  pub three : length part ≡ 3
-  pub word : (k : ℕ) → k < 3 → getD part k 0 ≡ getD words (3 * i + k) 0
+-- "A row is three words", an operator's four (02, K2): row i of a table of words, so wide.
+pub record IsRow (width : ℕ) (words : List ℕ) (i : ℕ) (part : List ℕ) : Type 0 where
+  pub size : length part ≡ width
+  pub word : (k : ℕ) → k < width → getD part k 0 ≡ getD words (width * i + k) 0
 
--- "The cost counts every step done": the sum of the costs in the operators' rows.
+-- "The cost counts every step done": the sum of the charges of the operators' rows (02, K2: "the charge is meant").
 unfoldable pub costs : Task → List ℕ → ℕ
 costs t [] = 0
-costs t (o ∷ rest) = getD (t .operators) o no-operator .cost + costs t rest
+costs t (o ∷ rest) = charge-of (getD (t .operators) o no-operator) + costs t rest
 
 -- operator o's precondition holds in state s, and the goal does
 abbrev pub permitted : Task → List ℕ → ℕ → Bool

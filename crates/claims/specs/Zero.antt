@@ -35,7 +35,7 @@ pub record ZeroPast (k n : ℕ) (out : List ℕ) : Type 0 where
   pub inside : k ≤ n
   pub zeros : (i : ℕ) → k ≤ i → i < n → getD out i 0 ≡ 0
 
--- read: V bytes, W originals and three words a row
+-- read: V bytes, W originals and three words a row, an operator's four
 pub record NoTaskRead (l : Lengths) (o : ReadOutcome) : Type 0 where
   pub initial : AllZero (l .initial) (o .initial)
   pub twins : AllZero (l .twins) (o .twins)
@@ -101,7 +101,7 @@ pub record RunLeaves (before lent : List ℕ) (o : Ran) : Type 0 where
       → NothingDone before (o .state) (o .answer .steps) (o .answer .cost) (o .answer .goal)
   pub scratch : AllZero (length lent) (o .scratch)
 
--- pnf_read: a task was read, and its layout is six head words, V bytes, W originals and three words a row, two bytes a word
+-- pnf_read: a task was read, and its layout is six head words, V bytes, W originals and three words a row, an operator's four, two bytes a word
 pub record LayoutGiven (file : List ℕ) (n : ℕ) (o : Laid) : Type 0 where
   pub task : Task
   pub read : reading own file ≡ accepted task
@@ -112,7 +112,7 @@ pub record LayoutGiven (file : List ℕ) (n : ℕ) (o : Laid) : Type 0 where
       + 2 * length (task .originals)
       + 6 * length (task .formulas)
       + 6 * length (task .effects)
-      + 6 * length (task .operators))
+      + 2 * (operator-width * length (task .operators)))
       n
       (o .bytes)
 

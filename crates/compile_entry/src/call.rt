@@ -59,7 +59,7 @@ fn compile_from_small(file: &[u8], out: &mut [u8], result: &mut [u8]) -> u32
     )
 }
 
-// The source in tables with room for every task: 50 KiB.
+// The source in tables with room for every task: 51 KiB.
 fn compile_from_full(file: &[u8], out: &mut [u8], result: &mut [u8]) -> u32
     ensures { λ r. ⌜ CompileGives (compile-entry (now (file .entry)) (length (now (out .entry))) (length (now (result .entry)))) r (now (out .exit)) (now (result .exit)) ⌝ }
 {

@@ -1,4 +1,4 @@
--- Reading looks at 43,341 bytes at most, the length of the longest file: an input that is cut behind them gets the number of the whole.
+-- Reading looks at 43,853 bytes at most, and no file is longer: an input that is cut behind them gets the number of the whole.
 -- Assumes nothing.
 use Prim.Native.Nat.{ℕ, _+_, _-_, _*_, _≤_}
 use native.Mathlib.Nat.{min-eq-left}
@@ -13,13 +13,13 @@ use borrow.Author.Tests.{leb-true, leb-false}
 use Rattle.task.specs.declared.Head.{Head}
 use Rattle.task.specs.Bounded.{upto}
 use Rattle.task.specs.Table.{Row, Operator}
-use Rattle.task.specs.Check.{counts-kept, goal-kept, twin-kept, formula-kept, effect-kept, operator-kept}
+use Rattle.task.specs.Check.{counts-kept, goal-kept, twin-kept, formula-kept, effect-kept, operator-number}
 use Rattle.task.specs.Rules.{Counts}
 use Rattle.task.proofs.Passed.{counts-tested}
-use Rattle.file_format.specs.Bytes.{bytes-for}
+use Rattle.file_format.specs.Bytes.{head-defaults, row-defaults, operator-defaults, bytes-for}
 use Rattle.file_format.specs.Parse.{Parsed, next, kept, byte-read, word-read, mapped-read, table-read}
 use Rattle.file_format.specs.Reading.{Lengths, room, head-from, head-clear, head-read, head-kept, bit-of, spare-clear, initial-read, twin-read, row-clear}
-use Rattle.file_format.specs.Reading.{row-from, row-read, formula-read, effect-read, operator-clear, operator-from, operator-fields-read, operator-read, tables-read, task-read, at-end, reading}
+use Rattle.file_format.specs.Reading.{row-from, row-read, formula-read, effect-read, operator-clear, operator-from, operator-right, operator-fields-read, operator-read, tables-read, task-read, at-end, reading}
 use Rattle.compile_text.proofs.Looks.{Same, both-refused, both-parsed, Looks, wider, pure-looks, kept-looks, next-looks, byte-looks, word-looks, mapped-looks, table-looks}
 
 initial-looks : (v : ℕ) → Looks (bytes-for v * 1 + 0) (initial-read v)
@@ -37,7 +37,7 @@ twin-looks bound k done =
 
 row-looks : Looks 5 row-read
 unfolding row-read
-row-looks = mapped-looks 2 row-clear row-from
+row-looks = mapped-looks row-defaults row-clear row-from
 
 formula-looks : (v i : ℕ) (done : List Row) → Looks 5 (formula-read v i done)
 unfolding formula-read
@@ -49,17 +49,17 @@ unfolding effect-read
 effect-looks v f i done =
     next-looks row-read (λ r. kept (effect-kept v f i r) 11 r) 5 0 row-looks (λ r. kept-looks (effect-kept v f i r) 11 r)
 
-operator-looks : (f e i : ℕ) (done : List Operator) → Looks 7 (operator-read f e i done)
+operator-looks : (f e i : ℕ) (done : List Operator) → Looks 9 (operator-read f e i done)
 unfolding operator-read operator-fields-read
 operator-looks f e i done =
-    next-looks (mapped-read 3 operator-clear operator-from) (λ o. kept (operator-kept f e o) 12 o) 7 0
-    (mapped-looks 3 operator-clear operator-from)
-    (λ o. kept-looks (operator-kept f e o) 12 o)
+    next-looks (mapped-read operator-defaults operator-clear operator-from) (λ o. kept (operator-right f e o) (operator-number f e o) o) 9 0
+    (mapped-looks operator-defaults operator-clear operator-from)
+    (λ o. kept-looks (operator-right f e o) (operator-number f e o) o)
 
 -- what the tables behind a head take
 tables-most : Head → ℕ
 tables-most h =
-    bytes-for (h .variables) * 1 + 0 + (h .twins * 2 + (h .formulas * 5 + (h .effects * 5 + (h .operators * 7 + 0))))
+    bytes-for (h .variables) * 1 + 0 + (h .twins * 2 + (h .formulas * 5 + (h .effects * 5 + (h .operators * 9 + 0))))
 
 tables-looks : (h : Head) → Looks (tables-most h) (tables-read h)
 unfolding tables-read tables-most
@@ -71,12 +71,12 @@ tables-looks h =
     (table-looks 5 (formula-read (h .variables)) (formula-looks (h .variables)) (h .formulas))
     (λ f. next-looks (table-read (effect-read (h .variables) (h .formulas)) (h .effects)) _ (h .effects * 5) _
     (table-looks 5 (effect-read (h .variables) (h .formulas)) (effect-looks (h .variables) (h .formulas)) (h .effects))
-    (λ e. next-looks (table-read (operator-read (h .formulas) (h .effects)) (h .operators)) _ (h .operators * 7) 0
-    (table-looks 7 (operator-read (h .formulas) (h .effects)) (operator-looks (h .formulas) (h .effects)) (h .operators))
+    (λ e. next-looks (table-read (operator-read (h .formulas) (h .effects)) (h .operators)) _ (h .operators * 9) 0
+    (table-looks 9 (operator-read (h .formulas) (h .effects)) (operator-looks (h .formulas) (h .effects)) (h .operators))
     (λ o. pure-looks _)))))
 
 -- 64 bytes of values, 256 originals, 4,096 formulas, 4,096 effects and 256 operators
-tables-limit : (h : Head) → Counts h → tables-most h ≤ 43328
+tables-limit : (h : Head) → Counts h → tables-most h ≤ 43840
 unfolding tables-most bytes-for
 tables-limit h c = omega (arith, c .variables, c .twins, c .formulas, c .effects, c .operators)
 
@@ -92,23 +92,23 @@ module _ {A B : Type 0} (m : ℕ) (f : A → List ℕ → Parsed B) where
   after-kept true n x g looks = looks refl
   after-kept false n x g looks = λ front more long. both-refused n refl refl
 
-behind-head : (l : Lengths) (h : Head) → Looks 43328 (λ rest. next (head-kept l h rest) tables-read)
+behind-head : (l : Lengths) (h : Head) → Looks 43840 (λ rest. next (head-kept l h rest) tables-read)
 unfolding head-kept
 behind-head l h =
-    after-kept 43328 tables-read (counts-kept h) 6 h _
-    (λ counts. after-kept 43328 tables-read (goal-kept h) 7 h _
-    (λ goal. after-last 43328 tables-read (room l h) 5 h
-    (λ roomy. wider (tables-most h) 43328 (tables-limit h (counts-tested h .0 counts)) (tables-looks h))))
+    after-kept 43840 tables-read (counts-kept h) 6 h _
+    (λ counts. after-kept 43840 tables-read (goal-kept h) 7 h _
+    (λ goal. after-last 43840 tables-read (room l h) 5 h
+    (λ roomy. wider (tables-most h) 43840 (tables-limit h (counts-tested h .0 counts)) (tables-looks h))))
 
-pub task-looks : (l : Lengths) → Looks 43341 (task-read l)
+pub task-looks : (l : Lengths) → Looks 43853 (task-read l)
 unfolding task-read head-read
 task-looks l =
-    next-looks (mapped-read 6 head-clear head-from) (λ h rest. next (head-kept l h rest) tables-read) 13 43328
-    (mapped-looks 6 head-clear head-from)
+    next-looks (mapped-read head-defaults head-clear head-from) (λ h rest. next (head-kept l h rest) tables-read) 13 43840
+    (mapped-looks head-defaults head-clear head-from)
     (behind-head l)
 
-module _ (l : Lengths) (front more : List ℕ) (long : 43342 ≤ length front) where
-  ends-alike : Same (task-read l) 43341 front more → at-end (task-read l front) ≡ at-end (task-read l (front ++ more))
+module _ (l : Lengths) (front more : List ℕ) (long : 43854 ≤ length front) where
+  ends-alike : Same (task-read l) 43853 front more → at-end (task-read l front) ≡ at-end (task-read l (front ++ more))
   unfolding at-end
   ends-alike (both-refused n e f) = rw (e, f)
   ends-alike (both-parsed t [] e f b) = absurd (omega arith)
@@ -118,8 +118,8 @@ module _ (l : Lengths) (front more : List ℕ) (long : 43342 ≤ length front) w
   unfolding reading
   longer-read = ends-alike (task-looks l front more (omega arith))
 
--- the bytes behind 43,342 change nothing
-pub cut-input : (l : Lengths) (file : List ℕ) (n : ℕ) → 43342 ≤ n → reading l (take n file) ≡ reading l file
+-- the bytes behind 43,854 change nothing
+pub cut-input : (l : Lengths) (file : List ℕ) (n : ℕ) → 43854 ≤ n → reading l (take n file) ≡ reading l file
 cut-input l file n h = go (leb n (length file)) refl
   where
     go : (b : Bool) → leb n (length file) ≡ b → reading l (take n file) ≡ reading l file

@@ -3,10 +3,10 @@ use Prim.Native.Nat.{ℕ, zero, suc, _+_, _*_, _/_, _%_, _≤_}
 use native.Mathlib.Nat.{suc-mul}
 use native.Mathlib.Omega.{arith}
 use mathlib.Core.Path.{_≡_, refl, _∙_}
-use mathlib.Core.Bool.{Bool, true, false}
+use mathlib.Core.Bool.{Bool, true, false, not}
 use mathlib.Core.List.{List, [], _∷_, _++_}
 use lib.ListN.{length}
-use lib.Dec.{ltb}
+use lib.Dec.{eqb}
 use Rattle.file_format.specs.Parse.{Parsed, parsed, unparsed, next, kept, byte-read, word-read, field-read, fields-read, mapped-read, table-read}
 use Rattle.file_format.proofs.Parse.{next-to, next-refused}
 
@@ -35,7 +35,13 @@ module _ {A : Type 0} where
   kept-looks false n x front more long = both-refused n refl refl
 
 module _ {A B : Type 0} (p : List ℕ → Parsed A) (f : A → List ℕ → Parsed B) (k m : ℕ) where
-  second : (front more : List ℕ) (x : A) (rest : List ℕ) → p front ≡ parsed x rest → p (front ++ more) ≡ parsed x (rest ++ more) → length front ≤ k + length rest → Same (f x) m rest more → Same (λ bytes. next (p bytes) f) (k + m) front more
+  second :
+      (front more : List ℕ) (x : A) (rest : List ℕ)
+      → p front ≡ parsed x rest
+      → p (front ++ more) ≡ parsed x (rest ++ more)
+      → length front ≤ k + length rest
+      → Same (f x) m rest more
+      → Same (λ bytes. next (p bytes) f) (k + m) front more
   second front more x rest e g b (both-refused n q r) = both-refused n (next-to f e ∙ q) (next-to f g ∙ r)
   second front more x rest e g b (both-parsed y last q r c) = both-parsed y last (next-to f e ∙ q) (next-to f g ∙ r) (omega arith)
 
@@ -57,27 +63,28 @@ word-looks =
     next-looks byte-read (λ low rest. next (byte-read rest) (λ high. parsed (low + 256 * high))) 1 1 byte-looks
     (λ low. next-looks byte-read (λ high. parsed (low + 256 * high)) 1 0 byte-looks (λ high. pure-looks (low + 256 * high)))
 
-pub field-looks : (bit : ℕ) → Looks 2 (field-read bit)
+pub field-looks : (default bit : ℕ) → Looks 2 (field-read default bit)
 unfolding field-read
-field-looks zero = wider 0 2 (omega arith) (pure-looks 0)
-field-looks (suc bit) = next-looks word-read (λ w. kept (ltb 0 w) 3 w) 2 0 word-looks (λ w. kept-looks (ltb 0 w) 3 w)
+field-looks default zero = wider 0 2 (omega arith) (pure-looks default)
+field-looks default (suc bit) =
+    next-looks word-read (λ w. kept (not (eqb w default)) 3 w) 2 0 word-looks (λ w. kept-looks (not (eqb w default)) 3 w)
 
-pub fields-looks : (n m : ℕ) → Looks (n * 2) (fields-read n m)
+pub fields-looks : (ds : List ℕ) (m : ℕ) → Looks (length ds * 2) (fields-read ds m)
 unfolding fields-read
-fields-looks zero m = pure-looks []
-fields-looks (suc n) m =
-    wider (2 + (n * 2 + 0)) (suc n * 2) (omega arith)
-    (next-looks (field-read (m % 2)) (λ w rest. next (fields-read n (m / 2) rest) (λ ws. parsed (w ∷ ws))) 2 (n * 2 + 0) (field-looks (m % 2))
-    (λ w. next-looks (fields-read n (m / 2)) (λ ws. parsed (w ∷ ws)) (n * 2) 0 (fields-looks n (m / 2)) (λ ws. pure-looks (w ∷ ws))))
+fields-looks [] m = pure-looks []
+fields-looks (d ∷ ds) m =
+    wider (2 + (length ds * 2 + 0)) (suc (length ds) * 2) (omega arith)
+    (next-looks (field-read d (m % 2)) (λ w rest. next (fields-read ds (m / 2) rest) (λ ws. parsed (w ∷ ws))) 2 (length ds * 2 + 0) (field-looks d (m % 2))
+    (λ w. next-looks (fields-read ds (m / 2)) (λ ws. parsed (w ∷ ws)) (length ds * 2) 0 (fields-looks ds (m / 2)) (λ ws. pure-looks (w ∷ ws))))
 
 module _ {A : Type 0} where
-  pub mapped-looks : (n : ℕ) (clear : ℕ → Bool) (made : ℕ → List ℕ → A) → Looks (1 + n * 2) (mapped-read n clear made)
+  pub mapped-looks : (ds : List ℕ) (clear : ℕ → Bool) (made : ℕ → List ℕ → A) → Looks (1 + length ds * 2) (mapped-read ds clear made)
   unfolding mapped-read
-  mapped-looks n clear made =
-      wider (1 + (0 + (n * 2 + 0))) (1 + n * 2) (omega arith)
-      (next-looks byte-read (λ m rest. next (kept (clear m) 2 m rest) (λ m rest. next (fields-read n m rest) (λ ws. parsed (made m ws)))) 1 (0 + (n * 2 + 0)) byte-looks
-      (λ b. next-looks (kept (clear b) 2 b) (λ m rest. next (fields-read n m rest) (λ ws. parsed (made m ws))) 0 (n * 2 + 0) (kept-looks (clear b) 2 b)
-      (λ m. next-looks (fields-read n m) (λ ws. parsed (made m ws)) (n * 2) 0 (fields-looks n m) (λ ws. pure-looks (made m ws)))))
+  mapped-looks ds clear made =
+      wider (1 + (0 + (length ds * 2 + 0))) (1 + length ds * 2) (omega arith)
+      (next-looks byte-read (λ m rest. next (kept (clear m) 2 m rest) (λ m rest. next (fields-read ds m rest) (λ ws. parsed (made m ws)))) 1 (0 + (length ds * 2 + 0)) byte-looks
+      (λ b. next-looks (kept (clear b) 2 b) (λ m rest. next (fields-read ds m rest) (λ ws. parsed (made m ws))) 0 (length ds * 2 + 0) (kept-looks (clear b) 2 b)
+      (λ m. next-looks (fields-read ds m) (λ ws. parsed (made m ws)) (length ds * 2) 0 (fields-looks ds m) (λ ws. pure-looks (made m ws)))))
 
   pub table-looks : (k : ℕ) (row : ℕ → List A → List ℕ → Parsed A) → ((i : ℕ) (done : List A) → Looks k (row i done)) → (n : ℕ) → Looks (n * k) (table-read row n)
   unfolding table-read

@@ -42,7 +42,7 @@ pub text-read : {file : List ℕ} {l : Lent} {m : ℕ} {out : List ℕ} → Read
 unfolding text-of text-by
 text-read {file} {l} {m} {out} t g = subst (λ (text : List ℕ). TextGives text m out) (sym (ap text-by (t .read))) g
 
--- a program that reads 43,342 bytes or more of its input prints the text of the whole
-pub cut-text : (input : List ℕ) (n : ℕ) → 43342 ≤ n → text-of (take n input) ≡ text-of input
+-- a program that reads 43,854 bytes or more of its input prints the text of the whole
+pub cut-text : (input : List ℕ) (n : ℕ) → 43854 ≤ n → text-of (take n input) ≡ text-of input
 unfolding text-of
 cut-text input n h = ap text-by (cut-input own input n h)

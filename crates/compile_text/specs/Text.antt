@@ -29,7 +29,7 @@ text-of file = text-by (reading own file)
 
 -- room for every text: printing's Suffices
 abbrev pub most : ℕ
-most = 164384
+most = 165408
 
 -- A text was given: its length, and the buffer at exit, 0 past the text. That it is the front of the buffer follows, and is told for a
 -- caller who passes that part on.

@@ -7,6 +7,7 @@ ghost use Rattle.compiler.specs.Left.{answer-of};
 ghost use Rattle.entry_tables.specs.Inner.Answers.{refused-compile};
 ghost use Rattle.compile_text.specs.Inner.Giving.{printed-length};
 ghost use Rattle.compile_text.specs.Text.{TextGives};
+use crate::MOST_TEXT;
 use compiler::CompileAnswer;
 use printing::PrintAnswer;
 use task::Head;
@@ -30,7 +31,7 @@ pub fn not_compiled(r: CompileAnswer) -> u16
 }
 
 // The line of a number.
-pub fn number_line(number: u16, out: &mut [u8; 164384]) -> usize
+pub fn number_line(number: u16, out: &mut [u8; MOST_TEXT]) -> usize
     ensures { λ r. ⌜ TextGives (refusal-line number) r (now (out .exit)) ⌝ }
 {
     printed(printing::print_refusal(number, out))
@@ -44,7 +45,7 @@ pub fn task_lines(
     formulas: &[u16],
     effects: &[u16],
     operators: &[u16],
-    out: &mut [u8; 164384],
+    out: &mut [u8; MOST_TEXT],
 ) -> usize
     requires { ⌜ refusal (lent head (now initial) (now twins) (now formulas) (now effects) (now operators)) ≡ 0 ⌝ }
     ensures { λ r. ⌜ TextGives (lines (task-of (lent head (now (initial .entry)) (now (twins .entry)) (now (formulas .entry)) (now (effects .entry)) (now (operators .entry))))) r (now (out .exit)) ⌝ }

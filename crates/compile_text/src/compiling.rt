@@ -6,6 +6,7 @@ ghost use Rattle.compiler.specs.Left.{tables};
 ghost use Rattle.compile_text.specs.Text.{compiled-text};
 ghost use Rattle.compile_text.specs.Inner.Giving.{CompileIn};
 ghost use Rattle.compile_text.specs.Text.{TextGives};
+use crate::MOST_TEXT;
 use crate::answers::not_compiled;
 use crate::answers::number_line;
 use crate::answers::task_lines;
@@ -28,7 +29,7 @@ fn compile_through(
     rules: &mut [u16],
     written: &mut [u16],
     scratch: &mut [u16],
-    out: &mut [u8; 164384],
+    out: &mut [u8; MOST_TEXT],
 ) -> usize
     requires { ⌜ CompileIn (lent head (now initial) (now twins) (now formulas) (now effects) (now operators)) (tables (now values) (now originals) (now table) (now rules) (now written) (now scratch)) ⌝ }
     ensures { λ r. ⌜ TextGives (compiled-text (task-of (lent head (now (initial .entry)) (now (twins .entry)) (now (formulas .entry)) (now (effects .entry)) (now (operators .entry))))) r (now (out .exit)) ⌝ }
@@ -61,7 +62,7 @@ pub fn compile_text(
     formulas: &[u16],
     effects: &[u16],
     operators: &[u16],
-    out: &mut [u8; 164384],
+    out: &mut [u8; MOST_TEXT],
 ) -> usize
     requires { ⌜ refusal (lent head (now initial) (now twins) (now formulas) (now effects) (now operators)) ≡ 0 ⌝ }
     ensures { λ r. ⌜ TextGives (compiled-text (task-of (lent head (now (initial .entry)) (now (twins .entry)) (now (formulas .entry)) (now (effects .entry)) (now (operators .entry))))) r (now (out .exit)) ⌝ }

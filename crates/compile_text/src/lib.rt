@@ -4,3 +4,6 @@ mod compiling;
 mod text;
 
 pub use text::text_of;
+
+// Room for every text.
+pub const MOST_TEXT: usize = 165408;

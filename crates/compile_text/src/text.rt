@@ -2,6 +2,7 @@
 ghost use Rattle.compile_text.specs.Text.{text-of};
 ghost use Rattle.compile_text.specs.Inner.Giving.{Own};
 ghost use Rattle.compile_text.specs.Text.{TextGives};
+use crate::MOST_TEXT;
 use crate::answers::number_line;
 use crate::compiling::compile_text;
 use task::operator_rows::MOST_OPERATOR_WORDS;
@@ -15,7 +16,7 @@ fn text_through(
     formulas: &mut [u16],
     effects: &mut [u16],
     operators: &mut [u16],
-    out: &mut [u8; 164384],
+    out: &mut [u8; MOST_TEXT],
 ) -> usize
     requires { ⌜ Own (now initial) (now twins) (now formulas) (now effects) (now operators) ⌝ }
     ensures { λ r. ⌜ TextGives (text-of (now (file .entry))) r (now (out .exit)) ⌝ }
@@ -28,8 +29,8 @@ fn text_through(
 }
 
 // The text that the program prints, given this input: its length, and the text in the front of `out`, 0 behind it. An input that is cut
-// behind 43,342 bytes has the text of the whole (proofs/Cut). Reading, compiling, one pass over the compiled task, and clearing `out`.
-pub fn text_of(file: &[u8], out: &mut [u8; 164384]) -> usize
+// behind 43,854 bytes has the text of the whole (proofs/Cut). Reading, compiling, one pass over the compiled task, and clearing `out`.
+pub fn text_of(file: &[u8], out: &mut [u8; MOST_TEXT]) -> usize
     ensures { λ r. ⌜ TextGives (text-of (now (file .entry))) r (now (out .exit)) ⌝ }
 {
     let mut initial = [0u8; 512];

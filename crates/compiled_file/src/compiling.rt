@@ -76,7 +76,7 @@ fn compile_through(
     )
 }
 
-// Through small room: 8.75 KiB. A file of 77 bytes takes 1.9 us, in full room 3.5.
+// Through small room: 9 KiB. A file of 77 bytes takes 1.9 us, in full room 3.5.
 fn compile_small(
     head: Head,
     initial: &[u8],
@@ -114,7 +114,7 @@ fn compile_small(
     )
 }
 
-// Through room for every compiled task: 82.5 KiB.
+// Through room for every compiled task: 83 KiB.
 fn compile_full(
     head: Head,
     initial: &[u8],

@@ -1,14 +1,15 @@
 -- Words, fields and maps: reading undoes writing and writing undoes reading. Assumes nothing.
 use Prim.Native.Nat.{ℕ, zero, suc, _+_, _*_, _/_, _%_, _^_, _<_, _≤_}
-use native.Mathlib.Nat.{pow-suc, mul-comm, mul-assoc}
+use native.Mathlib.Nat.{pow-suc, mul-comm, mul-assoc, one-le-pow}
 use native.Mathlib.Omega.{arith}
+use native.Mathlib.Decide.{ℕ-discrete}
 use mathlib.Core.Path.{_≡_, refl, sym, ap, _∙_}
-use mathlib.Core.List.{List, [], _∷_, _++_, append-assoc, map}
-use lib.ListN.{length}
-use lib.Dec.{ltb}
-use borrow.Author.Tests.{ltb-true, lt-ltb}
-use Rattle.task.specs.Words.{joined}
-use Rattle.file_format.specs.Bytes.{number, word-bytes, field-bytes, present, map-of}
+use mathlib.Core.Bool.{Bool, true, false, false≢true, cond, not}
+use mathlib.Core.List.{List, [], _∷_, _++_, append-assoc}
+use lib.ListN.{length, length-append}
+use lib.Dec.{eqb}
+use borrow.Author.Tests.{eq-eqb, ne-eqb}
+use Rattle.file_format.specs.Bytes.{word-bytes, field-bytes, present, fields-bytes, map-of}
 use Rattle.file_format.specs.Parse.{Parsed, parsed, next, kept, byte-read, word-read, field-read, fields-read}
 use Rattle.file_format.proofs.Parse.{Bytes, bytes-behind, parsed-value, parsed-rest, refused-parsed, kept-parsed, kept-true, next-parsed, next-to, Stable, pure-stable, kept-stable, byte-stable, next-stable}
 
@@ -52,57 +53,84 @@ word-stable =
     next-stable byte-read (λ low rest. next (byte-read rest) (λ high. parsed (low + 256 * high))) byte-stable
     (λ low. next-stable byte-read (λ high. parsed (low + 256 * high)) byte-stable (λ high. pure-stable (low + 256 * high)))
 
-pub present-le : (w : ℕ) → present w ≤ 1
+pub present-le : (default w : ℕ) → present default w ≤ 1
 unfolding present
-present-le zero = omega arith
-present-le (suc w) = omega arith
+present-le default w = go (eqb w default)
+  where
+    go : (b : Bool) → cond b 0 1 ≤ 1
+    go true = omega arith
+    go false = omega arith
+
+-- a field that is its default is not there, and any other is
+pub record Absent (default w : ℕ) : Type 0 where
+  pub bytes : field-bytes default w ≡ []
+  pub bit : present default w ≡ 0
+
+pub absent : (default w : ℕ) → w ≡ default → Absent default w
+unfolding present field-bytes
+absent default w e = record { bytes = rw (eq-eqb w default e) refl; bit = rw (eq-eqb w default e) refl }
+
+pub record There (default w : ℕ) : Type 0 where
+  pub bytes : field-bytes default w ≡ word-bytes w
+  pub bit : present default w ≡ 1
+
+pub there : (default w : ℕ) → (w ≡ default → ⊥) → There default w
+unfolding present field-bytes
+there default w ne = record { bytes = rw (ne-eqb w default ne) refl; bit = rw (ne-eqb w default ne) refl }
 
 -- a field, by its bit
-pub field-reads : (w : ℕ) (rest : List ℕ) → field-read (present w) (field-bytes w ++ rest) ≡ parsed w rest
-unfolding field-read present field-bytes
-field-reads zero rest = refl
-field-reads (suc w) rest =
-    next-to (λ w. kept (ltb 0 w) 3 w) (word-reads (suc w) rest) ∙ kept-true (ltb 0 (suc w)) 3 (suc w) rest (lt-ltb 0 (suc w) (omega arith))
+pub field-reads : (default w : ℕ) (rest : List ℕ) → field-read default (present default w) (field-bytes default w ++ rest) ≡ parsed w rest
+unfolding field-read
+field-reads default w rest = go (ℕ-discrete w default)
+  where
+    go : Dec (w ≡ default) → field-read default (present default w) (field-bytes default w ++ rest) ≡ parsed w rest
+    go (yes e) =
+        let a = absent default w e in
+        rw (a .bit, a .bytes) (ap {B = Parsed ℕ} (λ (x : ℕ). parsed x rest) (sym e))
+    go (no ne) =
+        let t = there default w ne in
+        let passes : not (eqb w default) ≡ true = ap not (ne-eqb w default ne) in
+        rw (t .bit, t .bytes)
+        (next-to (λ w. kept (not (eqb w default)) 3 w) (word-reads w rest) ∙ kept-true (not (eqb w default)) 3 w rest passes)
 
--- a field that is not 0 is there
-pub record There (w : ℕ) : Type 0 where
-  pub bytes : field-bytes w ≡ word-bytes w
-  pub bit : present w ≡ 1
-
-pub there : (w : ℕ) → 0 < w → There w
-unfolding present field-bytes
-there zero h = absurd (omega arith)
-there (suc w) h = record { bytes = refl; bit = refl }
-
-pub record Field (bit : ℕ) (bytes : List ℕ) (w : ℕ) (rest : List ℕ) : Type 0 where
-  pub same : bytes ≡ field-bytes w ++ rest
+pub record Field (default bit : ℕ) (bytes : List ℕ) (w : ℕ) (rest : List ℕ) : Type 0 where
+  pub same : bytes ≡ field-bytes default w ++ rest
   pub good : Word w
-  pub by-bit : present w ≡ bit
+  pub by-bit : present default w ≡ bit
 
-pub field-parsed : (bit : ℕ) (bytes : List ℕ) {w : ℕ} {rest : List ℕ} → bit ≤ 1 → Bytes bytes → field-read bit bytes ≡ parsed w rest → Field bit bytes w rest
-unfolding field-read present field-bytes
-field-parsed zero bytes {w} {rest} h b e =
-    let z : 0 ≡ w = parsed-value e in
-    rw (← z) (record { same = parsed-rest e; good = omega arith; by-bit = refl })
-field-parsed (suc bit) bytes {w} {rest} h b e =
-    let s = next-parsed (word-read bytes) (λ w. kept (ltb 0 w) 3 w) e in
-    let k = kept-parsed (ltb 0 (s .value)) 3 (s .value) (s .mid) (s .second) in
+pub field-parsed :
+    (default bit : ℕ) (bytes : List ℕ) {w : ℕ} {rest : List ℕ}
+    → Word default
+    → bit ≤ 1
+    → Bytes bytes
+    → field-read default bit bytes ≡ parsed w rest
+    → Field default bit bytes w rest
+unfolding field-read
+field-parsed default zero bytes {w} {rest} small h b e =
+    let z : default ≡ w = parsed-value e in
+    let a = absent default w (sym z) in
+    record { same = parsed-rest e ∙ sym (ap (λ (l : List ℕ). l ++ rest) (a .bytes)); good = omega arith; by-bit = a .bit }
+field-parsed default (suc bit) bytes {w} {rest} small h b e =
+    let s = next-parsed (word-read bytes) (λ w. kept (not (eqb w default)) 3 w) e in
+    let k = kept-parsed (not (eqb (s .value) default)) 3 (s .value) (s .mid) (s .second) in
     let d = word-parsed bytes b (s .first) in
     let v : s .value ≡ w = k .same in
     let r : s .mid ≡ rest = k .behind in
-    let positive : 0 < s .value = ltb-true 0 (s .value) (k .holds) in
-    let t = there (s .value) positive in
+    let other : s .value ≡ default → ⊥ =
+    λ q. false≢true (sym (ap not (eq-eqb (s .value) default q)) ∙ k .holds) in
+    let t = there default (s .value) other in
     let one : 1 ≡ suc bit = omega arith in
     record {
       same = cc (d .same, t .bytes);
       good = omega (arith, d .good);
-      by-bit = ap present (sym v) ∙ t .bit ∙ one;
+      by-bit = ap (present default) (sym v) ∙ t .bit ∙ one;
     }
 
-pub field-stable : (bit : ℕ) → Stable (field-read bit)
+pub field-stable : (default bit : ℕ) → Stable (field-read default bit)
 unfolding field-read
-field-stable zero = pure-stable 0
-field-stable (suc bit) = next-stable word-read (λ w. kept (ltb 0 w) 3 w) word-stable (λ w. kept-stable (ltb 0 w) 3 w)
+field-stable default zero = pure-stable default
+field-stable default (suc bit) =
+    next-stable word-read (λ w. kept (not (eqb w default)) 3 w) word-stable (λ w. kept-stable (not (eqb w default)) 3 w)
 
 -- each is a word
 abbrev pub Words : List ℕ → Type 0
@@ -110,87 +138,130 @@ Words [] = Unit {0}
 Words (w ∷ ws) = Word w × Words ws
 
 -- the lowest bits of m are the map of ws
-abbrev pub Mapped : List ℕ → ℕ → Type 0
-Mapped [] m = Unit {0}
-Mapped (w ∷ ws) m = (m % 2 ≡ present w) × Mapped ws (m / 2)
+abbrev pub Mapped : (defaults fields : List ℕ) → ℕ → Type 0
+Mapped [] ws m = Unit {0}
+Mapped (d ∷ ds) [] m = Unit {0}
+Mapped (d ∷ ds) (w ∷ ws) m = (m % 2 ≡ present d w) × Mapped ds ws (m / 2)
 
 pub double-pow : (n r : ℕ) → 2 ^ suc n * r ≡ 2 * (2 ^ n * r)
 double-pow n r = rw pow-suc (simp (mul-comm (2 ^ n) 2, mul-assoc))
 
 -- a map with anything above it
-pub mapped : (ws : List ℕ) (r : ℕ) → Mapped ws (map-of ws + 2 ^ length ws * r)
-unfolding map-of number
-mapped [] r = tt
-mapped (w ∷ ws) r =
-    let d = double-pow (length ws) r in
-    let l = present-le w in
-    let rest : (present w + 2 * number (map present ws) + 2 ^ suc (length ws) * r) / 2 ≡ number (map present ws) + 2 ^ length ws * r = omega arith in
-    (omega arith, rw rest (mapped ws r))
+pub mapped : (ds ws : List ℕ) (r : ℕ) → Mapped ds ws (map-of ds ws + 2 ^ length ds * r)
+unfolding map-of
+mapped [] ws r = tt
+mapped (d ∷ ds) [] r = tt
+mapped (d ∷ ds) (w ∷ ws) r =
+    let e = double-pow (length ds) r in
+    let l = present-le d w in
+    let rest : (present d w + 2 * map-of ds ws + 2 ^ suc (length ds) * r) / 2 ≡ map-of ds ws + 2 ^ length ds * r = omega arith in
+    (omega arith, rw rest (mapped ds ws r))
 
 -- and back: what stands above the map
-pub above : (ws : List ℕ) (m : ℕ) → Mapped ws m → (r : ℕ) × (m ≡ map-of ws + 2 ^ length ws * r)
-unfolding map-of number
-above [] m h = (m, omega arith)
-above (w ∷ ws) m h =
-    let i = above ws (m / 2) (h .1) in
-    let d = double-pow (length ws) (i .0) in
-    let e : m / 2 ≡ number (map present ws) + 2 ^ length ws * i .0 = i .1 in
-    let b : m % 2 ≡ present w = h .0 in
+pub above : (ds ws : List ℕ) (m : ℕ) → length ws ≡ length ds → Mapped ds ws m → (r : ℕ) × (m ≡ map-of ds ws + 2 ^ length ds * r)
+unfolding map-of
+above [] ws m size h = (m, omega arith)
+above (d ∷ ds) [] m size h = absurd (omega arith)
+above (d ∷ ds) (w ∷ ws) m size h =
+    let i = above ds ws (m / 2) (omega arith) (h .1) in
+    let e = double-pow (length ds) (i .0) in
+    let f : m / 2 ≡ map-of ds ws + 2 ^ length ds * i .0 = i .1 in
+    let b : m % 2 ≡ present d w = h .0 in
     (i .0, omega arith)
 
 -- a map of n fields has n bits
-pub map-lt : (n : ℕ) (ws : List ℕ) → length ws ≡ n → map-of ws < 2 ^ n
-unfolding map-of number
-map-lt n [] e = rw (← e) (omega arith)
-map-lt n (w ∷ ws) e =
-    let i : number (map present ws) < 2 ^ length ws = map-lt (length ws) ws refl in
-    let d = double-pow (length ws) 1 in
-    rw (← e) (omega (arith, present-le w))
+pub map-lt : (ds ws : List ℕ) → map-of ds ws < 2 ^ length ds
+unfolding map-of
+map-lt [] ws = omega arith
+map-lt (d ∷ ds) [] = omega (arith, one-le-pow (suc (length ds)) 2 (omega arith))
+map-lt (d ∷ ds) (w ∷ ws) =
+    let i = map-lt ds ws in
+    let e = double-pow (length ds) 1 in
+    omega (arith, present-le d w)
 
-pub map-above : (n : ℕ) (ws : List ℕ) (m : ℕ) → length ws ≡ n → Mapped ws m → (r : ℕ) × (m ≡ map-of ws + 2 ^ n * r)
-map-above n ws m e h = rw (← e) (above ws m h)
+pub fields-reads :
+    (ds ws : List ℕ) (m : ℕ) (rest : List ℕ)
+    → length ws ≡ length ds
+    → Mapped ds ws m
+    → fields-read ds m (fields-bytes ds ws ++ rest) ≡ parsed ws rest
+unfolding fields-read fields-bytes
+fields-reads [] [] m rest size h = refl
+fields-reads [] (w ∷ ws) m rest size h = absurd (omega arith)
+fields-reads (d ∷ ds) [] m rest size h = absurd (omega arith)
+fields-reads (d ∷ ds) (w ∷ ws) m rest size h =
+    rw (append-assoc (field-bytes d w) (fields-bytes ds ws) rest, h .0)
+    (next-to (λ w rest. next (fields-read ds (m / 2) rest) (λ ws. parsed (w ∷ ws))) (field-reads d w (fields-bytes ds ws ++ rest))
+    ∙ next-to (λ ws. parsed (w ∷ ws)) (fields-reads ds ws (m / 2) rest (omega arith) (h .1)))
 
-pub fields-reads : (ws : List ℕ) (m : ℕ) (rest : List ℕ) → Mapped ws m → fields-read (length ws) m (joined field-bytes ws ++ rest) ≡ parsed ws rest
-unfolding fields-read joined
-fields-reads [] m rest h = refl
-fields-reads (w ∷ ws) m rest h =
-    rw (append-assoc (field-bytes w) (joined field-bytes ws) rest, h .0)
-    (next-to (λ w rest. next (fields-read (length ws) (m / 2) rest) (λ ws. parsed (w ∷ ws))) (field-reads w (joined field-bytes ws ++ rest))
-    ∙ next-to (λ ws. parsed (w ∷ ws)) (fields-reads ws (m / 2) rest (h .1)))
-
-pub record Fields (n m : ℕ) (bytes ws rest : List ℕ) : Type 0 where
-  pub same : bytes ≡ joined field-bytes ws ++ rest
-  pub size : length ws ≡ n
+pub record Fields (ds : List ℕ) (m : ℕ) (bytes ws rest : List ℕ) : Type 0 where
+  pub same : bytes ≡ fields-bytes ds ws ++ rest
+  pub size : length ws ≡ length ds
   pub good : Words ws
-  pub by-map : Mapped ws m
+  pub by-map : Mapped ds ws m
 
-fields-same : {n m : ℕ} {bytes ws ws′ rest rest′ : List ℕ} → ws ≡ ws′ → rest ≡ rest′ → Fields n m bytes ws rest → Fields n m bytes ws′ rest′
+fields-same :
+    {m : ℕ} {ds bytes ws ws′ rest rest′ : List ℕ} → ws ≡ ws′ → rest ≡ rest′ → Fields ds m bytes ws rest → Fields ds m bytes ws′ rest′
 fields-same p q f = rw (← p, ← q) f
 
-pub fields-parsed : (n m : ℕ) (bytes : List ℕ) {ws rest : List ℕ} → Bytes bytes → fields-read n m bytes ≡ parsed ws rest → Fields n m bytes ws rest
-unfolding fields-read joined
-fields-parsed zero m bytes {ws} {rest} b e =
+pub fields-parsed :
+    (ds : List ℕ) (m : ℕ) (bytes : List ℕ) {ws rest : List ℕ}
+    → Words ds
+    → Bytes bytes
+    → fields-read ds m bytes ≡ parsed ws rest
+    → Fields ds m bytes ws rest
+unfolding fields-read fields-bytes
+fields-parsed [] m bytes {ws} {rest} small b e =
     let z : [] ≡ ws = parsed-value e in
     fields-same {m = m} z (parsed-rest e) (record { same = refl; size = refl; good = tt; by-map = tt })
-fields-parsed (suc n) m bytes {ws} {rest} b e =
-    let s = next-parsed (field-read (m % 2) bytes) (λ w rest. next (fields-read n (m / 2) rest) (λ ws. parsed (w ∷ ws))) e in
-    let f = field-parsed (m % 2) bytes (omega arith) b (s .first) in
-    let t = next-parsed (fields-read n (m / 2) (s .mid)) (λ ws. parsed (s .value ∷ ws)) (s .second) in
-    let below : Bytes (s .mid) = bytes-behind (field-bytes (s .value)) (s .mid) (rw (f .same) at b) in
-    let g = fields-parsed n (m / 2) (s .mid) below (t .first) in
+fields-parsed (d ∷ ds) m bytes {ws} {rest} small b e =
+    let s = next-parsed (field-read d (m % 2) bytes) (λ w rest. next (fields-read ds (m / 2) rest) (λ ws. parsed (w ∷ ws))) e in
+    let f = field-parsed d (m % 2) bytes (small .0) (omega arith) b (s .first) in
+    let t = next-parsed (fields-read ds (m / 2) (s .mid)) (λ ws. parsed (s .value ∷ ws)) (s .second) in
+    let below : Bytes (s .mid) = bytes-behind (field-bytes d (s .value)) (s .mid) (rw (f .same) at b) in
+    let g = fields-parsed ds (m / 2) (s .mid) (small .1) below (t .first) in
     let v : s .value ∷ t .value ≡ ws = parsed-value (t .second) in
     let r : t .mid ≡ rest = parsed-rest (t .second) in
     fields-same v r
     (record {
-      same = f .same ∙ ap (λ (l : List ℕ). field-bytes (s .value) ++ l) (g .same) ∙ sym (append-assoc (field-bytes (s .value)) (joined field-bytes (t .value)) (t .mid));
+      same =
+          f .same
+          ∙ ap (λ (l : List ℕ). field-bytes d (s .value) ++ l) (g .same)
+          ∙ sym (append-assoc (field-bytes d (s .value)) (fields-bytes ds (t .value)) (t .mid));
       size = ap suc (g .size);
       good = (f .good, g .good);
       by-map = (sym (f .by-bit), g .by-map);
     })
 
-pub fields-stable : (n m : ℕ) → Stable (fields-read n m)
+pub fields-stable : (ds : List ℕ) (m : ℕ) → Stable (fields-read ds m)
 unfolding fields-read
-fields-stable zero m = pure-stable []
-fields-stable (suc n) m =
-    next-stable (field-read (m % 2)) (λ w rest. next (fields-read n (m / 2) rest) (λ ws. parsed (w ∷ ws))) (field-stable (m % 2))
-    (λ w. next-stable (fields-read n (m / 2)) (λ ws. parsed (w ∷ ws)) (fields-stable n (m / 2)) (λ ws. pure-stable (w ∷ ws)))
+fields-stable [] m = pure-stable []
+fields-stable (d ∷ ds) m =
+    next-stable (field-read d (m % 2)) (λ w rest. next (fields-read ds (m / 2) rest) (λ ws. parsed (w ∷ ws))) (field-stable d (m % 2))
+    (λ w. next-stable (fields-read ds (m / 2)) (λ ws. parsed (w ∷ ws)) (fields-stable ds (m / 2)) (λ ws. pure-stable (w ∷ ws)))
+
+-- fields behind fields
+pub fields-append :
+    (ds es ws vs : List ℕ) → length ws ≡ length ds → fields-bytes (ds ++ es) (ws ++ vs) ≡ fields-bytes ds ws ++ fields-bytes es vs
+unfolding fields-bytes
+fields-append [] es [] vs size = refl
+fields-append [] es (w ∷ ws) vs size = absurd (omega arith)
+fields-append (d ∷ ds) es [] vs size = absurd (omega arith)
+fields-append (d ∷ ds) es (w ∷ ws) vs size =
+    ap (λ (l : List ℕ). field-bytes d w ++ l) (fields-append ds es ws vs (omega arith))
+    ∙ sym (append-assoc (field-bytes d w) (fields-bytes ds ws) (fields-bytes es vs))
+
+-- a field has at most two bytes
+pub field-length : (default w : ℕ) → length (field-bytes default w) ≤ 2
+unfolding field-bytes word-bytes
+field-length default w = go (eqb w default)
+  where
+    go : (b : Bool) → length (cond b [] (word-bytes w)) ≤ 2
+    go true = omega arith
+    go false = omega arith
+
+pub fields-length : (ds ws : List ℕ) → length (fields-bytes ds ws) ≤ 2 * length ds
+unfolding fields-bytes
+fields-length [] ws = omega arith
+fields-length (d ∷ ds) [] = omega arith
+fields-length (d ∷ ds) (w ∷ ws) =
+    omega (arith, field-length d w, fields-length ds ws, length-append (field-bytes d w) (fields-bytes ds ws))

@@ -3,16 +3,21 @@
 use Prim.Native.Nat.{ℕ, zero, suc, _<_, _≤_}
 use native.Mathlib.Nat.{not-suc-le-zero}
 use native.Mathlib.Omega.{arith}
-use mathlib.Core.Path.{refl}
+use native.Mathlib.Decide.{ℕ-discrete}
+use mathlib.Core.Path.{_≡_, refl}
+use mathlib.Core.Bool.{Bool, true, false, cond}
 use mathlib.Core.List.{List, [], _∷_, _++_}
 use lib.ListN.{length, getD}
-use Rattle.task.specs.Table.{Row, Operator, Task, operator-width}
+use lib.Dec.{eqb}
+use borrow.Author.Tests.{ne-eqb}
+use Rattle.task.specs.Table.{Row, Operator, Task}
 use Rattle.task.specs.Rules.{no-row, no-operator, Rules, OperatorWords}
 use Rattle.task.specs.Words.{joined, head-of, operator-row-words}
 use Rattle.task.proofs.Sixteen.{formula-known, effect-known}
-use Rattle.file_format.specs.Bytes.{word-bytes, field-bytes, head-fields, head-bytes, row-bytes, operator-bytes, packed, file-of}
+use Rattle.file_format.specs.Bytes.{word-bytes, field-bytes, fields-bytes, head-defaults, row-defaults, operator-defaults, head-fields, head-bytes, row-bytes, operator-bytes, packed, file-of}
 use Rattle.file_format.proofs.Parse.{Bytes, bytes-behind, bytes-front}
-use Rattle.file_format.proofs.Fields.{map-lt}
+use Rattle.file_format.proofs.Fields.{Words, map-lt}
+use Rattle.file_format.proofs.Rows.{operator-defaults-small}
 use Rattle.file_format.proofs.Initial.{bits-of-state, packed-byte}
 
 bytes-append : (front rest : List ℕ) → Bytes front → Bytes rest → Bytes (front ++ rest)
@@ -47,45 +52,65 @@ word-small : (w : ℕ) → w < 65536 → Bytes (word-bytes w)
 unfolding word-bytes
 word-small w h = (omega arith, (omega arith, tt))
 
-field-small : (w : ℕ) → w < 65536 → Bytes (field-bytes w)
+field-small : (default w : ℕ) → w < 65536 → Bytes (field-bytes default w)
 unfolding field-bytes
-field-small zero h = tt
-field-small (suc w) h = word-small (suc w) h
+field-small default w h = go (eqb w default)
+  where
+    go : (b : Bool) → Bytes (cond b [] (word-bytes w))
+    go true = tt
+    go false = word-small w h
 
-small-field : (w : ℕ) → Bytes (field-bytes w) → w < 65536
+small-field : (default w : ℕ) → default < 65536 → Bytes (field-bytes default w) → w < 65536
 unfolding field-bytes word-bytes
-small-field zero b = omega arith
-small-field (suc w) b = omega (arith, b .1 .0)
+small-field default w small b = go (ℕ-discrete w default)
+  where
+    go : Dec (w ≡ default) → w < 65536
+    go (yes e) = omega arith
+    go (no ne) =
+        let c = rw (ne-eqb w default ne) at b in
+        omega (arith, c .1 .0)
 
-two-fields : (a b : ℕ) → a < 65536 → b < 65536 → Bytes (joined field-bytes (a ∷ b ∷ []))
-unfolding joined
-two-fields a b p q = bytes-append (field-bytes a) _ (field-small a p) (bytes-append (field-bytes b) [] (field-small b q) tt)
+fields-small : (ds ws : List ℕ) → Words ws → Bytes (fields-bytes ds ws)
+unfolding fields-bytes
+fields-small [] ws h = tt
+fields-small (d ∷ ds) [] h = tt
+fields-small (d ∷ ds) (w ∷ ws) h = bytes-append (field-bytes d w) (fields-bytes ds ws) (field-small d w (h .0)) (fields-small ds ws (h .1))
+
+small-fields : (ds ws : List ℕ) → length ws ≡ length ds → Words ds → Bytes (fields-bytes ds ws) → Words ws
+unfolding fields-bytes
+small-fields [] [] size h b = tt
+small-fields [] (w ∷ ws) size h b = absurd (omega arith)
+small-fields (d ∷ ds) [] size h b = tt
+small-fields (d ∷ ds) (w ∷ ws) size h b = (
+  small-field d w (h .0) (bytes-front (field-bytes d w) (fields-bytes ds ws) b),
+  small-fields ds ws (omega arith) (h .1) (bytes-behind (field-bytes d w) (fields-bytes ds ws) b),
+)
 
 row-small : (r : Row) → r .kind < 16 → r .a < 65536 → r .b < 65536 → Bytes (row-bytes r)
 unfolding row-bytes
-row-small r k a b = (omega (arith, map-lt 2 (r .a ∷ r .b ∷ []) refl), two-fields (r .a) (r .b) a b)
+row-small r k a b = (
+  omega (arith, map-lt row-defaults (r .a ∷ r .b ∷ [])),
+  fields-small row-defaults (r .a ∷ r .b ∷ []) (a, (b, tt)),
+)
 
 operator-small : (o : Operator) → OperatorWords o → Bytes (operator-bytes o)
-unfolding operator-bytes operator-row-words joined
+unfolding operator-bytes operator-row-words
 operator-small o w = (
-  omega (arith, map-lt operator-width (operator-row-words o) refl),
-  bytes-append (field-bytes (o .precondition)) _ (field-small (o .precondition) (w .precondition))
-      (two-fields (o .effect) (o .cost) (w .effect) (w .cost)),
+  omega (arith, map-lt operator-defaults (operator-row-words o)),
+  fields-small operator-defaults (operator-row-words o) (w .precondition, (w .effect, (w .cost, (w .percent, tt)))),
 )
 
 -- the file of a task that keeps the rules
 module _ (t : Task) (r : Rules t) where
   head-small : Bytes (head-bytes (head-of t))
-  unfolding head-bytes head-fields head-of joined
+  unfolding head-bytes head-fields head-of
   head-small =
-      let l = r .checked .limits in (
-        omega (arith, map-lt 6 (head-fields (head-of t)) refl),
-        bytes-append (field-bytes (length (t .initial))) _ (field-small (length (t .initial)) (omega (arith, l .variables)))
-            (bytes-append (field-bytes (length (t .originals))) _ (field-small (length (t .originals)) (omega (arith, l .variables, l .twins)))
-            (bytes-append (field-bytes (length (t .formulas))) _ (field-small (length (t .formulas)) (omega (arith, l .formulas)))
-            (bytes-append (field-bytes (length (t .effects))) _ (field-small (length (t .effects)) (omega (arith, l .effects)))
-            (two-fields (length (t .operators)) (t .goal) (omega (arith, l .operators))
-            (omega (arith, l .formulas, r .checked .goal-is-formula)))))),
+      let l = r .checked .limits in
+      let twins : length (t .originals) < 65536 = omega (arith, l .variables, l .twins) in
+      let goal : t .goal < 65536 = omega (arith, l .formulas, r .checked .goal-is-formula) in (
+        omega (arith, map-lt head-defaults (head-fields (head-of t))),
+        fields-small head-defaults (head-fields (head-of t))
+            (omega (arith, l .variables), (twins, (omega (arith, l .formulas), (omega (arith, l .effects), (omega (arith, l .operators), (goal, tt)))))),
       )
 
   pub file-is-bytes : Bytes (file-of t)
@@ -119,5 +144,4 @@ costs-of-bytes t b i h =
     in
     let o = getD (t .operators) i no-operator in
     let fields = bytes-joined operator-bytes no-operator (t .operators) operators i h .1 in
-    let last = bytes-behind (field-bytes (o .effect)) _ (bytes-behind (field-bytes (o .precondition)) _ fields) in
-    omega (arith, small-field (o .cost) (bytes-front (field-bytes (o .cost)) [] last))
+    omega (arith, small-fields operator-defaults (operator-row-words o) refl operator-defaults-small fields .1 .1 .0)

@@ -9,14 +9,14 @@ use lib.ListN.{length, getD, take}
 use lib.Seq.{take-suc, getD-take}
 use Rattle.task.specs.Bounded.{upto}
 use Rattle.task.proofs.Bounded.{length-upto, getD-upto}
-use Rattle.task.specs.Table.{Row, Operator, operator-width}
-use Rattle.task.specs.Check.{twin-kept, formula-kept, effect-kept, operator-kept}
+use Rattle.task.specs.Table.{Row, Operator}
+use Rattle.task.specs.Check.{twin-kept, formula-kept, effect-kept, operator-number}
 use Rattle.task.specs.Rules.{no-row, no-operator, TwinRule}
 use Rattle.task.specs.Words.{joined}
 use Rattle.task.proofs.Passed.{twin-tested}
-use Rattle.file_format.specs.Bytes.{word-bytes, row-bytes, operator-bytes, bytes-for, packed}
+use Rattle.file_format.specs.Bytes.{word-bytes, row-defaults, operator-defaults, row-bytes, operator-bytes, bytes-for, packed}
 use Rattle.file_format.specs.Parse.{Parsed, parsed, next, kept, byte-read, word-read, table-read}
-use Rattle.file_format.specs.Reading.{initial-read, bit-of, spare-clear, twin-read, row-read, row-clear, row-from, formula-read, effect-read, operator-fields-read, operator-clear, operator-from, operator-read}
+use Rattle.file_format.specs.Reading.{initial-read, bit-of, spare-clear, twin-read, row-read, row-clear, row-from, formula-read, effect-read, operator-fields-read, operator-clear, operator-from, operator-right, operator-read}
 use Rattle.file_format.proofs.Parse.{Bytes, bytes-front, kept-parsed, kept-true, Steps, next-parsed, Stable, kept-stable, byte-stable, next-stable}
 use Rattle.file_format.proofs.Fields.{byte-parsed, byte-reads, word-reads, word-parsed, word-stable}
 use Rattle.file_format.proofs.Table.{table-reads, Table, table-parsed, table-stable}
@@ -112,7 +112,7 @@ unfolding twin-read
 twins-reads bound os rest rule =
     table-reads word-bytes (twin-read bound) 0 os
     (λ k h rest.
-    ruled-reads word-read word-bytes (λ w. twin-kept bound (take k os ++ (w ∷ [])) k) 9 (getD os k 0) rest
+    ruled-reads word-read word-bytes (λ w. twin-kept bound (take k os ++ (w ∷ [])) k) (λ w. 9) (getD os k 0) rest
     (word-reads (getD os k 0) rest)
     (twin-front bound os k h .1 (rule k h)))
     rest
@@ -126,7 +126,7 @@ unfolding twin-read
 twins-parsed bound n bytes b e =
     table-parsed word-bytes (twin-read bound) 0 (λ k done w. twin-kept bound (done ++ (w ∷ [])) k ≡ true)
     (λ k done bytes x rest b e.
-    ruled-parsed word-read word-bytes (λ w. twin-kept bound (done ++ (w ∷ [])) k) 9
+    ruled-parsed word-read word-bytes (λ w. twin-kept bound (done ++ (w ∷ [])) k) (λ w. 9)
     (λ bytes x rest b e. word-parsed bytes b e .same)
     bytes x rest b e)
     n bytes b e
@@ -134,16 +134,16 @@ twins-parsed bound n bytes b e =
 pub twins-stable : (bound n : ℕ) → Stable (table-read (twin-read bound) n)
 unfolding twin-read
 twins-stable bound n =
-    table-stable (twin-read bound) (λ k done. ruled-stable word-read word-bytes (λ w. twin-kept bound (done ++ (w ∷ [])) k) 9 word-stable) n
+    table-stable (twin-read bound) (λ k done. ruled-stable word-read word-bytes (λ w. twin-kept bound (done ++ (w ∷ [])) k) (λ w. 9) word-stable) n
 
 row-stable : Stable row-read
 unfolding row-read
-row-stable = mapped-stable 2 row-clear row-from
+row-stable = mapped-stable row-defaults row-clear row-from
 
--- Tables whose rows are three words: the rule of row i is a test of the row alone.
-module _ {A : Type 0} (q : A → List ℕ) (p : List ℕ → Parsed A) (d : A) (rule : ℕ → A → Bool) (n : ℕ) where
+-- Tables of rows: the rule of row i is a test of the row alone.
+module _ {A : Type 0} (q : A → List ℕ) (p : List ℕ → Parsed A) (d : A) (rule : ℕ → A → Bool) (n : A → ℕ) where
   abbrev pub ruled-row : ℕ → List A → List ℕ → Parsed A
-  ruled-row i done bytes = next (p bytes) (λ x. kept (rule i x) n x)
+  ruled-row i done bytes = next (p bytes) (λ x. kept (rule i x) (n x) x)
 
   pub rows-reads :
       ((x : A) (rest : List ℕ) → p (q x ++ rest) ≡ parsed x rest)
@@ -174,7 +174,7 @@ pub formulas-reads :
     → ((i : ℕ) → i < length rows → formula-kept v i (getD rows i no-row) ≡ true)
     → table-read (formula-read v) (length rows) (joined row-bytes rows ++ rest) ≡ parsed rows rest
 unfolding formula-read
-formulas-reads v rows rest each = rows-reads row-bytes row-read no-row (formula-kept v) 10 row-reads rows rest each
+formulas-reads v rows rest each = rows-reads row-bytes row-read no-row (formula-kept v) (λ x. 10) row-reads rows rest each
 
 pub formulas-parsed :
     (v count : ℕ) (bytes : List ℕ) {rows : List Row} {rest : List ℕ}
@@ -183,18 +183,18 @@ pub formulas-parsed :
     → Table row-bytes (formula-read v) no-row (λ i done x. formula-kept v i x ≡ true) count bytes rows rest
 unfolding formula-read
 formulas-parsed v count bytes {rows} {rest} b e =
-    rows-parsed row-bytes row-read no-row (formula-kept v) 10 (λ bytes x rest b e. row-parsed bytes b e) count bytes rows rest b e
+    rows-parsed row-bytes row-read no-row (formula-kept v) (λ x. 10) (λ bytes x rest b e. row-parsed bytes b e) count bytes rows rest b e
 
 pub formulas-stable : (v count : ℕ) → Stable (table-read (formula-read v) count)
 unfolding formula-read
-formulas-stable v count = rows-stable row-bytes row-read no-row (formula-kept v) 10 row-stable count
+formulas-stable v count = rows-stable row-bytes row-read no-row (formula-kept v) (λ x. 10) row-stable count
 
 pub effects-reads :
     (v f : ℕ) (rows : List Row) (rest : List ℕ)
     → ((i : ℕ) → i < length rows → effect-kept v f i (getD rows i no-row) ≡ true)
     → table-read (effect-read v f) (length rows) (joined row-bytes rows ++ rest) ≡ parsed rows rest
 unfolding effect-read
-effects-reads v f rows rest each = rows-reads row-bytes row-read no-row (effect-kept v f) 11 row-reads rows rest each
+effects-reads v f rows rest each = rows-reads row-bytes row-read no-row (effect-kept v f) (λ x. 11) row-reads rows rest each
 
 pub effects-parsed :
     (v f count : ℕ) (bytes : List ℕ) {rows : List Row} {rest : List ℕ}
@@ -203,30 +203,31 @@ pub effects-parsed :
     → Table row-bytes (effect-read v f) no-row (λ i done x. effect-kept v f i x ≡ true) count bytes rows rest
 unfolding effect-read
 effects-parsed v f count bytes {rows} {rest} b e =
-    rows-parsed row-bytes row-read no-row (effect-kept v f) 11 (λ bytes x rest b e. row-parsed bytes b e) count bytes rows rest b e
+    rows-parsed row-bytes row-read no-row (effect-kept v f) (λ x. 11) (λ bytes x rest b e. row-parsed bytes b e) count bytes rows rest b e
 
 pub effects-stable : (v f count : ℕ) → Stable (table-read (effect-read v f) count)
 unfolding effect-read
-effects-stable v f count = rows-stable row-bytes row-read no-row (effect-kept v f) 11 row-stable count
+effects-stable v f count = rows-stable row-bytes row-read no-row (effect-kept v f) (λ x. 11) row-stable count
 
 pub operators-reads :
     (f e : ℕ) (rows : List Operator) (rest : List ℕ)
-    → ((i : ℕ) → i < length rows → operator-kept f e (getD rows i no-operator) ≡ true)
+    → ((i : ℕ) → i < length rows → operator-right f e (getD rows i no-operator) ≡ true)
     → table-read (operator-read f e) (length rows) (joined operator-bytes rows ++ rest) ≡ parsed rows rest
 unfolding operator-read
 operators-reads f e rows rest each =
-    rows-reads operator-bytes operator-fields-read no-operator (λ i. operator-kept f e) 12 operator-fields-reads rows rest each
+    rows-reads operator-bytes operator-fields-read no-operator (λ i. operator-right f e) (operator-number f e) operator-fields-reads rows rest each
 
 pub operators-parsed :
     (f e count : ℕ) (bytes : List ℕ) {rows : List Operator} {rest : List ℕ}
     → Bytes bytes
     → table-read (operator-read f e) count bytes ≡ parsed rows rest
-    → Table operator-bytes (operator-read f e) no-operator (λ i done x. operator-kept f e x ≡ true) count bytes rows rest
+    → Table operator-bytes (operator-read f e) no-operator (λ i done x. operator-right f e x ≡ true) count bytes rows rest
 unfolding operator-read
 operators-parsed f e count bytes {rows} {rest} b q =
-    rows-parsed operator-bytes operator-fields-read no-operator (λ i. operator-kept f e) 12 (λ bytes x rest b e. operator-fields-parsed bytes b e) count bytes rows rest b q
+    rows-parsed operator-bytes operator-fields-read no-operator (λ i. operator-right f e) (operator-number f e)
+    (λ bytes x rest b e. operator-fields-parsed bytes b e) count bytes rows rest b q
 
 pub operators-stable : (f e count : ℕ) → Stable (table-read (operator-read f e) count)
 unfolding operator-read operator-fields-read
 operators-stable f e count =
-    rows-stable operator-bytes operator-fields-read no-operator (λ i. operator-kept f e) 12 (mapped-stable operator-width operator-clear operator-from) count
+    rows-stable operator-bytes operator-fields-read no-operator (λ i. operator-right f e) (operator-number f e) (mapped-stable operator-defaults operator-clear operator-from) count

@@ -5,16 +5,17 @@ use mathlib.Core.Logic.{_↔_}
 use mathlib.Core.Bool.{true}
 use mathlib.Core.List.{List, [], _∷_, _++_, append-assoc}
 use lib.ListN.{length, getD}
+use borrow.Author.Tests.{eqb-true, eq-eqb}
 use Rattle.task.specs.declared.Head.{Head}
 use Rattle.task.specs.Table.{Row, Operator, Task, formula-kind, effect-kind}
-use Rattle.task.specs.Check.{counts-kept, goal-kept, twin-kept, formula-kept, effect-kept, operator-kept}
+use Rattle.task.specs.Check.{counts-kept, goal-kept, twin-kept, formula-kept, effect-kept, operator-number}
 use Rattle.task.specs.Rules.{no-row, no-operator, Checked, HasRoom, TwinRule, Counts}
 use Rattle.task.specs.Words.{joined, head-of}
 use Rattle.task.proofs.RowRules.{formula-told, formula-passes, effect-told, effect-passes, operator-told, operator-passes}
 use Rattle.task.proofs.Passed.{counts-tested, goal-tested, room-tested}
-use Rattle.file_format.specs.Bytes.{word-bytes, head-bytes, row-bytes, operator-bytes, packed, file-of}
+use Rattle.file_format.specs.Bytes.{word-bytes, head-defaults, head-bytes, row-bytes, operator-bytes, packed, file-of}
 use Rattle.file_format.specs.Parse.{parsed, next}
-use Rattle.file_format.specs.Reading.{Lengths, room, head-read, head-clear, head-from, head-kept, twin-read, formula-read, effect-read, operator-read, tables-read, task-read}
+use Rattle.file_format.specs.Reading.{Lengths, room, head-read, head-clear, head-from, head-kept, twin-read, formula-read, effect-read, operator-right, operator-read, tables-read, task-read}
 use Rattle.file_format.proofs.Parse.{Bytes, bytes-behind, parsed-value, parsed-rest, kept-parsed, kept-true, next-parsed, Stable, pure-stable, kept-stable, next-stable}
 use Rattle.file_format.proofs.Table.{Table}
 use Rattle.file_format.proofs.Rows.{head-reads, head-parsed, mapped-stable}
@@ -46,8 +47,11 @@ module _ (t : Task) (r : Checked t) where
       let x = getD (t .effects) i no-row in
       effect-passes (length (t .initial)) (length (t .formulas)) i (effect-kind (x .kind)) (x .a) (x .b) (r .effect i h)
 
-  operator-test : (i : ℕ) → i < length (t .operators) → operator-kept (length (t .formulas)) (length (t .effects)) (getD (t .operators) i no-operator) ≡ true
-  operator-test i h = operator-passes (length (t .formulas)) (length (t .effects)) (getD (t .operators) i no-operator) (r .operator i h)
+  operator-test : (i : ℕ) → i < length (t .operators) → operator-right (length (t .formulas)) (length (t .effects)) (getD (t .operators) i no-operator) ≡ true
+  operator-test i h =
+      let o = getD (t .operators) i no-operator in
+      eq-eqb (operator-number (length (t .formulas)) (length (t .effects)) o) 0
+      (operator-passes (length (t .formulas)) (length (t .effects)) o (r .operator i h))
 
   tables-reads : (rest : List ℕ) → tables-read (head-of t) (tables-bytes t rest) ≡ parsed t rest
   unfolding tables-read next head-of tables-bytes
@@ -105,7 +109,7 @@ pub record Behind (h : Head) (bytes : List ℕ) (t : Task) (rest : List ℕ) : T
   pub twins : (k : ℕ) → k < length (t .originals) → TwinRule (h .variables - h .twins) (t .originals) k
   pub formulas : (i : ℕ) → i < length (t .formulas) → formula-kept (h .variables) i (getD (t .formulas) i no-row) ≡ true
   pub effects : (i : ℕ) → i < length (t .effects) → effect-kept (h .variables) (h .formulas) i (getD (t .effects) i no-row) ≡ true
-  pub operators : (i : ℕ) → i < length (t .operators) → operator-kept (h .formulas) (h .effects) (getD (t .operators) i no-operator) ≡ true
+  pub operators : (i : ℕ) → i < length (t .operators) → operator-right (h .formulas) (h .effects) (getD (t .operators) i no-operator) ≡ true
 
 behind-same : {h : Head} {bytes : List ℕ} {t u : Task} {rest rest′ : List ℕ} → t ≡ u → rest ≡ rest′ → Behind h bytes t rest → Behind h bytes u rest′
 behind-same p q b = rw (← p, ← q) b
@@ -118,7 +122,7 @@ module _ (h : Head) (bytes initial m1 originals m2 : List ℕ) (formulas : List 
       → Table word-bytes (twin-read (h .variables - h .twins)) 0 (λ k done w. twin-kept (h .variables - h .twins) (done ++ (w ∷ [])) k ≡ true) (h .twins) m1 originals m2
       → Table row-bytes (formula-read (h .variables)) no-row (λ i done x. formula-kept (h .variables) i x ≡ true) (h .formulas) m2 formulas m3
       → Table row-bytes (effect-read (h .variables) (h .formulas)) no-row (λ i done x. effect-kept (h .variables) (h .formulas) i x ≡ true) (h .effects) m3 effects m4
-      → Table operator-bytes (operator-read (h .formulas) (h .effects)) no-operator (λ i done x. operator-kept (h .formulas) (h .effects) x ≡ true) (h .operators) m4 operators m5
+      → Table operator-bytes (operator-read (h .formulas) (h .effects)) no-operator (λ i done x. operator-right (h .formulas) (h .effects) x ≡ true) (h .operators) m4 operators m5
       → Behind h bytes (record { initial = initial; originals = originals; formulas = formulas; effects = effects; operators = operators; goal = h .goal }) m5
   unfolding tables-bytes head-of
   joined-parts i w f e o =
@@ -184,7 +188,8 @@ rules-told h bytes t rest b c g =
           let x = getD (t .effects) i no-row in
           rw (v, f) (effect-told (h .variables) (h .formulas) i (effect-kind (x .kind)) (x .a) (x .b) (b .effects i l));
       operator =
-          λ i l. rw (f, e) (operator-told (h .formulas) (h .effects) (getD (t .operators) i no-operator) (b .operators i l));
+          λ i l. let o = getD (t .operators) i no-operator in
+          rw (f, e) (operator-told (h .formulas) (h .effects) o (eqb-true (operator-number (h .formulas) (h .effects) o) 0 (b .operators i l)));
     }
 
 -- a task that was read: its file stood there, it keeps the rules, and the lent tables are long enough
@@ -235,4 +240,4 @@ head-kept-stable l h =
 pub task-stable : (l : Lengths) → Stable (task-read l)
 unfolding task-read head-read
 task-stable l =
-    next-stable _ _ (mapped-stable 6 head-clear head-from) (λ h. next-stable _ _ (head-kept-stable l h) tables-stable)
+    next-stable _ _ (mapped-stable head-defaults head-clear head-from) (λ h. next-stable _ _ (head-kept-stable l h) tables-stable)

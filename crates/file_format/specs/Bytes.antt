@@ -1,7 +1,9 @@
 -- The bytes of a task (01, "The task file"), field by field in the file's order. A byte is a number below 256.
-use Prim.Native.Nat.{ℕ, zero, suc, _+_, _*_, _/_, _%_}
-use mathlib.Core.List.{List, [], _∷_, _++_, map}
+use Prim.Native.Nat.{ℕ, _+_, _*_, _/_, _%_}
+use mathlib.Core.Bool.{cond}
+use mathlib.Core.List.{List, [], _∷_, _++_}
 use lib.ListN.{length, getD}
+use lib.Dec.{eqb}
 use Rattle.task.specs.declared.Head.{Head}
 use Rattle.task.specs.Bounded.{upto}
 use Rattle.task.specs.Table.{Row, Operator, Task}
@@ -16,33 +18,52 @@ number (bit ∷ bits) = bit + 2 * number bits
 unfoldable pub word-bytes : ℕ → List ℕ
 word-bytes w = w % 256 ∷ w / 256 ∷ []
 
--- an absent field is 0 and a present one is not: so 0 has no bytes, and one task has one file
-unfoldable pub field-bytes : ℕ → List ℕ
-field-bytes zero = []
-field-bytes (suc w) = word-bytes (suc w)
+-- an absent field is its default and a present one is not: so a field that is its default has no bytes, and one task has one file
+unfoldable pub field-bytes : (default w : ℕ) → List ℕ
+field-bytes default w = cond (eqb w default) [] (word-bytes w)
 
-unfoldable pub present : ℕ → ℕ
-present zero = 0
-present (suc w) = 1
+unfoldable pub present : (default w : ℕ) → ℕ
+present default w = cond (eqb w default) 0 1
 
--- the bit map of some fields: the first field's bit is the lowest
-unfoldable pub map-of : List ℕ → ℕ
-map-of fields = number (map present fields)
+-- some fields by their defaults: their bytes, one after another
+unfoldable pub fields-bytes : (defaults fields : List ℕ) → List ℕ
+fields-bytes [] ws = []
+fields-bytes (d ∷ ds) [] = []
+fields-bytes (d ∷ ds) (w ∷ ws) = field-bytes d w ++ fields-bytes ds ws
+
+-- and their bit map: the first field's bit is the lowest
+unfoldable pub map-of : (defaults fields : List ℕ) → ℕ
+map-of [] ws = 0
+map-of (d ∷ ds) [] = 0
+map-of (d ∷ ds) (w ∷ ws) = present d w + 2 * map-of ds ws
+
+-- the defaults: 0, but for an operator's percent, which is 100 (02, K2). With 0 there too, an absent percent would make its operator free of charge.
+abbrev pub zeros : List ℕ
+zeros = 0 ∷ 0 ∷ 0 ∷ []
+
+abbrev pub head-defaults : List ℕ
+head-defaults = zeros ++ zeros
+
+abbrev pub row-defaults : List ℕ
+row-defaults = 0 ∷ 0 ∷ []
+
+abbrev pub operator-defaults : List ℕ
+operator-defaults = 0 ∷ 0 ∷ 0 ∷ 100 ∷ []
 
 unfoldable pub head-fields : Head → List ℕ
 head-fields h = h .variables ∷ h .twins ∷ h .formulas ∷ h .effects ∷ h .operators ∷ h .goal ∷ []
 
 -- head map: bits 0 to 5 for V, W, F, E, O, goal
 unfoldable pub head-bytes : Head → List ℕ
-head-bytes h = map-of (head-fields h) ∷ joined field-bytes (head-fields h)
+head-bytes h = map-of head-defaults (head-fields h) ∷ fields-bytes head-defaults (head-fields h)
 
 -- a formula's or an effect's row: bit 0 for a, bit 1 for b, the kind in bits 4 to 7
 unfoldable pub row-bytes : Row → List ℕ
-row-bytes r = (map-of (r .a ∷ r .b ∷ []) + 16 * r .kind) ∷ joined field-bytes (r .a ∷ r .b ∷ [])
+row-bytes r = (map-of row-defaults (r .a ∷ r .b ∷ []) + 16 * r .kind) ∷ fields-bytes row-defaults (r .a ∷ r .b ∷ [])
 
--- an operator's map uses bits 0, 1, 2
+-- an operator's map uses bits 0 to 3
 unfoldable pub operator-bytes : Operator → List ℕ
-operator-bytes o = map-of (operator-row-words o) ∷ joined field-bytes (operator-row-words o)
+operator-bytes o = map-of operator-defaults (operator-row-words o) ∷ fields-bytes operator-defaults (operator-row-words o)
 
 -- the bytes that so many bits take
 unfoldable pub bytes-for : ℕ → ℕ

@@ -7,11 +7,11 @@ use lib.ListN.{getD}
 use lib.Dec.{ltb, eqb}
 use Rattle.task.specs.declared.Head.{Head}
 use Rattle.task.specs.Bounded.{upto}
-use Rattle.task.specs.Table.{Row, Operator, Task, operator-width, operator}
+use Rattle.task.specs.Table.{Row, Operator, Task, operator}
 pub use Rattle.task.specs.Check.{Lengths}
 unfoldable pub use Rattle.task.specs.Check.{room}
-use Rattle.task.specs.Check.{counts-kept, goal-kept, twin-kept, formula-kept, effect-kept, operator-kept}
-use Rattle.file_format.specs.Bytes.{bytes-for}
+use Rattle.task.specs.Check.{counts-kept, goal-kept, twin-kept, formula-kept, effect-kept, operator-number}
+use Rattle.file_format.specs.Bytes.{head-defaults, row-defaults, operator-defaults, bytes-for}
 use Rattle.file_format.specs.Parse.{Parsed, parsed, unparsed, next, kept, byte-read, word-read, mapped-read, table-read}
 
 abbrev pub head-from : ℕ → List ℕ → Head
@@ -30,7 +30,7 @@ abbrev pub head-clear : ℕ → Bool
 head-clear m = ltb m 64
 
 unfoldable pub head-read : List ℕ → Parsed Head
-head-read = mapped-read 6 head-clear head-from
+head-read = mapped-read head-defaults head-clear head-from
 
 -- 6, 7, 5
 unfoldable pub head-kept : Lengths → Head → List ℕ → Parsed Head
@@ -63,7 +63,7 @@ abbrev pub row-from : ℕ → List ℕ → Row
 row-from m ws = record { kind = m / 16; a = getD ws 0 0; b = getD ws 1 0 }
 
 unfoldable pub row-read : List ℕ → Parsed Row
-row-read = mapped-read 2 row-clear row-from
+row-read = mapped-read row-defaults row-clear row-from
 
 unfoldable pub formula-read : ℕ → ℕ → List Row → List ℕ → Parsed Row
 formula-read v i done bytes = next (row-read bytes) (λ r. kept (formula-kept v i r) 10 r)
@@ -71,18 +71,23 @@ formula-read v i done bytes = next (row-read bytes) (λ r. kept (formula-kept v 
 unfoldable pub effect-read : (v f : ℕ) → ℕ → List Row → List ℕ → Parsed Row
 effect-read v f i done bytes = next (row-read bytes) (λ r. kept (effect-kept v f i r) 11 r)
 
--- an operator's row without its own number; bits 3 to 7 of the map are unused
+-- an operator's row without its own number; bits 4 to 7 of the map are unused
 abbrev pub operator-clear : ℕ → Bool
-operator-clear m = ltb m 8
+operator-clear m = ltb m 16
 
 abbrev pub operator-from : ℕ → List ℕ → Operator
-operator-from m ws = operator (getD ws 0 0) (getD ws 1 0) (getD ws 2 0)
+operator-from m ws = operator (getD ws 0 0) (getD ws 1 0) (getD ws 2 0) (getD ws 3 0)
 
 unfoldable pub operator-fields-read : List ℕ → Parsed Operator
-operator-fields-read = mapped-read operator-width operator-clear operator-from
+operator-fields-read = mapped-read operator-defaults operator-clear operator-from
+
+-- 12, then 24
+abbrev pub operator-right : (f e : ℕ) → Operator → Bool
+operator-right f e o = eqb (operator-number f e o) 0
 
 unfoldable pub operator-read : (f e : ℕ) → ℕ → List Operator → List ℕ → Parsed Operator
-operator-read f e i done bytes = next (operator-fields-read bytes) (λ o. kept (operator-kept f e o) 12 o)
+operator-read f e i done bytes =
+    next (operator-fields-read bytes) (λ o. kept (operator-right f e o) (operator-number f e o) o)
 
 -- all that stands behind the head
 unfoldable pub tables-read : Head → List ℕ → Parsed Task

@@ -4,7 +4,7 @@ use native.Mathlib.Omega.{arith}
 use mathlib.Core.Path.{_≡_, refl}
 use mathlib.Core.List.{List, [], _∷_, _++_}
 use lib.ListN.{length, length-append}
-use Rattle.task.specs.Table.{Task}
+use Rattle.task.specs.Table.{Task, operator-width}
 use Rattle.task.specs.Run.{Run}
 use Rattle.task.specs.Words.{joined, words-of, operator-words, head-of}
 use Rattle.task.proofs.Words.{length-words, length-operator-words}
@@ -24,7 +24,7 @@ pub length-tables-bytes :
     + 2 * length (t .originals)
     + 6 * length (t .formulas)
     + 6 * length (t .effects)
-    + 6 * length (t .operators)
+    + 2 * (operator-width * length (t .operators))
 unfolding tables-bytes head-fields
 length-tables-bytes t =
     let h = joined word-bytes (head-fields (head-of t)) in

@@ -11,7 +11,8 @@ use lib.Dec.{leb, eqb, eqb·suc-zero}
 use borrow.Author.Tests.{leb-true, leb-false, le-leb, lt-leb, eqb-true, eqb-false, eq-eqb, ne-eqb}
 use Rattle.task.specs.declared.Head.{Head}
 use Rattle.task.specs.Table.{Lent, Task, task-of, operator-width}
-use Rattle.task.specs.Check.{counts-kept, goal-kept, room as has-room, long-enough, initial-kept, twins-kept, formulas-kept, effects-kept, operators-kept, unless, refusal}
+use Rattle.task.specs.Check.{counts-kept, goal-kept, room as has-room, long-enough, initial-kept, twins-kept, formulas-kept, effects-kept, operators-number, unless, refusal}
+use Rattle.task.proofs.Own.{refusal-own, not-between}
 use Rattle.task.specs.Rules.{Checked}
 use Rattle.task.specs.Run.{effect-of-operator}
 use Rattle.task.specs.Words.{words-of, operator-words, head-of, padded}
@@ -81,23 +82,6 @@ fits-if t room source v i w f rows e effects o =
             operators = omega (arith, finished-operators t);
           };
     }
-
--- No number of the tables' own is above 12.
-unless-most : (b : Bool) (n rest : ℕ) → n ≤ 12 → rest ≤ 12 → unless b n rest ≤ 12
-unless-most true n rest p q = q
-unless-most false n rest p q = p
-
-pub refusal-most : (l : Lent) → refusal l ≤ 12
-unfolding refusal
-refusal-most l =
-    unless-most (counts-kept (l .head)) 6 _ (omega arith)
-    (unless-most (goal-kept (l .head)) 7 _ (omega arith)
-    (unless-most (long-enough l) 5 _ (omega arith)
-    (unless-most (initial-kept l) 8 _ (omega arith)
-    (unless-most (twins-kept l) 9 _ (omega arith)
-    (unless-most (formulas-kept l) 10 _ (omega arith)
-    (unless-most (effects-kept l) 11 _ (omega arith)
-    (unless-most (operators-kept l) 12 0 (omega arith) (omega arith))))))))
 
 -- What a compiling asks.
 pub record Succeeds (l : Lent) (room : Room) : Type 0 where
@@ -251,7 +235,7 @@ module _ (l : Lent) (room : Room) where
       tables : (n : ℕ) → refusal l ≡ n → ⊥
       tables zero z = twins z (eqb (l .head .twins) 0) refl
       tables (suc n) z =
-          other-number (suc n) 15 (λ q. omega (arith, refusal-most l)) (told-number (suc n) (by-tables n z)) e
+          other-number (suc n) 15 (λ q. not-between (rw z at (refusal-own l)) (omega arith) (omega arith)) (told-number (suc n) (by-tables n z)) e
 
   -- scratch always ends as 0
   pub scratch-ends : compiling l room .scratch ≡ replicate (room .scratch) 0

@@ -18,7 +18,7 @@ use Rattle.normal_form.specs.Finished.{built, twin-values, finished}
 use Rattle.normal_form.specs.Alike.{Alike, Outside}
 use Rattle.normal_form.proofs.ShapeFinished.{finished-operators}
 use Rattle.normal_form.proofs.ShapePassed.{finished-rules}
-use Rattle.normal_form.proofs.MeaningFinished.{same-goal, same-applicable, same-cost}
+use Rattle.normal_form.proofs.MeaningFinished.{same-goal, same-applicable, same-cost, same-charge}
 use Rattle.normal_form.proofs.MeaningStep.{length-apply, correspond-after}
 
 -- The initial states correspond.
@@ -98,7 +98,7 @@ module _ (t : Task) (rules : Checked t) where
         wide = length-apply (p .state) (effect-of-operator t o) ∙ a .wide;
         states = correspond-after t rules (p .state) (p′ .state) (a .wide) (a .states) o h;
         steps = ap (λ (k : ℕ). k + 1) (a .steps);
-        cost = ap₂ _+_ (a .cost) (sym (same-cost t rules (p .state) (p′ .state) (a .wide) (a .states) o h));
+        cost = ap₂ _+_ (a .cost) (sym (same-charge t rules (p .state) (p′ .state) (a .wide) (a .states) o h));
       }
 
   run-alike :

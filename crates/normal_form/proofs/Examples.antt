@@ -34,7 +34,7 @@ source =
       twins = [];
       formulas = 2 ∷ 0 ∷ 0 ∷ 2 ∷ 1 ∷ 0 ∷ 3 ∷ 0 ∷ 0 ∷ 3 ∷ 1 ∷ 0 ∷ 4 ∷ 0 ∷ 3 ∷ [];
       effects = 1 ∷ 0 ∷ 0 ∷ 2 ∷ 1 ∷ 0 ∷ 4 ∷ 1 ∷ 1 ∷ 3 ∷ 0 ∷ 2 ∷ [];
-      operators = 2 ∷ 3 ∷ 3 ∷ [];
+      operators = 2 ∷ 3 ∷ 3 ∷ 100 ∷ [];
     }
 
 pub whole :
@@ -58,7 +58,7 @@ pub whole :
           ∷ words 4 3 9
           ∷ words 3 8 10
           ∷ [];
-      operators = operator 2 11 3 ∷ [];
+      operators = operator 2 11 3 100 ∷ [];
       goal = 6;
     }
 unfolding result task-of upto row-at operator-at
@@ -94,7 +94,7 @@ pub twin-by-goal :
       originals = [];
       formulas = words 1 0 0 ∷ words 2 0 0 ∷ words 3 1 0 ∷ [];
       effects = words 2 0 0 ∷ [];
-      operators = operator 0 0 1 ∷ [];
+      operators = operator 0 0 1 100 ∷ [];
       goal = 2;
     })
     ≡ record {
@@ -102,7 +102,7 @@ pub twin-by-goal :
       originals = 0 ∷ [];
       formulas = words 0 0 0 ∷ words 1 0 0 ∷ words 2 1 0 ∷ [];
       effects = words 0 0 0 ∷ words 2 0 0 ∷ words 4 1 1 ∷ words 1 1 0 ∷ words 4 1 3 ∷ words 3 2 4 ∷ [];
-      operators = operator 1 5 1 ∷ [];
+      operators = operator 1 5 1 100 ∷ [];
       goal = 2;
     }
 unfolding result
@@ -174,7 +174,7 @@ pub no-conflict-no-twin :
       originals = [];
       formulas = words 2 0 0 ∷ words 0 0 0 ∷ words 4 1 0 ∷ [];
       effects = words 1 1 0 ∷ words 4 0 0 ∷ words 4 2 0 ∷ words 2 1 0 ∷ words 3 2 3 ∷ [];
-      operators = operator 0 1 0 ∷ operator 1 4 0 ∷ [];
+      operators = operator 0 1 0 100 ∷ operator 1 4 0 100 ∷ [];
       goal = 0;
     })
     ≡ record {
@@ -182,7 +182,7 @@ pub no-conflict-no-twin :
       originals = [];
       formulas = words 0 0 0 ∷ words 1 0 0 ∷ words 2 0 0 ∷ [];
       effects = words 0 0 0 ∷ words 1 1 0 ∷ words 4 2 1 ∷ words 2 1 0 ∷ words 4 1 3 ∷ [];
-      operators = operator 2 2 0 ∷ operator 0 4 0 ∷ [];
+      operators = operator 2 2 0 100 ∷ operator 0 4 0 100 ∷ [];
       goal = 2;
     }
 unfolding result

@@ -12,7 +12,7 @@ use Rattle.task.specs.Table.{Row, Task, Operator}
 use Rattle.task.specs.Rules.{Checked}
 use Rattle.task.specs.Semantics.{holds, Atom, sets, clears, effcond}
 use Rattle.task.specs.Tree.{formula-of}
-use Rattle.task.specs.Run.{operator-of, effect-of-operator, goal-holds, applicable}
+use Rattle.task.specs.Run.{operator-of, effect-of-operator, goal-holds, applicable, charge-of}
 use Rattle.task.specs.Corresponding.{Corresponding}
 use Rattle.normal_form.specs.Builder.{plain}
 use Rattle.normal_form.specs.Operators.{Changes}
@@ -99,6 +99,16 @@ module _ (t : Task) (rules : Checked t) (source compiled : List ℕ) (width : le
     same-cost =
         finished-operator t o h .cost
         ∙ ap (λ (x : Operator). x .cost) (good-parts t rules .value .operators .at no-built o h .source)
+
+    pub same-percent : operator-of (finished t) o .percent ≡ operator-of t o .percent
+    unfolding operator-of finished
+    same-percent =
+        finished-operator t o h .percent
+        ∙ ap (λ (x : Operator). x .percent) (good-parts t rules .value .operators .at no-built o h .source)
+
+    pub same-charge : charge-of (operator-of (finished t) o) ≡ charge-of (operator-of t o)
+    unfolding charge-of
+    same-charge = rw (same-cost, same-percent) refl
 
     -- where an atom acts: at one source variable y, or nowhere
     acts-there : (l : Atom) → effcond compiled l (effect-of-operator (finished t) o)

@@ -98,6 +98,7 @@ module _ (n : ℕ) (twins : List ℕ) where
     pub record Operated (w : Assembled) (i : ℕ) (b : Built) : Type 0 where
       pub precondition : getD (w .operators) i no-operator .precondition ≡ b .precondition
       pub cost : getD (w .operators) i no-operator .cost ≡ b .source .cost
+      pub percent : getD (w .operators) i no-operator .percent ≡ b .source .percent
       pub there : getD (w .operators) i no-operator .effect < length (w .effects)
       pub tree :
           effect-of formulas (w .effects) (getD (w .operators) i no-operator .effect)
@@ -120,6 +121,7 @@ module _ (n : ℕ) (twins : List ℕ) where
         record {
           precondition = ap (λ (x : Operator). x .precondition) e;
           cost = ap (λ (x : Operator). x .cost) e;
+          percent = ap (λ (x : Operator). x .percent) e;
           there = rw e (prefix-below p (written w b .stands) (d .sound .there));
           tree =
               rw e

@@ -6,12 +6,13 @@ use mathlib.Core.Path.{_≡_, refl, ap, _∙_}
 use mathlib.Core.List.{List, [], _∷_, _++_}
 use lib.ListN.{length, getD, length-append, List·getD-append}
 use lib.Seq.{getD-append-add}
-use Rattle.task.specs.Table.{Task, effect-kind}
+use Rattle.task.specs.Table.{Operator, Task, effect-kind}
 use Rattle.task.specs.Check.{refusal}
 use Rattle.task.specs.Rules.{no-operator, OperatorRule, Limits, Checked}
 use Rattle.task.specs.Words.{lent-of}
 use Rattle.task.proofs.Down.{effects-none, effects-more}
 use Rattle.task.specs.Inner.Rows.{EffectsDown}
+use Rattle.task.specs.Run.{operator-of}
 use Rattle.task.proofs.Words.{lent-kept}
 use Rattle.normal_form.specs.Assembly.{rules, unassembled}
 use Rattle.normal_form.specs.Finished.{built, assembled, twin-values, finished}
@@ -109,13 +110,16 @@ module _ (t : Task) (source : Checked t) where
       (o : ℕ)
       → o < length (assembled t .operators)
       → OperatorRule (length (built t .st .rows)) (length (assembled t .effects)) (getD (assembled t .operators) o no-operator)
-  unfolding finished
+  unfolding finished operator-of
   finished-operator-rule o h =
       let b : o < length (t .operators) = rw (finished-operators t) at h in
       let w = finished-operator t o b in
       record {
         formula = rw (w .precondition) (good-parts t source .value .operators .at no-built o b .precondition .below);
         changes = w .there;
+        percent =
+            rw (w .percent ∙ ap (λ (x : Operator). x .percent) (good-parts t source .value .operators .at no-built o b .source))
+            (source .operator o b .percent);
       }
 
   pub finished-rules : Limits (finished t) → Checked (finished t)

@@ -14,7 +14,8 @@ use Rattle.task.specs.Table.{Task, Operator, row-at, operator-at, task-of}
 use Rattle.task.specs.Rules.{no-row, no-operator}
 use Rattle.task.specs.Semantics.{holds, apply}
 use Rattle.task.specs.Tree.{formula-of, effect-of}
-use Rattle.task.specs.Run.{operator-of, effect-of-operator, goal-holds, applicable, charge}
+use Rattle.task.proofs.Charges.{charge-most}
+use Rattle.task.specs.Run.{operator-of, effect-of-operator, goal-holds, applicable, charge-of, charge}
 use Rattle.task.proofs.Bounded.{length-upto, getD-upto}
 use Rattle.task.specs.Inner.Rows.{EffectsDown}
 use Rattle.task.proofs.Values.{values-none}
@@ -66,7 +67,7 @@ module _
       go true false q = absurd (omega (arith, q))
       go false c q = absurd (omega (arith, q))
 
-takes : (t : Task) (s : List ℕ) (n : ℕ) (w : Took) → took t s n ≡ w → w .answer .charge ≤ 65535 → Takes t s n (w .answer) (w .state)
+takes : (t : Task) (s : List ℕ) (n : ℕ) (w : Took) → took t s n ≡ w → w .answer .charge ≤ 131070 → Takes t s n (w .answer) (w .state)
 takes t s n w q small =
     record {
       answer = sym (ap (λ (x : Took). x .answer) q);
@@ -199,18 +200,18 @@ module _ {h : Head} {f e o s scratch : List ℕ} (ready : Ready h f e o s scratc
                 (marks after : List ℕ)
                 → Carried f e (h .formulas) (operator-at o n .effect) s after values marks
                 → operator-at o n .cost ≤ 65535
-                → Takes (running h f e o) s n (record { stop = 0; charge = operator-at o n .cost }) after
+                → Takes (running h f e o) s n (record { stop = 0; charge = charge-of (operator-at o n) }) after
             unfolding charge effect-of-operator task-of took-by
             carried-out marks after passes low =
                 rw (passes .state ∙ law)
                 (takes (running h f e o) s n (by-row (operator-at o n))
                 (took-done (running h f e o) s n stop stop-same z .1 ∙ ap by-row (operator-same there))
-                low)
+                (charge-most (operator-at o n) low (ready .tables .operator n there .percent)))
               where
                 by-row : Operator → Took
                 by-row r =
                     record {
-                      answer = record { stop = 0; charge = r .cost };
+                      answer = record { stop = 0; charge = charge-of r };
                       state = apply s (effect-of (rows-of (h .formulas) f) (rows-of (h .effects) e) (r .effect));
                     }
 

@@ -9,7 +9,7 @@ ghost use Rattle.task.specs.Table.{operator-width, operator-at};
 ghost use Rattle.operator_step.specs.Inner.Steps.{running, Ready, Takes, Scratched};
 use crate::Taken;
 use task::Head;
-use task::operator_rows::cost_of;
+use task::operator_rows::charge_of;
 use task::operator_rows::effect_of;
 use task::operator_rows::precondition_of;
 
@@ -71,6 +71,6 @@ pub fn take(
     );
     Taken {
         stop: 0,
-        charge: cost_of(operators, number as usize) as u64,
+        charge: charge_of(operators, number as usize) as u64,
     }
 }

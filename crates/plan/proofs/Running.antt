@@ -21,7 +21,7 @@ use Rattle.plan.specs.Inner.Done.{RunDone}
 pub record Goes (h : Head) (t : Task) (s numbers : List ℕ) (steps cost : ℕ) (now : List ℕ) : Type 0 where
   pub rest : plain-run t s numbers ≡ run-on t (record { state = now; steps = steps; cost = cost }) (drop steps numbers)
   pub state : StateReady h now
-  pub costs : cost ≤ 65535 * steps
+  pub costs : cost ≤ 131070 * steps
 
 module _ {h : Head} {t : Task} {s numbers : List ℕ} where
   pub starts : StateReady h s → Goes h t s numbers 0 0 s

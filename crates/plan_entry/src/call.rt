@@ -245,7 +245,7 @@ fn plan_from_small(file: &[u8], out: &mut [u8], result: &mut [u8]) -> u32
     )
 }
 
-// The task in tables with room for every task: 50 KiB.
+// The task in tables with room for every task: 51 KiB.
 fn plan_from_full(file: &[u8], out: &mut [u8], result: &mut [u8]) -> u32
     ensures { λ r. ⌜ PlanEntryGives (plan-entry (now (file .entry)) (length (now (out .entry))) (length (now (result .entry)))) r (now (out .exit)) (now (result .exit)) ⌝ }
 {

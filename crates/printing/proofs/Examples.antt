@@ -30,13 +30,13 @@ compiled =
           ∷ words 4 3 9
           ∷ words 3 8 10
           ∷ [];
-      operators = operator 2 11 3 ∷ [];
+      operators = operator 2 11 3 100 ∷ [];
       goal = 6;
     }
 
 pub whole :
     lines compiled
-    ≡ bytes "t 4 2 7 12 1 6\ni 0110\nw 2 0\nw 3 1\nf 0 0 0 0\nf 1 1 0 0\nf 2 2 2 0\nf 3 2 1 0\nf 4 2 0 0\nf 5 2 3 0\nf 6 4 4 5\ne 0 0 0 0\ne 1 1 0 0\ne 2 4 1 1\ne 3 2 2 0\ne 4 4 1 3\ne 5 3 2 4\ne 6 2 1 0\ne 7 4 3 6\ne 8 3 5 7\ne 9 1 3 0\ne 10 4 3 9\ne 11 3 8 10\no 0 2 11 3\n"
+    ≡ bytes "t 4 2 7 12 1 6\ni 0110\nw 2 0\nw 3 1\nf 0 0 0 0\nf 1 1 0 0\nf 2 2 2 0\nf 3 2 1 0\nf 4 2 0 0\nf 5 2 3 0\nf 6 4 4 5\ne 0 0 0 0\ne 1 1 0 0\ne 2 4 1 1\ne 3 2 2 0\ne 4 4 1 3\ne 5 3 2 4\ne 6 2 1 0\ne 7 4 3 6\ne 8 3 5 7\ne 9 1 3 0\ne 10 4 3 9\ne 11 3 8 10\no 0 2 11 3 100\n"
 unfolding bytes digits-within decimal word line numbered values initial-line head-line twin-lines lines joined row-words operator-row-words
 whole = refl
 

@@ -1,4 +1,4 @@
--- The lines of a task that keeps the rules, with costs of 16 bits, take at most 164,384 bytes: a buffer of that length always suffices.
+-- The lines of a task that keeps the rules, with costs of 16 bits, take at most 165,408 bytes: a buffer of that length always suffices.
 use Prim.Native.Nat.{ℕ, suc, _+_, _-_, _*_, _^_, _≤_, _<_}
 use native.Mathlib.Nat.{add-zero, suc-mul}
 use native.Mathlib.Omega.{arith}
@@ -59,25 +59,28 @@ row-line-short letter i n a b p q r s =
     )
 
 operator-line-short :
-    (letter i p e c : ℕ)
+    (letter i p e c r : ℕ)
     → i < 1000
     → p < 10000
     → e < 10000
     → c < 100000
-    → length (line letter (i ∷ p ∷ e ∷ c ∷ [])) ≤ 22
-operator-line-short letter i p e c h1 h2 h3 h4 =
+    → r < 1000
+    → length (line letter (i ∷ p ∷ e ∷ c ∷ r ∷ [])) ≤ 26
+operator-line-short letter i p e c r h1 h2 h3 h4 h5 =
     omega (
       arith,
-      line-length letter (i ∷ p ∷ e ∷ c ∷ []),
-      words-length i (p ∷ e ∷ c ∷ []),
-      words-length p (e ∷ c ∷ []),
-      words-length e (c ∷ []),
-      words-length c [],
+      line-length letter (i ∷ p ∷ e ∷ c ∷ r ∷ []),
+      words-length i (p ∷ e ∷ c ∷ r ∷ []),
+      words-length p (e ∷ c ∷ r ∷ []),
+      words-length e (c ∷ r ∷ []),
+      words-length c (r ∷ []),
+      words-length r [],
       no-words,
       word-short 2 i h1,
       word-short 3 p h2,
       word-short 3 e h3,
       word-short 4 c h4,
+      word-short 2 r h5,
     )
 
 pub refusal-line-short : (number : ℕ) → number < 65536 → length (refusal-line number) ≤ 8
@@ -236,17 +239,17 @@ module _ (t : Task) (r : Checked t) where
       row-line-short 101 (0 + i) (w .kind) (w .a) (w .b) (omega arith) (s .one-digit) (s .first) (s .second))
 
   module _ (costs : (i : ℕ) → i < length (t .operators) → getD (t .operators) i no-operator .cost < 65536) where
-    operators-short : length (numbered 111 0 (map operator-row-words (t .operators))) ≤ length (t .operators) * 22
+    operators-short : length (numbered 111 0 (map operator-row-words (t .operators))) ≤ length (t .operators) * 26
     unfolding operator-row-words
     operators-short =
-        table-short 111 0 operator-row-words (t .operators) no-operator 22 (λ i h.
+        table-short 111 0 operator-row-words (t .operators) no-operator 26 (λ i h.
         let o = getD (t .operators) i no-operator in
         let rule = r .operator i h in
-        operator-line-short 111 (0 + i) (o .precondition) (o .effect) (o .cost) (omega (arith, r .limits .operators))
-        (omega (arith, rule .formula, r .limits .formulas)) (omega (arith, rule .changes, r .limits .effects))
-        (omega (arith, costs i h)))
+        operator-line-short 111 (0 + i) (o .precondition) (o .effect) (o .cost) (o .percent)
+        (omega (arith, r .limits .operators)) (omega (arith, rule .formula, r .limits .formulas)) (omega (arith, rule .changes, r .limits .effects))
+        (omega (arith, costs i h)) (omega (arith, rule .percent)))
 
-    pub lines-short : length (lines t) ≤ 164384
+    pub lines-short : length (lines t) ≤ 165408
     unfolding lines
     lines-short =
         let a = head-line t in

@@ -1,4 +1,4 @@
--- A buffer of 164,384 bytes has room for the lines of any tables that pass the check, and one of 8 bytes for any refusal of 16 bits.
+-- A buffer of 165,408 bytes has room for the lines of any tables that pass the check, and one of 8 bytes for any refusal of 16 bits.
 use Prim.Native.Nat.{ℕ, _≤_, _<_}
 use native.Mathlib.Omega.{arith}
 use mathlib.Core.Path.{_≡_, _∙_}
@@ -30,11 +30,11 @@ pub task-printed :
     (l : Lent) (n : ℕ)
     → refusal l ≡ 0
     → ((i : ℕ) → i < l .head .operators → operator-at (l .operators) i .cost < 65536)
-    → 164384 ≤ n
+    → 165408 ≤ n
     → let text = lines (task-of l) in
     printing l n ≡ record { answer = Printed (length text); out = padded n text }
 task-printed l n e costs h =
-    let short : length (lines (task-of l)) ≤ 164384 = lines-short (task-of l) (kept-rules l e .1) (costs-held l costs) in
+    let short : length (lines (task-of l)) ≤ 165408 = lines-short (task-of l) (kept-rules l e .1) (costs-held l costs) in
     passes l n e ∙ placed-whole (lines (task-of l)) n (omega arith)
 
 pub refusal-printed :

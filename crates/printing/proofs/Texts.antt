@@ -17,15 +17,19 @@ use Rattle.task.proofs.Held.{length-initial, length-originals, length-formulas,
 use Rattle.task.specs.declared.Table.the-variants.{Formulas, Effects, Operators}
 use Rattle.task.specs.declared.Table.{Table}
 use Rattle.task.specs.declared.TableRow.{TableRow}
-use Rattle.task.specs.Inner.Tables.{words-at}
+use Rattle.task.specs.Inner.Tables.{words-at, listed}
 use Rattle.printing.specs.Lines.{newline, blank, digit, word, line, numbered, values, initial-line, head-line, twin-lines, lines}
-use Rattle.printing.specs.Inner.Put.{Put, counts-of, listed, original-at, front-text, tables-text}
+use Rattle.printing.specs.Inner.Put.{Put, counts-of, listed-at, original-at, front-text, tables-text}
 use Rattle.printing.proofs.Puts.{nothing-put, then-put, put-as}
 
--- Lines of one, two and four numbers.
+-- Lines of one and two numbers, and of a row.
 pub words-three : (a b c : ℕ) → (word a ++ word b) ++ word c ≡ joined word (a ∷ b ∷ c ∷ [])
 unfolding joined
 words-three a b c = append-assoc (word a) (word b) (word c) ∙ ap (λ (x : List ℕ). word a ++ (word b ++ x)) (sym (append-nil (word c)))
+
+pub words-four : (a b c d : ℕ) → joined word (a ∷ b ∷ c ∷ []) ++ word d ≡ joined word (a ∷ b ∷ c ∷ d ∷ [])
+unfolding joined
+words-four a b c d = simp (append-assoc, append-nil)
 
 pub words-six :
     (a b c d e f : ℕ)
@@ -41,11 +45,10 @@ pub line-two : (letter n a : ℕ) → ((letter ∷ word n) ++ word a) ++ (newlin
 unfolding line joined
 line-two letter n a = ap (λ (x : List ℕ). letter ∷ ((word n ++ x) ++ (newline ∷ []))) (sym (append-nil (word a)))
 
-pub line-four :
-    (letter n a b c : ℕ)
-    → ((letter ∷ word n) ++ joined word (a ∷ b ∷ c ∷ [])) ++ (newline ∷ []) ≡ line letter (n ∷ a ∷ b ∷ c ∷ [])
+pub line-more :
+    (letter n : ℕ) (ns : List ℕ) → ((letter ∷ word n) ++ joined word ns) ++ (newline ∷ []) ≡ line letter (n ∷ ns)
 unfolding line joined
-line-four letter n a b c = refl
+line-more letter n ns = refl
 
 pub line-counts : (letter : ℕ) (ns : List ℕ) → ((letter ∷ []) ++ joined word ns) ++ (newline ∷ []) ≡ line letter ns
 unfolding line
@@ -121,10 +124,10 @@ rows-more letter first n i f p q e h =
 pub row-put :
     (letter i : ℕ) (table : Table) (words : List ℕ) {r : TableRow} {before after : List ℕ} {at most last : ℕ}
     → r ≡ words-at table words i
-    → Put before at (line letter (i ∷ r .first ∷ r .second ∷ r .third ∷ [])) most after last
-    → Put before at (line letter (i ∷ listed table words i)) most after last
+    → Put before at (line letter (i ∷ listed table r)) most after last
+    → Put before at (line letter (i ∷ listed-at table words i)) most after last
 row-put letter i table words {before = before} {after} {at} {most} {last} e p =
-    subst (λ (r : TableRow). Put before at (line letter (i ∷ r .first ∷ r .second ∷ r .third ∷ [])) most after last) e p
+    subst (λ (r : TableRow). Put before at (line letter (i ∷ listed table r)) most after last) e p
 
 -- The lines of lent tables are those of the task that they hold.
 map-upto : {A B : Type 0} (g : A → B) (f : ℕ → A) (n : ℕ) → map g (upto n f) ≡ upto n (λ i. g (f i))
@@ -143,13 +146,13 @@ map-take {B} g l (suc n) h =
 
 formulas-text :
     (letter : ℕ) (words : List ℕ) (n : ℕ)
-    → numbered letter 0 (upto n (listed Formulas words)) ≡ numbered letter 0 (map row-words (upto n (row-at words)))
+    → numbered letter 0 (upto n (listed-at Formulas words)) ≡ numbered letter 0 (map row-words (upto n (row-at words)))
 unfolding row-words
 formulas-text letter words n = ap (numbered letter 0) (sym (map-upto row-words (row-at words) n))
 
 operators-text :
     (letter : ℕ) (words : List ℕ) (n : ℕ)
-    → numbered letter 0 (upto n (listed Operators words))
+    → numbered letter 0 (upto n (listed-at Operators words))
     ≡ numbered letter 0 (map operator-row-words (upto n (operator-at words)))
 unfolding operator-row-words
 operators-text letter words n = ap (numbered letter 0) (sym (map-upto operator-row-words (operator-at words) n))
@@ -166,14 +169,14 @@ front-joined h initial twins =
 
 pub tables-joined :
     (h : Head) (formulas effects operators : List ℕ)
-    → (numbered 102 0 (upto (h .formulas) (listed Formulas formulas)) ++ numbered 101 0 (upto (h .effects) (listed Effects effects)))
-    ++ numbered 111 0 (upto (h .operators) (listed Operators operators))
+    → (numbered 102 0 (upto (h .formulas) (listed-at Formulas formulas)) ++ numbered 101 0 (upto (h .effects) (listed-at Effects effects)))
+    ++ numbered 111 0 (upto (h .operators) (listed-at Operators operators))
     ≡ tables-text h formulas effects operators
 unfolding tables-text
 tables-joined h formulas effects operators =
-    append-assoc (numbered 102 0 (upto (h .formulas) (listed Formulas formulas)))
-    (numbered 101 0 (upto (h .effects) (listed Effects effects)))
-    (numbered 111 0 (upto (h .operators) (listed Operators operators)))
+    append-assoc (numbered 102 0 (upto (h .formulas) (listed-at Formulas formulas)))
+    (numbered 101 0 (upto (h .effects) (listed-at Effects effects)))
+    (numbered 111 0 (upto (h .operators) (listed-at Operators operators)))
 
 module _ (l : Lent) (long : LongEnough l) where
   head-held : line 116 (counts-of (l .head)) ≡ head-line (task-of l)

@@ -7,13 +7,15 @@ ghost use Rattle.task.specs.Bounded.{upto};
 ghost use Rattle.task.specs.Words.{joined};
 ghost use Rattle.task.specs.Table.{lent, task-of};
 ghost use Rattle.task.specs.Check.{refusal};
+ghost use Rattle.task.specs.Inner.Tables.{listed};
 ghost use Rattle.printing.specs.Lines.{digit, word as word-text, line, numbered, values as values-text, initial-line, lines};
-ghost use Rattle.printing.specs.Inner.Put.{Put, counts-of, listed, original-at, front-text, tables-text, BitsReady, TwinsReady, RowsReady, FrontReady, TablesReady};
+ghost use Rattle.printing.specs.Inner.Put.{Put, counts-of, listed-at, original-at, front-text, tables-text, BitsReady, TwinsReady, RowsReady, FrontReady, TablesReady};
 use crate::bytes::put;
 use crate::bytes::three;
 use crate::bytes::word;
 use task::Head;
 use task::Table;
+use task::TableRow;
 use task::table_rows::row_at;
 
 // A line's letter and its first number.
@@ -44,13 +46,26 @@ fn line_of_two(out: &mut [u8], at: usize, letter: u8, n: u16, a: u16) -> usize
     put(out, end, b'\n')
 }
 
-// A line of four numbers.
-fn line_of_four(out: &mut [u8], at: usize, letter: u8, n: u16, a: u16, b: u16, c: u16) -> usize
-    requires { ⌜ at + 26 ≤ 1000000 ⌝ }
-    ensures { λ r. ⌜ Put (now (out .entry)) at (line letter (n ∷ a ∷ b ∷ c ∷ [])) 26 (now (out .exit)) r ⌝ }
+// The words of a row: three, and an operator's fourth.
+fn row_words(out: &mut [u8], at: usize, table: Table, row: TableRow) -> usize
+    requires { ⌜ at + 24 ≤ 1000000 ⌝ }
+    ensures { λ r. ⌜ Put (now (out .entry)) at (joined word-text (listed table row)) 24 (now (out .exit)) r ⌝ }
 {
-    let second = opening(out, at, letter, n);
-    let end = three(out, second, a, b, c);
+    let next = three(out, at, row.first, row.second, row.third);
+    match table {
+        Table::Formulas => next,
+        Table::Effects => next,
+        Table::Operators => word(out, next, row.fourth),
+    }
+}
+
+// A row's line: its number and its words.
+fn row_line(out: &mut [u8], at: usize, letter: u8, table: Table, n: u16, row: TableRow) -> usize
+    requires { ⌜ at + 32 ≤ 1000000 ⌝ }
+    ensures { λ r. ⌜ Put (now (out .entry)) at (line letter (n ∷ listed table row)) 32 (now (out .exit)) r ⌝ }
+{
+    let next = opening(out, at, letter, n);
+    let end = row_words(out, next, table, row);
     put(out, end, b'\n')
 }
 
@@ -133,21 +148,13 @@ fn row_lines(
     count: usize,
 ) -> usize
     requires { ⌜ RowsReady table at count (now words) ⌝ }
-    ensures { λ r. ⌜ Put (now (out .entry)) at (numbered letter 0 (upto count (listed table (now (words .entry))))) (26 * count) (now (out .exit)) r ⌝ }
+    ensures { λ r. ⌜ Put (now (out .entry)) at (numbered letter 0 (upto count (listed-at table (now (words .entry))))) (32 * count) (now (out .exit)) r ⌝ }
 {
     let mut next = at;
     let mut i = 0;
     while i < count {
         let row = row_at(table, words, i);
-        next = line_of_four(
-            out,
-            next,
-            letter,
-            i as u16,
-            row.first,
-            row.second,
-            row.third,
-        );
+        next = row_line(out, next, letter, table, i as u16, row);
         i += 1;
     }
     next
@@ -179,7 +186,7 @@ fn tables(
     operators: &[u16],
 ) -> usize
     requires { ⌜ TablesReady at head (now formulas) (now effects) (now operators) ⌝ }
-    ensures { λ r. ⌜ Put (now (out .entry)) at (tables-text head (now (formulas .entry)) (now (effects .entry)) (now (operators .entry))) 220000 (now (out .exit)) r ⌝ }
+    ensures { λ r. ⌜ Put (now (out .entry)) at (tables-text head (now (formulas .entry)) (now (effects .entry)) (now (operators .entry))) 271000 (now (out .exit)) r ⌝ }
 {
     let after_formulas = row_lines(
         out,
@@ -218,7 +225,7 @@ pub fn task_lines(
     operators: &[u16],
 ) -> usize
     requires { ⌜ refusal (lent head (now initial) (now twins) (now formulas) (now effects) (now operators)) ≡ 0 ⌝ }
-    ensures { λ r. ⌜ Put (now (out .entry)) 0 (lines (task-of (lent head (now (initial .entry)) (now (twins .entry)) (now (formulas .entry)) (now (effects .entry)) (now (operators .entry))))) 225000 (now (out .exit)) r ⌝ }
+    ensures { λ r. ⌜ Put (now (out .entry)) 0 (lines (task-of (lent head (now (initial .entry)) (now (twins .entry)) (now (formulas .entry)) (now (effects .entry)) (now (operators .entry))))) 276000 (now (out .exit)) r ⌝ }
 {
     let next = front(out, head, initial, twins);
     tables(out, next, head, formulas, effects, operators)

@@ -51,7 +51,7 @@ fn read_small(file: &[u8], tables: &mut [u8]) -> u32
     )
 }
 
-// Through tables with room for every task: 50 KiB.
+// Through tables with room for every task: 51 KiB.
 fn read_full(file: &[u8], tables: &mut [u8]) -> u32
     ensures { λ r. ⌜ Lays (read-entry (now (file .entry)) (length (now (tables .entry)))) r (now (tables .exit)) ⌝ }
 {

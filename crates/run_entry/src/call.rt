@@ -258,7 +258,7 @@ fn run_from_small(file: &[u8], state: &mut [u8], sequence: &[u8], result: &mut [
     )
 }
 
-// The task in tables with room for every task: 50 KiB.
+// The task in tables with room for every task: 51 KiB.
 fn run_from_full(file: &[u8], state: &mut [u8], sequence: &[u8], result: &mut [u8]) -> u32
     ensures { λ r. ⌜ RunEntryGives (run-entry (now (file .entry)) (now (state .entry)) (now (sequence .entry)) (length (now (result .entry)))) r (now (state .exit)) (now (result .exit)) ⌝ }
 {

@@ -1,6 +1,6 @@
--- Laws of `every` and `upto`: what a loop over the numbers below a bound needs. Assumes nothing.
+-- Laws of `every`, `upto` and `first-number`: what a loop over the numbers below a bound needs. Assumes nothing.
 use Prim.Native.Nat.{ℕ, zero, suc, _+_, _-_, _<_, _≤_}
-use native.Mathlib.Nat.{not-suc-le-zero, lt-irrefl, sub-zero}
+use native.Mathlib.Nat.{not-suc-le-zero, lt-irrefl, sub-zero, suc-ne-zero}
 use native.Mathlib.Numerals.{add-one}
 use native.Mathlib.Omega.{arith}
 use mathlib.Core.Path.{_≡_, refl, sym, ap, _∙_}
@@ -10,7 +10,7 @@ use mathlib.Core.Logic.{⊎-elim}
 use native.Mathlib.Decide.{decLt}
 use lib.ListN.{length, getD, take, length-append, List·getD-append}
 use lib.Seq.{getD-at, getD-take, length-take-le}
-use Rattle.task.specs.Bounded.{every, upto}
+use Rattle.task.specs.Bounded.{every, upto, or-else, first-number}
 
 -- the two halves of a conjunction
 pub and-left : (a b : Bool) → (a && b) ≡ true → a ≡ true
@@ -82,6 +82,62 @@ every-stops n test k h e = sym (every-fails n test k h e)
 
 pub every-ends : (n : ℕ) (test : ℕ → Bool) (k : ℕ) → k ≤ n → n ≤ k → every k test ≡ true → true ≡ every n test
 every-ends n test k p q e =
+    let same : k ≡ n = omega arith in
+    sym (rw same at e)
+
+-- the first number that is not 0
+first-left : (a b : ℕ) → or-else a b ≡ 0 → a ≡ 0
+unfolding or-else
+first-left zero b e = refl
+first-left (suc a) b e = e
+
+first-right : (a b : ℕ) → or-else a b ≡ 0 → b ≡ 0
+unfolding or-else
+first-right zero b e = e
+first-right (suc a) b e = absurd (suc-ne-zero a e)
+
+first-given : (a b : ℕ) → (a ≡ 0 → ⊥) → or-else a b ≡ a
+unfolding or-else
+first-given zero b some = absurd (some refl)
+first-given (suc a) b some = refl
+
+pub first-none : (f : ℕ → ℕ) → first-number 0 f ≡ 0
+unfolding first-number
+first-none f = refl
+
+pub first-more : (n : ℕ) (f : ℕ → ℕ) → first-number n f ≡ 0 → f n ≡ 0 → first-number (n + 1) f ≡ 0
+unfolding first-number or-else
+first-more n f p q = rw (add-one n, p) q
+
+pub first-at : (n : ℕ) (f : ℕ → ℕ) → first-number n f ≡ 0 → (k : ℕ) → k < n → f k ≡ 0
+unfolding first-number
+first-at zero f e k h = absurd (not-suc-le-zero h)
+first-at (suc n) f e k h =
+    below-suc k n (f k ≡ 0) h (first-at n f (first-left (first-number n f) (f n) e) k)
+    (λ q. rw q (first-right (first-number n f) (f n) e))
+
+pub first-from : (n : ℕ) (f : ℕ → ℕ) → ((k : ℕ) → k < n → f k ≡ 0) → first-number n f ≡ 0
+unfolding first-number or-else
+first-from zero f h = refl
+first-from (suc n) f h = rw (first-from n f (λ k l. h k (omega arith))) (h n (omega arith))
+
+-- where a loop leaves: at a number that is not 0, or at the bound
+pub first-stops :
+    (n : ℕ) (f : ℕ → ℕ) (k number : ℕ) → first-number k f ≡ 0 → k < n → f k ≡ number → (number ≡ 0 → ⊥) → number ≡ first-number n f
+unfolding first-number or-else
+first-stops zero f k number e h at some = absurd (not-suc-le-zero h)
+first-stops (suc n) f k number e h at some =
+    below-suc k n (number ≡ first-number (suc n) f) h
+    (λ l.
+    let before = first-stops n f k number e l at some in
+    before ∙ sym (first-given (first-number n f) (f n) (λ z. some (before ∙ z))))
+    (λ q.
+    let none : first-number n f ≡ 0 = rw q at e in
+    let here : f n ≡ number = rw q at at in
+    sym (rw none here))
+
+pub first-ends : (n : ℕ) (f : ℕ → ℕ) (k : ℕ) → k ≤ n → n ≤ k → first-number k f ≡ 0 → 0 ≡ first-number n f
+first-ends n f k p q e =
     let same : k ≡ n = omega arith in
     sym (rw same at e)
 

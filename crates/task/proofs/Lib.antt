@@ -18,4 +18,6 @@ pub mod KindNumbers
 pub mod Cleared
 pub mod Sixteen
 pub mod Runs
+pub mod Charges
+pub mod Own
 pub mod RowParts

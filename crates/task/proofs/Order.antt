@@ -1,10 +1,17 @@
 -- The numbers in order: one law for each way out of the check. Each takes the tests before it as passed. Assumes nothing.
-use Prim.Native.Nat.{ℕ}
-use mathlib.Core.Path.{_≡_, refl, sym, _∙_}
-use mathlib.Core.Bool.{Bool, true, false, not}
+use Prim.Native.Nat.{ℕ, zero, suc}
+use mathlib.Core.Path.{_≡_, refl, sym, ap, _∙_}
+use mathlib.Core.Bool.{Bool, true, false, not, _&&_}
 use borrow.Author.Tests.{not-true, not-false}
+use Rattle.task.specs.Bounded.{every, or-else, first-number}
 use Rattle.task.specs.Table.{Lent}
-use Rattle.task.specs.Check.{counts-kept, goal-kept, long-enough, initial-kept, twins-kept, formulas-kept, effects-kept, operators-kept, refusal}
+use Rattle.task.specs.Check.{counts-kept, goal-kept, long-enough, initial-kept, twins-kept, formulas-kept, effects-kept, operators-number, unless, refusal}
+use Rattle.task.proofs.RowRules.{passes}
+
+-- a number that is not 0 is given for a test that fails
+broken : (b : Bool) (number : ℕ) {n : ℕ} → n ≡ unless b number 0 → (n ≡ 0 → ⊥) → b ≡ false
+broken true number e some = absurd (some e)
+broken false number e some = refl
 
 module _ (l : Lent) where
   pub refused-6 : counts-kept (l .head) ≡ false → 6 ≡ refusal l
@@ -30,34 +37,35 @@ module _ (l : Lent) (a : counts-kept (l .head) ≡ true) (b : goal-kept (l .head
   unfolding refusal
   refused-9 d e = rw (a, b, c, d, e)
 
-  pub refused-10 : initial-kept l ≡ true → twins-kept l ≡ true → formulas-kept l ≡ false → 10 ≡ refusal l
-  unfolding refusal
-  refused-10 d e f = rw (a, b, c, d, e, f)
+  -- from here on each table has a number of its own, the first of its rows'
+  module _ (d : initial-kept l ≡ true) (e : twins-kept l ≡ true) where
+    pub refused-10 : {n : ℕ} → n ≡ unless (formulas-kept l) 10 0 → (n ≡ 0 → ⊥) → n ≡ refusal l
+    unfolding refusal
+    refused-10 is some = is ∙ rw (a, b, c, d, e, broken (formulas-kept l) 10 is some)
 
-  pub refused-11 :
-      initial-kept l ≡ true → twins-kept l ≡ true → formulas-kept l ≡ true → effects-kept l ≡ false → 11 ≡ refusal l
-  unfolding refusal
-  refused-11 d e f g = rw (a, b, c, d, e, f, g)
+    module _ {m : ℕ} (f : m ≡ unless (formulas-kept l) 10 0) (none : m ≡ 0) where
+      pub refused-11 : {n : ℕ} → n ≡ unless (effects-kept l) 11 0 → (n ≡ 0 → ⊥) → n ≡ refusal l
+      unfolding refusal
+      refused-11 is some = is ∙ rw (a, b, c, d, e, passes (formulas-kept l) 9 0 (sym f ∙ none), broken (effects-kept l) 11 is some)
 
-  pub refused-12 :
-      initial-kept l ≡ true
-      → twins-kept l ≡ true
-      → formulas-kept l ≡ true
-      → effects-kept l ≡ true
-      → operators-kept l ≡ false
-      → 12 ≡ refusal l
-  unfolding refusal
-  refused-12 d e f g h = rw (a, b, c, d, e, f, g, h)
+      pub refused-12 :
+          {k n : ℕ} → k ≡ unless (effects-kept l) 11 0 → k ≡ 0 → n ≡ operators-number l → n ≡ refusal l
+      unfolding refusal
+      refused-12 g free is =
+          is ∙ rw (a, b, c, d, e, passes (formulas-kept l) 9 0 (sym f ∙ none), passes (effects-kept l) 10 0 (sym g ∙ free))
 
-  pub accepted :
-      initial-kept l ≡ true
-      → twins-kept l ≡ true
-      → formulas-kept l ≡ true
-      → effects-kept l ≡ true
-      → operators-kept l ≡ true
-      → 0 ≡ refusal l
-  unfolding refusal
-  accepted d e f g h = rw (a, b, c, d, e, f, g, h)
+-- the rows of a table of one number
+pub rows-one : (n : ℕ) (test : ℕ → Bool) (number : ℕ) → first-number n (λ i. unless (test i) number 0) ≡ unless (every n test) number 0
+unfolding first-number every or-else
+rows-one zero test number = refl
+rows-one (suc n) test number =
+    ap (λ (x : ℕ). or-else x (unless (test n) number 0)) (rows-one n test number) ∙ go (every n test) (test n) number
+  where
+    go : (a b : Bool) (number : ℕ) → or-else (unless a number 0) (unless b number 0) ≡ unless (a && b) number 0
+    go true b number = refl
+    go false true zero = refl
+    go false false zero = refl
+    go false b (suc number) = refl
 
 -- a test of the code, `if !r`, said of what r is equal to
 pub failed : {r t : Bool} → r ≡ t → not r ≡ true → t ≡ false

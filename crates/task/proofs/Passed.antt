@@ -1,6 +1,5 @@
 -- `refusal` gives 0 exactly if each of its tests passes; and what each test says of the lent words.
 use Prim.Native.Nat.{ℕ, suc, _+_, _-_, _*_, _≤_, _<_}
-use native.Mathlib.Nat.{suc-ne-zero}
 use mathlib.Core.Path.{_≡_, refl, ap}
 use mathlib.Core.Logic.{_↔_}
 use mathlib.Core.List.{List}
@@ -11,10 +10,10 @@ use borrow.Author.Tests.{leb-true, ltb-true, eqb-false, not-true, le-leb, lt-ltb
 use Rattle.task.specs.declared.Head.{Head}
 use Rattle.task.specs.Bounded.{every}
 use Rattle.task.specs.Table.{Lent, operator-width, row-at, operator-at, formula-kind, effect-kind}
-use Rattle.task.specs.Check.{Lengths, lengths-of, counts-kept, goal-kept, long-enough, room, initial-kept, twin-kept, twins-kept, formula-kept, formulas-kept, effect-kept, effects-kept, operator-kept, operators-kept, unless, refusal}
+use Rattle.task.specs.Check.{Lengths, lengths-of, counts-kept, goal-kept, long-enough, room, initial-kept, twin-kept, twins-kept, formula-kept, formulas-kept, effect-kept, effects-kept, operator-number, operators-number, unless, refusal}
 use Rattle.task.specs.Rules.{Counts, TwinRule, RoomFor, LongEnough, FormulaRule, EffectRule, OperatorRule}
-use Rattle.task.proofs.Bounded.{and-left, and-right, and-both, every-at, every-from}
-use Rattle.task.proofs.RowRules.{formula-told, formula-passes, effect-told, effect-passes, operator-told, operator-passes}
+use Rattle.task.proofs.Bounded.{and-left, and-right, and-both, every-at, every-from, first-at, first-from}
+use Rattle.task.proofs.RowRules.{formula-told, formula-passes, effect-told, effect-passes, passes, rest-of, operator-told, operator-passes}
 
 -- Each test of `refusal` passes.
 pub record Passed (l : Lent) : Type 0 where
@@ -25,21 +24,12 @@ pub record Passed (l : Lent) : Type 0 where
   pub twins : twins-kept l ≡ true
   pub formulas : formulas-kept l ≡ true
   pub effects : effects-kept l ≡ true
-  pub operators : operators-kept l ≡ true
-
--- a test passes whose number, not 0, is not given; and so the rest is
-passes : (b : Bool) (number rest : ℕ) → unless b (suc number) rest ≡ 0 → b ≡ true
-passes true number rest e = refl
-passes false number rest e = absurd (suc-ne-zero number e)
-
-rest-of : (b : Bool) (number rest : ℕ) → unless b (suc number) rest ≡ 0 → rest ≡ 0
-rest-of true number rest e = e
-rest-of false number rest e = absurd (suc-ne-zero number e)
+  pub operators : operators-number l ≡ 0
 
 pub passed : (l : Lent) → refusal l ≡ 0 → Passed l
 unfolding refusal
 passed l e =
-    let r12 = unless (operators-kept l) 12 0 in
+    let r12 = operators-number l in
     let r11 = unless (effects-kept l) 11 r12 in
     let r10 = unless (formulas-kept l) 10 r11 in
     let r9 = unless (twins-kept l) 9 r10 in
@@ -61,7 +51,7 @@ passed l e =
       twins = passes (twins-kept l) 8 r10 e9;
       formulas = passes (formulas-kept l) 9 r11 e10;
       effects = passes (effects-kept l) 10 r12 e11;
-      operators = passes (operators-kept l) 11 0 e12;
+      operators = e12;
     }
 
 pub not-refused : (l : Lent) → Passed l → refusal l ≡ 0
@@ -215,19 +205,19 @@ module _ (l : Lent) where
       test i = effect-kept (l .head .variables) (l .head .formulas) i (row-at (l .effects) i)
 
   pub operators-tested :
-      operators-kept l ≡ true
+      operators-number l ≡ 0
       ↔ ((i : ℕ)
       → i < l .head .operators
       → OperatorRule (l .head .formulas) (l .head .effects) (operator-at (l .operators) i))
-  unfolding operators-kept
+  unfolding operators-number
   operators-tested = (
     λ e i h.
         operator-told (l .head .formulas) (l .head .effects) (operator-at (l .operators) i)
-        (every-at (l .head .operators) test e i h),
+        (first-at (l .head .operators) number e i h),
     λ rule.
-        every-from (l .head .operators) test (λ i h.
+        first-from (l .head .operators) number (λ i h.
         operator-passes (l .head .formulas) (l .head .effects) (operator-at (l .operators) i) (rule i h)),
   )
     where
-      test : ℕ → Bool
-      test i = operator-kept (l .head .formulas) (l .head .effects) (operator-at (l .operators) i)
+      number : ℕ → ℕ
+      number i = operator-number (l .head .formulas) (l .head .effects) (operator-at (l .operators) i)

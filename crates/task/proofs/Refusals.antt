@@ -1,5 +1,6 @@
 -- Laws of the check's definitions, one for each way out of the functions that are held to them. Assumes nothing.
 use Prim.Native.Nat.{ℕ, zero, suc, _+_, _-_, _*_, _/_, _≤_, _<_}
+use native.Mathlib.Nat.{mul-le-mul, mul-suc, mul-div-le, lt-mul-div-succ}
 use native.Mathlib.Omega.{arith}
 use mathlib.Core.Path.{_≡_, refl, sym, ap, _∙_}
 use mathlib.Core.Bool.{Bool, true, false, not, _&&_, and-false}
@@ -12,7 +13,7 @@ use Rattle.task.specs.declared.Head.{Head}
 use Rattle.task.specs.declared.Table.{Table}
 use Rattle.task.specs.declared.Table.the-variants.{Formulas, Effects, Operators}
 use Rattle.task.specs.Table.{Lent, operator-width, formula-kind, effect-kind, row-at, operator-at, row-part, part}
-use Rattle.task.specs.Inner.Tables.{words-at, words-kept, row-kept}
+use Rattle.task.specs.Inner.Tables.{words-at, words-number, row-number}
 use Rattle.task.specs.Check.{counts-kept, long-enough, room, twin-kept, formula-words-kept, effect-words-kept}
 use Rattle.task.proofs.Bounded.{and-both}
 use Rattle.task.specs.declared.TableRow.{TableRow}
@@ -119,14 +120,13 @@ module _ (v f i a b : ℕ) where
 
 -- a row of any of the three tables is tested by its words
 pub row-tested :
-    (t : Table) (h : Head) (words : List ℕ) (i : ℕ) {r : TableRow} {b : Bool}
+    (t : Table) (h : Head) (words : List ℕ) (i : ℕ) {r : TableRow} {n : ℕ}
     → r ≡ words-at t words i
-    → b ≡ words-kept t h i (r .first) (r .second) (r .third)
-    → row-kept t h words i ≡ b
-row-tested t h words i read tested =
-    sym (tested ∙ ap (λ (r : TableRow). words-kept t h i (r .first) (r .second) (r .third)) read ∙ same t)
+    → n ≡ words-number t h i r
+    → row-number t h words i ≡ n
+row-tested t h words i read tested = sym (tested ∙ ap (words-number t h i) read ∙ same t)
   where
-    same : (t : Table) → let r = words-at t words i in words-kept t h i (r .first) (r .second) (r .third) ≡ row-kept t h words i
+    same : (t : Table) → words-number t h i (words-at t words i) ≡ row-number t h words i
     same Formulas = unfold row-at in refl
     same Effects = unfold row-at in refl
     same Operators = unfold operator-at in refl
@@ -166,16 +166,27 @@ lengths-last l a b c d =
       le-leb (3 * l .head .effects) (length (l .effects)) d,
     )
 
+-- a row is inside a table that has so many, and outside of any other
+pub row-fits : (w l n : ℕ) → n < l / w → w * n + w ≤ l
+row-fits w l n h =
+    let a : w * (n + 1) ≤ w * (l / w) = mul-le-mul {n₁ = w} {m₁ = n + 1} {n₂ = w} {m₂ = l / w} (omega arith) (omega arith) in
+    omega (arith, mul-div-le l w, mul-suc w n)
+
+pub row-past : (w l n : ℕ) → 1 ≤ w → l / w ≤ n → l < w * n + w
+row-past w l n some h =
+    let a : w * (l / w + 1) ≤ w * (n + 1) = mul-le-mul {n₁ = w} {m₁ = l / w + 1} {n₂ = w} {m₂ = n + 1} (omega arith) (omega arith) in
+    omega (arith, lt-mul-div-succ l some, mul-suc w n)
+
 -- the part that a row is
 pub row-inside :
-    (words : List ℕ) (i : ℕ)
-    → i < length words / 3
-    → take (3 * i + 3 - 3 * i) (drop (3 * i) words) ≡ row-part words i
+    (w : ℕ) (words : List ℕ) (i : ℕ)
+    → w * i + w ≤ length words
+    → take (w * i + w - w * i) (drop (w * i) words) ≡ part w words i
 unfolding part
-row-inside words i h =
-    let three : 3 * i + 3 - 3 * i ≡ 3 = omega arith in
-    rw (le-leb (3 * i + 3) (length words) (omega arith), three)
+row-inside w words i h =
+    let wide : w * i + w - w * i ≡ w = omega arith in
+    rw (le-leb (w * i + w) (length words) h, wide)
 
-pub row-outside : (words : List ℕ) (i : ℕ) → length words / 3 ≤ i → [] ≡ row-part words i
+pub row-outside : (w : ℕ) (words : List ℕ) (i : ℕ) → length words < w * i + w → [] ≡ part w words i
 unfolding part
-row-outside words i h = rw (lt-leb (3 * i + 3) (length words) (omega arith))
+row-outside w words i h = rw (lt-leb (w * i + w) (length words) h)

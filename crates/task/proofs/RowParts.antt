@@ -1,4 +1,4 @@
--- A row on request: its three words, or the empty part where it is not wholly inside the table. Assumes nothing.
+-- A row on request, of any width: its words, or the empty part where it is not wholly inside the table. Assumes nothing.
 use Prim.Native.Nat.{ℕ, _+_, _*_, _≤_, _<_}
 use native.Mathlib.Omega.{arith}
 use mathlib.Core.Path.{_≡_, _∙_}
@@ -6,22 +6,22 @@ use mathlib.Core.List.{List, []}
 use lib.ListN.{length, getD, drop, length-drop}
 use lib.Seq.{length-take-le, getD-take, getD-drop}
 use borrow.Author.Tests.{le-leb, lt-leb}
-use Rattle.task.specs.Table.{row-part, part}
+use Rattle.task.specs.Table.{part}
 
-module _ (words : List ℕ) (i : ℕ) where
-  module _ (inside : 3 * i + 3 ≤ length words) where
-    pub row-length : length (row-part words i) ≡ 3
+module _ (w : ℕ) (words : List ℕ) (i : ℕ) where
+  module _ (inside : w * i + w ≤ length words) where
+    pub row-length : length (part w words i) ≡ w
     unfolding part
     row-length =
-        rw (le-leb (3 * i + 3) (length words) inside)
-        (length-take-le 3 (drop (3 * i) words) (omega (arith, length-drop (3 * i) words)))
+        rw (le-leb (w * i + w) (length words) inside)
+        (length-take-le w (drop (w * i) words) (omega (arith, length-drop (w * i) words)))
 
-    pub row-word : (k : ℕ) → k < 3 → getD (row-part words i) k 0 ≡ getD words (3 * i + k) 0
+    pub row-word : (k : ℕ) → k < w → getD (part w words i) k 0 ≡ getD words (w * i + k) 0
     unfolding part
     row-word k below =
-        rw (le-leb (3 * i + 3) (length words) inside)
-        (getD-take 3 (drop (3 * i) words) k 0 below ∙ getD-drop (3 * i) words k 0)
+        rw (le-leb (w * i + w) (length words) inside)
+        (getD-take w (drop (w * i) words) k 0 below ∙ getD-drop (w * i) words k 0)
 
-  pub no-part : length words < 3 * i + 3 → row-part words i ≡ []
+  pub no-part : length words < w * i + w → part w words i ≡ []
   unfolding part
-  no-part past = rw (lt-leb (3 * i + 3) (length words) past)
+  no-part past = rw (lt-leb (w * i + w) (length words) past)

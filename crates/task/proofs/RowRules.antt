@@ -1,11 +1,12 @@
 -- The test of one row passes exactly if the row keeps its rule.
-use Prim.Native.Nat.{ℕ, _<_}
-use mathlib.Core.Path.{_≡_}
-use mathlib.Core.Bool.{true, _&&_, false≢true}
-use lib.Dec.{ltb, eqb}
-use borrow.Author.Tests.{ltb-true, eqb-true, lt-ltb, eq-eqb}
+use Prim.Native.Nat.{ℕ, suc, _≤_, _<_}
+use native.Mathlib.Nat.{suc-ne-zero}
+use mathlib.Core.Path.{_≡_, refl}
+use mathlib.Core.Bool.{Bool, true, false, _&&_, false≢true}
+use lib.Dec.{leb, ltb, eqb}
+use borrow.Author.Tests.{leb-true, ltb-true, eqb-true, le-leb, lt-leb, lt-ltb, eq-eqb}
 use Rattle.task.specs.Table.{Operator, FormulaKind, false-kind, true-kind, variable-kind, not-kind, and-kind, or-kind, implies-kind, equivalent-kind, unknown-formula, EffectKind, empty-kind, set-kind, clear-kind, both-kind, under-kind, unknown-effect}
-use Rattle.task.specs.Check.{formula-words-kept, effect-words-kept, operator-kept}
+use Rattle.task.specs.Check.{unless, formula-words-kept, effect-words-kept, operator-kept, percent-kept, operator-number}
 use Rattle.task.specs.Rules.{FormulaRule, EffectRule, OperatorRule}
 use Rattle.task.proofs.Bounded.{and-left, and-right, and-both}
 
@@ -76,12 +77,39 @@ effect-passes v f i both-kind a b r = two-passes a i b i r
 effect-passes v f i under-kind a b r = two-passes a f b i r
 effect-passes v f i unknown-effect a b r = absurd r
 
-pub operator-told : (f e : ℕ) (o : Operator) → operator-kept f e o ≡ true → OperatorRule f e o
-unfolding operator-kept
-operator-told f e o t =
-    let both = two-told (o .precondition) f (o .effect) e t in
-    record { formula = both .0; changes = both .1 }
+-- a test passes whose number is not given, and so the rest is
+pub passes : (b : Bool) (number rest : ℕ) → unless b (suc number) rest ≡ 0 → b ≡ true
+passes true number rest e = refl
+passes false number rest e = absurd (suc-ne-zero number e)
 
-pub operator-passes : (f e : ℕ) (o : Operator) → OperatorRule f e o → operator-kept f e o ≡ true
-unfolding operator-kept
-operator-passes f e o r = two-passes (o .precondition) f (o .effect) e (r .formula, r .changes)
+pub rest-of : (b : Bool) (number rest : ℕ) → unless b (suc number) rest ≡ 0 → rest ≡ 0
+rest-of true number rest e = e
+rest-of false number rest e = absurd (suc-ne-zero number e)
+
+pub operator-told : (f e : ℕ) (o : Operator) → operator-number f e o ≡ 0 → OperatorRule f e o
+unfolding operator-number operator-kept percent-kept
+operator-told f e o t =
+    let right = ltb (o .precondition) f && ltb (o .effect) e in
+    let low = leb (o .percent) 200 in
+    let both = two-told (o .precondition) f (o .effect) e (passes right 11 (unless low 24 0) t) in
+    let percent = leb-true (o .percent) 200 (passes low 23 0 (rest-of right 11 (unless low 24 0) t)) in
+    record { formula = both .0; changes = both .1; percent = percent }
+
+pub operator-passes : (f e : ℕ) (o : Operator) → OperatorRule f e o → operator-number f e o ≡ 0
+unfolding operator-number operator-kept percent-kept
+operator-passes f e o r =
+    rw (two-passes (o .precondition) f (o .effect) e (r .formula, r .changes), le-leb (o .percent) 200 (r .percent)) refl
+
+-- the number of an operator, way by way
+module _ (f e : ℕ) (o : Operator) where
+  pub number-12 : operator-kept f e o ≡ false → 12 ≡ operator-number f e o
+  unfolding operator-number
+  number-12 a = rw a
+
+  pub number-24 : operator-kept f e o ≡ true → 200 < o .percent → 24 ≡ operator-number f e o
+  unfolding operator-number percent-kept
+  number-24 a h = rw (a, lt-leb (o .percent) 200 h)
+
+  pub number-none : operator-kept f e o ≡ true → o .percent ≤ 200 → 0 ≡ operator-number f e o
+  unfolding operator-number percent-kept
+  number-none a h = rw (a, le-leb (o .percent) 200 h)

@@ -12,15 +12,15 @@ use Rattle.task.specs.Table.{Task}
 use Rattle.task.specs.Rules.{no-operator}
 use Rattle.task.specs.Semantics.{Effect, sets, clears, holds, effcond, value-after, apply}
 use Rattle.task.specs.Tree.{formula-of}
-use Rattle.task.specs.Run.{operator-of, goal-holds, applicable, charge, Progress, after-step, Stop, ended, stopped, Run, answer, run-on, plain-run, unstopped, is-plan}
+use Rattle.task.specs.Run.{operator-of, goal-holds, applicable, charge-of, charge, Progress, after-step, Stop, ended, stopped, Run, answer, run-on, plain-run, unstopped, is-plan}
 use Rattle.task.proofs.Bounded.{length-upto, getD-upto}
 
 -- the precondition of operator o holds in state s
 abbrev pub permits : Task → List ℕ → ℕ → Bool
 permits t s o = holds s (formula-of (t .formulas) (getD (t .operators) o no-operator .precondition))
 
--- what a step costs is the cost in the operator's row
-pub charged : (t : Task) (s : List ℕ) (o : ℕ) → charge t s o ≡ getD (t .operators) o no-operator .cost
+-- what a step is charged is told by the operator's row
+pub charged : (t : Task) (s : List ℕ) (o : ℕ) → charge t s o ≡ charge-of (getD (t .operators) o no-operator)
 unfolding charge operator-of
 charged t s o = refl
 

@@ -97,6 +97,7 @@ rules-with-costs t c costs =
                   precondition = omega (arith, c .operator i h .formula, l .formulas);
                   effect = omega (arith, c .operator i h .changes, l .effects);
                   cost = omega (arith, costs i h);
+                  percent = omega (arith, c .operator i h .percent);
                 };
           };
       cost = costs;
@@ -141,6 +142,14 @@ three-small a b c (suc zero) p q r h = q
 three-small a b c (suc (suc zero)) p q r h = r
 three-small a b c (suc (suc (suc k))) p q r h = absurd (omega arith)
 
+four-small :
+    (a b c d k : ℕ) → a < word-limit → b < word-limit → c < word-limit → d < word-limit → k < 4 → getD (a ∷ b ∷ c ∷ d ∷ []) k 0 < word-limit
+four-small a b c d zero p q r s h = p
+four-small a b c d (suc zero) p q r s h = q
+four-small a b c d (suc (suc zero)) p q r s h = r
+four-small a b c d (suc (suc (suc zero))) p q r s h = s
+four-small a b c d (suc (suc (suc (suc k)))) p q r s h = absurd (omega arith)
+
 rows-small :
     (rows : List Row)
     → ((i : ℕ) → i < length rows → RowWords (getD rows i no-row))
@@ -163,7 +172,7 @@ unfolding operator-words operator-row-words
 operators-small operators small =
     joined-each operator-row-words no-operator operators (λ i h k b.
     let o = getD operators i no-operator in
-    three-small (o .precondition) (o .effect) (o .cost) k (small i h .precondition) (small i h .effect) (small i h .cost) b)
+    four-small (o .precondition) (o .effect) (o .cost) (o .percent) k (small i h .precondition) (small i h .effect) (small i h .cost) (small i h .percent) b)
 
 -- the words of a task's tables can be lent
 pub words-lent : (t : Task) → Rules t → LentWords (lent-of t)

@@ -1,6 +1,6 @@
 -- The words of a table are read back as its rows, whatever stands behind them; so a task that is lent is the task that its tables hold.
 use Prim.Native.Nat.{ℕ, zero, suc, _+_, _*_, _<_}
-use native.Mathlib.Nat.{not-suc-le-zero}
+use native.Mathlib.Nat.{not-suc-le-zero, mul-zero, mul-suc}
 use native.Mathlib.Omega.{arith}
 use mathlib.Core.Path.{_≡_, refl, sym, ap, _∙_}
 use mathlib.Core.List.{List, [], _∷_, _++_, append-assoc, append-nil}
@@ -20,47 +20,48 @@ unfolding joined
 joined-append f [] ys = refl
 joined-append f (x ∷ xs) ys = rw (joined-append f xs ys) (sym (append-assoc (f x) (joined f xs) (joined f ys)))
 
--- Rows of three words.
-module _ {A : Type 0} (f : A → List ℕ) (three : (x : A) → length (f x) ≡ 3) where
-  length-joined : (xs : List A) → length (joined f xs) ≡ 3 * length xs
+-- Rows of w words.
+module _ {A : Type 0} (f : A → List ℕ) (w : ℕ) (wide : (x : A) → length (f x) ≡ w) where
+  length-joined : (xs : List A) → length (joined f xs) ≡ w * length xs
   unfolding joined
-  length-joined [] = refl
-  length-joined (x ∷ xs) = length-append (f x) (joined f xs) ∙ omega (arith, three x, length-joined xs)
+  length-joined [] = omega (arith, mul-zero w)
+  length-joined (x ∷ xs) = length-append (f x) (joined f xs) ∙ omega (arith, wide x, length-joined xs, mul-suc w (length xs))
 
   joined-at :
       (xs : List A) (tail : List ℕ) (d : A) (i k n : ℕ)
       → i < length xs
-      → k < 3
-      → n ≡ 3 * i + k
+      → k < w
+      → n ≡ w * i + k
       → getD (joined f xs ++ tail) n 0 ≡ getD (f (getD xs i d)) k 0
   unfolding joined
   joined-at [] tail d i k n h b e = absurd (not-suc-le-zero h)
   joined-at (x ∷ xs) tail d zero k n h b e =
-      let here : n ≡ k = omega arith in
+      let here : n ≡ k = omega (arith, mul-zero w) in
       rw (append-assoc (f x) (joined f xs) tail, here)
-      (List·getD-append (f x) (joined f xs ++ tail) 0 k (omega (arith, three x)))
+      (List·getD-append (f x) (joined f xs ++ tail) 0 k (omega (arith, wide x)))
   joined-at (x ∷ xs) tail d (suc i) k n h b e =
-      let behind : n ≡ length (f x) + (3 * i + k) = omega (arith, three x) in
+      let behind : n ≡ length (f x) + (w * i + k) = omega (arith, wide x, mul-suc w i) in
       rw (append-assoc (f x) (joined f xs) tail, behind)
-      (getD-append-add (f x) (joined f xs ++ tail) (3 * i + k) 0
-      ∙ joined-at xs tail d i k (3 * i + k) (omega arith) b refl)
+      (getD-append-add (f x) (joined f xs ++ tail) (w * i + k) 0
+      ∙ joined-at xs tail d i k (w * i + k) (omega arith) b refl)
 
 pub length-words : (rows : List Row) → length (words-of rows) ≡ 3 * length rows
 unfolding words-of row-words
-length-words rows = length-joined row-words (λ r. refl) rows
+length-words rows = length-joined row-words 3 (λ r. refl) rows
 
 pub length-operator-words : (operators : List Operator) → length (operator-words operators) ≡ operator-width * length operators
 unfolding operator-words operator-row-words
-length-operator-words operators = length-joined operator-row-words (λ o. refl) operators
+length-operator-words operators = length-joined operator-row-words operator-width (λ o. refl) operators
 
 -- an operator is what its words say
-pub operator-by-words : {p e c : ℕ} (o : Operator) → operator-row-words o ≡ p ∷ e ∷ c ∷ [] → o ≡ operator p e c
+pub operator-by-words : {p e c r : ℕ} (o : Operator) → operator-row-words o ≡ p ∷ e ∷ c ∷ r ∷ [] → o ≡ operator p e c r
 unfolding operator-row-words
-operator-by-words {p} {e} {c} o q =
+operator-by-words {p} {e} {c} {r} o q =
     let a : o .precondition ≡ p = cc in
     let b : o .effect ≡ e = cc in
     let d : o .cost ≡ c = cc in
-    λ j. operator (a j) (b j) (d j)
+    let f : o .percent ≡ r = cc in
+    λ j. operator (a j) (b j) (d j) (f j)
 
 pub words-append : (rows more : List Row) → words-of (rows ++ more) ≡ words-of rows ++ words-of more
 unfolding words-of
@@ -80,9 +81,9 @@ unfolding row-at words-of row-words
 row-read rows tail i h =
     λ j.
     record {
-      kind = joined-at row-words (λ r. refl) rows tail no-row i 0 (3 * i) h (omega arith) (omega arith) j;
-      a = joined-at row-words (λ r. refl) rows tail no-row i 1 (3 * i + 1) h (omega arith) refl j;
-      b = joined-at row-words (λ r. refl) rows tail no-row i 2 (3 * i + 2) h (omega arith) refl j;
+      kind = joined-at row-words 3 (λ r. refl) rows tail no-row i 0 (3 * i) h (omega arith) (omega arith) j;
+      a = joined-at row-words 3 (λ r. refl) rows tail no-row i 1 (3 * i + 1) h (omega arith) refl j;
+      b = joined-at row-words 3 (λ r. refl) rows tail no-row i 2 (3 * i + 2) h (omega arith) refl j;
     }
 
 pub operator-read :
@@ -96,6 +97,7 @@ operator-read operators tail i h =
       precondition = word 0 at (omega arith) (omega arith) j;
       effect = word 1 (at + 1) (omega arith) refl j;
       cost = word 2 (at + 2) (omega arith) refl j;
+      percent = word 3 (at + 3) (omega arith) refl j;
     }
   where
     at : ℕ
@@ -106,7 +108,7 @@ operator-read operators tail i h =
         → k < operator-width
         → n ≡ at + k
         → getD (operator-words operators ++ tail) n 0 ≡ getD (operator-row-words (getD operators i no-operator)) k 0
-    word k n b e = unfold operator-words operator-row-words in joined-at operator-row-words (λ o. refl) operators tail no-operator i k n h b e
+    word k n b e = unfold operator-words operator-row-words in joined-at operator-row-words operator-width (λ o. refl) operators tail no-operator i k n h b e
 
 -- a list is made again from its elements
 upto-getD : {A : Type 0} (xs : List A) (f : ℕ → A) (d : A) → ((i : ℕ) → i < length xs → f i ≡ getD xs i d) → upto (length xs) f ≡ xs

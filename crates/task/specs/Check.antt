@@ -5,8 +5,13 @@ use mathlib.Core.List.{List}
 use lib.ListN.{length, getD}
 use lib.Dec.{leb, ltb, eqb}
 use Rattle.task.specs.declared.Head.{Head}
-use Rattle.task.specs.Bounded.{every}
+use Rattle.task.specs.Bounded.{every, first-number}
 use Rattle.task.specs.Table.{Row, Operator, Lent, operator-width, row-at, operator-at, FormulaKind, false-kind, true-kind, variable-kind, not-kind, and-kind, or-kind, implies-kind, equivalent-kind, unknown-formula, formula-kind, EffectKind, empty-kind, set-kind, clear-kind, both-kind, under-kind, unknown-effect, effect-kind}
+
+-- the number, unless the rule is kept
+abbrev pub unless : Bool → ℕ → ℕ → ℕ
+unless true number rest = rest
+unless false number rest = number
 
 -- 6: V 512, F 1 to 4,096, E 4,096, O 256, W at most V − W. Over the integers: with V 0 and W 1, V − W in machine words would wrap and pass.
 unfoldable pub counts-kept : Head → Bool
@@ -99,9 +104,19 @@ effects-kept l =
 unfoldable pub operator-kept : (f e : ℕ) → Operator → Bool
 operator-kept f e o = ltb (o .precondition) f && ltb (o .effect) e
 
-unfoldable pub operators-kept : Lent → Bool
-operators-kept l =
-    every (l .head .operators) (λ i. operator-kept (l .head .formulas) (l .head .effects) (operator-at (l .operators) i))
+-- 24 (02, K2): a percent above 200. 0 and 200 pass.
+unfoldable pub percent-kept : Operator → Bool
+percent-kept o = leb (o .percent) 200
+
+-- 12, then 24: a row that breaks both rules gives 12
+unfoldable pub operator-number : (f e : ℕ) → Operator → ℕ
+operator-number f e o = unless (operator-kept f e o) 12 (unless (percent-kept o) 24 0)
+
+-- row by row: 24 in row 0 comes before 12 in row 1. With all rows looked at for 12 first, that task would give 12.
+unfoldable pub operators-number : Lent → ℕ
+operators-number l =
+    first-number (l .head .operators)
+    (λ i. operator-number (l .head .formulas) (l .head .effects) (operator-at (l .operators) i))
 
 -- 16, over v variables: a byte a variable, 0 or 1. Over V 1 the states [], [0, 0] and [2] are refused; tables may be longer than their counts, a state
 -- may not.
@@ -112,11 +127,6 @@ state-kept v s = eqb (length s) v && every (length s) (λ v. leb (getD s v 0) 1)
 unfoldable pub sequence-kept : List ℕ → Bool
 sequence-kept numbers = leb (length numbers) 65535
 
--- the number, unless the rule is kept
-abbrev pub unless : Bool → ℕ → ℕ → ℕ
-unless true number rest = rest
-unless false number rest = number
-
 unfoldable pub refusal : Lent → ℕ
 refusal l =
     unless (counts-kept (l .head)) 6
@@ -124,4 +134,4 @@ refusal l =
     (unless (long-enough l) 5
     (unless (initial-kept l) 8
     (unless (twins-kept l) 9
-    (unless (formulas-kept l) 10 (unless (effects-kept l) 11 (unless (operators-kept l) 12 0)))))))
+    (unless (formulas-kept l) 10 (unless (effects-kept l) 11 (operators-number l)))))))

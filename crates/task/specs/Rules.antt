@@ -12,7 +12,7 @@ abbrev pub no-row : Row
 no-row = record { kind = 0; a = 0; b = 0 }
 
 abbrev pub no-operator : Operator
-no-operator = operator 0 0 0
+no-operator = operator 0 0 0 0
 
 -- Row i of the formulas over v variables: its kind, a and b. An unused word is 0; a formula that is named has a lower number.
 abbrev pub FormulaRule : (v i : ℕ) → FormulaKind → (a b : ℕ) → Type 0
@@ -38,6 +38,7 @@ EffectRule v f i unknown-effect a b = ⊥
 pub record OperatorRule (f e : ℕ) (o : Operator) : Type 0 where
   pub formula : o .precondition < f
   pub changes : o .effect < e
+  pub percent : o .percent ≤ 200
 
 -- Limits: V 512, W at most V − W, F 1 to 4,096, E 4,096, O 256.
 pub record WithinLimits (v w f e o : ℕ) : Type 0 where
@@ -62,7 +63,7 @@ pub record TwinRule (bound : ℕ) (twins : List ℕ) (k : ℕ) : Type 0 where
   pub below : getD twins k 0 < bound
   pub once : (j : ℕ) → j < k → getD twins j 0 ≡ getD twins k 0 → ⊥
 
--- The rules that a number tells, 6 to 12: what the check looks at.
+-- The rules that a number tells, 6 to 12 and 24: what the check looks at.
 pub record Checked (t : Task) : Type 0 where
   pub limits : Limits t
   pub goal-is-formula : t .goal < length (t .formulas)
@@ -97,6 +98,7 @@ pub record OperatorWords (o : Operator) : Type 0 where
   pub precondition : o .precondition < word-limit
   pub effect : o .effect < word-limit
   pub cost : o .cost < word-limit
+  pub percent : o .percent < word-limit
 
 pub record TaskWords (t : Task) : Type 0 where
   pub original : (k : ℕ) → k < length (t .originals) → getD (t .originals) k 0 < word-limit

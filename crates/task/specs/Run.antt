@@ -1,5 +1,5 @@
 -- Steps and the plain run (01, "Stepping and running").
-use Prim.Native.Nat.{ℕ, _+_}
+use Prim.Native.Nat.{ℕ, _+_, _*_, _/_}
 use mathlib.Core.Bool.{Bool, true, false, cond, _&&_}
 use mathlib.Core.List.{List, [], _∷_}
 use lib.ListN.{length, getD}
@@ -24,9 +24,13 @@ unfoldable pub applicable : Task → List ℕ → ℕ → Bool
 applicable t s o =
     ltb o (length (t .operators)) && holds s (formula-of (t .formulas) (operator-of t o .precondition))
 
--- what operator o is charged when it is carried out in state s: its cost
+-- what an operator is charged (02, K2): cost × percent / 100 to the nearest whole, a half upwards. Rounded down, cost 1 at 50 percent would be 0.
+unfoldable pub charge-of : Operator → ℕ
+charge-of o = (o .cost * o .percent + 50) / 100
+
+-- what operator o is charged when it is carried out in state s
 unfoldable pub charge : Task → List ℕ → ℕ → ℕ
-charge t s o = operator-of t o .cost
+charge t s o = charge-of (operator-of t o)
 
 -- what the plain run holds: the state, the steps done and the cost, unbounded
 pub record Progress : Type 0 where

@@ -39,22 +39,23 @@ pub data EffectKind : Type 0 where
 unfoldable pub effect-kind : ℕ → EffectKind
 effect-kind n = getD (empty-kind ∷ set-kind ∷ clear-kind ∷ both-kind ∷ under-kind ∷ []) n unknown-effect
 
--- An operator's row: three words.
+-- An operator's row: four words (02, K2).
 pub record Operator : Type 0 where
   pub precondition : ℕ
   pub effect : ℕ
   pub cost : ℕ
+  pub percent : ℕ
 
 abbrev pub operator-width : ℕ
-operator-width = 3
+operator-width = 4
 
 -- the operator whose row has these words, in their order
-abbrev pub operator : (precondition effect cost : ℕ) → Operator
-operator p e c = record { precondition = p; effect = e; cost = c }
+abbrev pub operator : (precondition effect cost percent : ℕ) → Operator
+operator p e c r = record { precondition = p; effect = e; cost = c; percent = r }
 
--- the same operator with another precondition and effect: cost is kept
+-- the same operator with another precondition and effect: cost and percent are kept
 abbrev pub with-parts : Operator → (precondition effect : ℕ) → Operator
-with-parts o p e = record { precondition = p; effect = e; cost = o .cost }
+with-parts o p e = record { precondition = p; effect = e; cost = o .cost; percent = o .percent }
 
 -- What a caller lends: the head, and for each table at least as many words (of the initial state: bytes) as the head counts.
 pub record Lent : Type 0 where
@@ -82,14 +83,17 @@ row-at words i = record { kind = getD words (3 * i) 0; a = getD words (3 * i + 1
 unfoldable pub operator-at : List ℕ → ℕ → Operator
 operator-at words i =
     let at = operator-width * i in
-    operator (getD words at 0) (getD words (at + 1) 0) (getD words (at + 2) 0)
+    operator (getD words at 0) (getD words (at + 1) 0) (getD words (at + 2) 0) (getD words (at + 3) 0)
 
--- A row on request: that part of the lent table, three words; where the row is not wholly inside it, the empty part. Only the range is looked at.
+-- A row on request: that part of the lent table, its words; where the row is not wholly inside it, the empty part. Only the range is looked at.
 unfoldable pub part : (width : ℕ) → List ℕ → ℕ → List ℕ
 part width words i = cond (leb (width * i + width) (length words)) (take width (drop (width * i) words)) []
 
 abbrev pub row-part : List ℕ → ℕ → List ℕ
 row-part words i = part 3 words i
+
+abbrev pub operator-part : List ℕ → ℕ → List ℕ
+operator-part words i = part operator-width words i
 
 -- what a call on tables is lent, from its arguments
 abbrev pub lent : Head → (initial twins formulas effects operators : List ℕ) → Lent

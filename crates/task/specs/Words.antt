@@ -18,9 +18,9 @@ padded n words = words ++ replicate (n - length words) 0
 unfoldable pub row-words : Row → List ℕ
 row-words r = r .kind ∷ r .a ∷ r .b ∷ []
 
--- an operator's row: its three words
+-- an operator's row: its four words
 unfoldable pub operator-row-words : Operator → List ℕ
-operator-row-words o = o .precondition ∷ o .effect ∷ o .cost ∷ []
+operator-row-words o = o .precondition ∷ o .effect ∷ o .cost ∷ o .percent ∷ []
 
 -- a table of formulas or of effects, flat
 unfoldable pub words-of : List Row → List ℕ

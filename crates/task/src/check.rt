@@ -3,12 +3,16 @@ ghost use Prim.Native.Nat.{ℕ, _*_, _≤_};
 ghost use mathlib.Core.Path.{_≡_};
 ghost use lib.ListN.{length, getD};
 ghost use lib.Dec.{leb};
-ghost use Rattle.task.specs.Bounded.{every};
+ghost use Rattle.task.specs.Bounded.{every, first-number};
 ghost use Rattle.task.specs.Table.{lent};
-ghost use Rattle.task.specs.Check.{twin-kept, refusal};
-ghost use Rattle.task.specs.Inner.Tables.{width, words-kept, row-kept};
+ghost use Rattle.task.specs.Check.{twin-kept, unless as unless-kept, refusal};
+ghost use Rattle.task.specs.Inner.Tables.{width, words-number, row-number};
 use crate::Head;
 use crate::Table;
+use crate::TableRow;
+use crate::rows::effect_kept;
+use crate::rows::formula_kept;
+use crate::rows::operator_number;
 use crate::table_rows::row_at;
 
 // Whether every byte is 0 or 1. Linear.
@@ -55,39 +59,54 @@ fn twins_kept(twins: &[u16], count: usize, bound: usize) -> bool
     true
 }
 
-// Whether row i of a table keeps its rule. Constant time.
-pub fn row_kept(table: Table, head: Head, i: usize, first: u16, second: u16, third: u16) -> bool
-    ensures { λ r. ⌜ r ≡ words-kept table head i first second third ⌝ }
+// The number, unless the rule is kept.
+fn unless(kept: bool, number: u16) -> u16
+    ensures { λ r. ⌜ r ≡ unless-kept kept number 0 ⌝ }
+{
+    if kept { 0 } else { number }
+}
+
+// The number of row i of a table: 0, or that of the rule which it breaks. Constant time.
+fn row_number(table: Table, head: Head, i: usize, row: TableRow) -> u16
+    ensures { λ r. ⌜ r ≡ words-number table head i row ⌝ }
 {
     let variables = head.variables as usize;
     let formulas = head.formulas as usize;
     match table {
-        Table::Formulas => crate::rows::formula_kept(variables, i, first, second, third),
-        Table::Effects => crate::rows::effect_kept(variables, formulas, i, first, second, third),
-        Table::Operators => crate::rows::operator_kept(
+        Table::Formulas => unless(
+            formula_kept(variables, i, row.first, row.second, row.third),
+            10,
+        ),
+        Table::Effects => unless(
+            effect_kept(variables, formulas, i, row.first, row.second, row.third),
+            11,
+        ),
+        Table::Operators => operator_number(
             formulas,
             head.effects as usize,
-            first,
-            second,
-            third,
+            row.first,
+            row.second,
+            row.third,
+            row.fourth,
         ),
     }
 }
 
-// Whether the first `count` rows of a table keep their rule. Linear.
-fn rows_kept(table: Table, head: Head, words: &[u16], count: usize) -> bool
+// The first number among the first `count` rows of a table, 0 if all keep their rule. Linear.
+fn rows_number(table: Table, head: Head, words: &[u16], count: usize) -> u16
     requires { ⌜ width table * count ≤ length (now words) ⌝ }
-    ensures { λ r. ⌜ r ≡ every count (row-kept table head (now (words .entry))) ⌝ }
+    ensures { λ r. ⌜ r ≡ first-number count (row-number table head (now (words .entry))) ⌝ }
 {
     let mut i = 0;
     while i < count {
         let row = row_at(table, words, i);
-        if !row_kept(table, head, i, row.first, row.second, row.third) {
-            return false;
+        let number = row_number(table, head, i, row);
+        if number != 0 {
+            return number;
         }
         i += 1;
     }
-    true
+    0
 }
 
 // The check of a head's six numbers and the tables. A struct is copied from memory where it comes in: small tasks would wait for that.
@@ -133,19 +152,18 @@ fn check_numbers(
     ) {
         return 9;
     }
-    if !rows_kept(Table::Formulas, head, formulas, head.formulas as usize) {
-        return 10;
+    let formula = rows_number(Table::Formulas, head, formulas, head.formulas as usize);
+    if formula != 0 {
+        return formula;
     }
-    if !rows_kept(Table::Effects, head, effects, head.effects as usize) {
-        return 11;
+    let effect = rows_number(Table::Effects, head, effects, head.effects as usize);
+    if effect != 0 {
+        return effect;
     }
-    if !rows_kept(Table::Operators, head, operators, head.operators as usize) {
-        return 12;
-    }
-    0
+    rows_number(Table::Operators, head, operators, head.operators as usize)
 }
 
-// 0, or the first number in order: 6, 7, 5, 8, 9, 10, 11, 12. Nothing is written. Linear in the counts.
+// 0, or the first number in order: 6, 7, 5, 8, 9, 10, 11, and row by row 12, 24. Nothing is written. Linear in the counts.
 pub fn check(
     head: Head,
     initial: &[u8],

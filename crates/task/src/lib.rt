@@ -25,11 +25,12 @@ pub enum Table {
     Operators,
 }
 
-// The words of a row, in their order.
+// The words of a row, in their order; a row of three has 0 behind them.
 pub struct TableRow {
     pub first: u16,
     pub second: u16,
     pub third: u16,
+    pub fourth: u16,
 }
 
 pub const MOST_VARIABLES: u16 = 512;
@@ -39,3 +40,8 @@ pub const MOST_FORMULAS: u16 = 4096;
 pub const MOST_EFFECTS: u16 = 4096;
 
 pub const MOST_OPERATORS: u16 = 256;
+
+pub const MOST_PERCENT: u16 = 200;
+
+// What an absent percent of a file means.
+pub const DEFAULT_PERCENT: u16 = 100;

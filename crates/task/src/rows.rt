@@ -1,21 +1,39 @@
-// Rows of three words: the part of a table that a row is, and the rule that a row keeps.
+// The part of a table that a row is, and the rule that a row keeps.
+ghost use Prim.Native.Nat.{_≤_};
 ghost use mathlib.Core.Path.{_≡_};
 ghost use mathlib.Core.Bool.{_&&_};
-ghost use Rattle.task.specs.Table.{operator, row-part, formula-kind, effect-kind};
-ghost use Rattle.task.specs.Check.{formula-words-kept, effect-words-kept, operator-kept};
+ghost use Rattle.task.specs.Table.{operator, part as row-words-part, row-part, operator-part, formula-kind, effect-kind};
+ghost use Rattle.task.specs.Check.{formula-words-kept, effect-words-kept, operator-kept, operator-number};
+use crate::MOST_PERCENT;
+use crate::operator_rows::OPERATOR_WORDS;
 
-// Row `number` as that part of the caller's table, or the empty part where the table does not hold all of it. Every number is fine.
-// Constant time; nothing is copied.
-pub fn row(table: &[u16], number: usize) -> &[u16]
-    ensures { λ r. ⌜ now r ≡ row-part (now (table .entry)) number ⌝ }
+// Row `number` of a table of rows so wide, as that part of the table, or the empty part where the table does not hold all of it. Constant time, as
+// are the two below; nothing is copied.
+fn part(table: &[u16], width: usize, number: usize) -> &[u16]
+    requires { ⌜ 1 ≤ width ⌝ }
+    ensures { λ r. ⌜ now r ≡ row-words-part width (now (table .entry)) number ⌝ }
 {
-    if number < table.len() / 3 {
-        let start = 3 * number;
-        let end = start + 3;
+    if number < table.len() / width {
+        let start = width * number;
+        let end = start + width;
         &table[start..end]
     } else {
         &table[0..0]
     }
+}
+
+// A formula's or an effect's row on request. Every number is fine.
+pub fn row(table: &[u16], number: usize) -> &[u16]
+    ensures { λ r. ⌜ now r ≡ row-part (now (table .entry)) number ⌝ }
+{
+    part(table, 3, number)
+}
+
+// An operator's row on request. Every number is fine.
+pub fn operator_row(table: &[u16], number: usize) -> &[u16]
+    ensures { λ r. ⌜ now r ≡ operator-part (now (table .entry)) number ⌝ }
+{
+    part(table, OPERATOR_WORDS, number)
 }
 
 fn both(x: bool, y: bool) -> bool
@@ -51,17 +69,38 @@ pub fn effect_kept(variables: usize, formulas: usize, i: usize, kind: u16, a: u1
 }
 
 // Whether an operator's precondition and effect are rows of their tables.
-pub fn operator_kept(
+fn operator_kept(
     formulas: usize,
     effects: usize,
     precondition: u16,
     effect: u16,
     cost: u16,
+    percent: u16,
 ) -> bool
-    ensures { λ r. ⌜ r ≡ operator-kept formulas effects (operator precondition effect cost) ⌝ }
+    ensures { λ r. ⌜ r ≡ operator-kept formulas effects (operator precondition effect cost percent) ⌝ }
 {
     both(
         (precondition as usize) < formulas,
         (effect as usize) < effects,
     )
+}
+
+// An operator's number: 0, 12 or 24.
+pub fn operator_number(
+    formulas: usize,
+    effects: usize,
+    precondition: u16,
+    effect: u16,
+    cost: u16,
+    percent: u16,
+) -> u16
+    ensures { λ r. ⌜ r ≡ operator-number formulas effects (operator precondition effect cost percent) ⌝ }
+{
+    if !operator_kept(formulas, effects, precondition, effect, cost, percent) {
+        return 12;
+    }
+    if MOST_PERCENT < percent {
+        return 24;
+    }
+    0
 }

@@ -7,6 +7,7 @@ use crate::Table;
 use crate::TableRow;
 use crate::operator_rows::cost_of;
 use crate::operator_rows::effect_of;
+use crate::operator_rows::percent_of;
 use crate::operator_rows::precondition_of;
 use crate::operator_rows::store_operator;
 
@@ -20,6 +21,7 @@ fn three_at(words: &[u16], i: usize) -> TableRow
         first: words[k],
         second: words[k + 1],
         third: words[k + 2],
+        fourth: 0,
     }
 }
 
@@ -32,6 +34,7 @@ fn operator_at(words: &[u16], i: usize) -> TableRow
         first: precondition_of(words, i),
         second: effect_of(words, i),
         third: cost_of(words, i),
+        fourth: percent_of(words, i),
     }
 }
 
@@ -66,6 +69,6 @@ pub fn store_row(table: Table, words: &mut [u16], i: usize, row: TableRow)
     match table {
         Table::Formulas => store_three(words, i, row),
         Table::Effects => store_three(words, i, row),
-        Table::Operators => store_operator(words, i, row.first, row.second, row.third),
+        Table::Operators => store_operator(words, i, row.first, row.second, row.third, row.fourth),
     }
 }

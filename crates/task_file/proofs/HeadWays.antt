@@ -10,43 +10,19 @@ use borrow.Author.Tests.{le-ltb, lt-ltb, le-leb}
 use Rattle.task.specs.declared.Head.{Head}
 use Rattle.task.specs.Check.{counts-kept, goal-kept}
 use Rattle.task.specs.Table.{operator-width}
+use Rattle.file_format.specs.Bytes.{zeros, head-defaults}
 use Rattle.file_format.specs.Parse.{Parsed, parsed, unparsed, next, kept, field-read, fields-read, mapped-read}
 use Rattle.file_format.specs.Reading.{Lengths, room, head-read, head-kept}
 use Rattle.task_file.proofs.Places.{byte-ends, byte-here}
+use Rattle.task_file.proofs.RowWords.{fields-split}
 
--- three fields, and then the others
-fields-split :
-    (k m : ℕ) (bytes : List ℕ)
-    → fields-read (suc (suc (suc k))) m bytes
-    ≡ next (fields-read 3 m bytes) (λ ws rest. next (fields-read k (m / 2 / 2 / 2) rest) (λ vs. parsed (ws ++ vs)))
-unfolding fields-read next
-fields-split k m bytes = go1 (field-read (m % 2) bytes) refl
-  where
-    Goal : Type 0
-    Goal =
-        fields-read (suc (suc (suc k))) m bytes
-        ≡ next (fields-read 3 m bytes) (λ ws rest. next (fields-read k (m / 2 / 2 / 2) rest) (λ vs. parsed (ws ++ vs)))
-
-    go4 : (a : ℕ) (r1 : List ℕ) → field-read (m % 2) bytes ≡ parsed a r1 → (b : ℕ) (r2 : List ℕ) → field-read (m / 2 % 2) r1 ≡ parsed b r2 → (c : ℕ) (r3 : List ℕ) → field-read (m / 2 / 2 % 2) r2 ≡ parsed c r3 → (o : Parsed (List ℕ)) → fields-read k (m / 2 / 2 / 2) r3 ≡ o → Goal
-    go4 a r1 e1 b r2 e2 c r3 e3 (unparsed n) e = rw (e1, e2, e3, e)
-    go4 a r1 e1 b r2 e2 c r3 e3 (parsed ws r4) e = rw (e1, e2, e3, e)
-
-    go3 : (a : ℕ) (r1 : List ℕ) → field-read (m % 2) bytes ≡ parsed a r1 → (b : ℕ) (r2 : List ℕ) → field-read (m / 2 % 2) r1 ≡ parsed b r2 → (o : Parsed ℕ) → field-read (m / 2 / 2 % 2) r2 ≡ o → Goal
-    go3 a r1 e1 b r2 e2 (unparsed n) e = rw (e1, e2, e)
-    go3 a r1 e1 b r2 e2 (parsed c r3) e = go4 a r1 e1 b r2 e2 c r3 e (fields-read k (m / 2 / 2 / 2) r3) refl
-
-    go2 : (a : ℕ) (r1 : List ℕ) → field-read (m % 2) bytes ≡ parsed a r1 → (o : Parsed ℕ) → field-read (m / 2 % 2) r1 ≡ o → Goal
-    go2 a r1 e1 (unparsed n) e = rw (e1, e)
-    go2 a r1 e1 (parsed b r2) e = go3 a r1 e1 b r2 e (field-read (m / 2 / 2 % 2) r2) refl
-
-    go1 : (o : Parsed ℕ) → field-read (m % 2) bytes ≡ o → Goal
-    go1 (unparsed n) e = rw e
-    go1 (parsed a r1) e = go2 a r1 e (field-read (m / 2 % 2) r1) refl
-
-six-split : (m : ℕ) (bytes : List ℕ) → fields-read 6 m bytes ≡ next (fields-read 3 m bytes) (λ ws rest. next (fields-read 3 (m / 8) rest) (λ vs. parsed (ws ++ vs)))
+six-split :
+    (m : ℕ) (bytes : List ℕ)
+    → fields-read head-defaults m bytes
+    ≡ next (fields-read zeros m bytes) (λ ws rest. next (fields-read zeros (m / 8) rest) (λ vs. parsed (ws ++ vs)))
 six-split m bytes =
     let e : m / 2 / 2 / 2 ≡ m / 8 = omega arith in
-    rw e at (fields-split 3 m bytes)
+    rw e at (fields-split zeros m bytes)
 
 pub head-ends : (file : List ℕ) → length file ≡ 0 → head-read file ≡ unparsed 1
 unfolding head-read mapped-read next
@@ -60,18 +36,18 @@ module _ (file : List ℕ) (some : 0 < length file) where
   head-unclear h = rw (byte-here file 0 some, le-ltb (getD file 0 0) 64 h)
 
   module _ (clear : getD file 0 0 < 64) where
-    pub lower-refused : {n : ℕ} → fields-read 3 (getD file 0 0) (drop 1 file) ≡ unparsed n → head-read file ≡ unparsed n
+    pub lower-refused : {n : ℕ} → fields-read zeros (getD file 0 0) (drop 1 file) ≡ unparsed n → head-read file ≡ unparsed n
     unfolding head-read mapped-read next kept
     lower-refused e = rw (byte-here file 0 some, lt-ltb (getD file 0 0) 64 clear, six-split (getD file 0 0) (drop 1 file), e)
 
-    module _ {a b c : ℕ} {rest : List ℕ} (lower : fields-read 3 (getD file 0 0) (drop 1 file) ≡ parsed (a ∷ b ∷ c ∷ []) rest) where
-      pub upper-refused : {n : ℕ} → fields-read 3 (getD file 0 0 / 8) rest ≡ unparsed n → head-read file ≡ unparsed n
+    module _ {a b c : ℕ} {rest : List ℕ} (lower : fields-read zeros (getD file 0 0) (drop 1 file) ≡ parsed (a ∷ b ∷ c ∷ []) rest) where
+      pub upper-refused : {n : ℕ} → fields-read zeros (getD file 0 0 / 8) rest ≡ unparsed n → head-read file ≡ unparsed n
       unfolding head-read mapped-read next kept
       upper-refused e = rw (byte-here file 0 some, lt-ltb (getD file 0 0) 64 clear, six-split (getD file 0 0) (drop 1 file), lower, e)
 
       pub head-there :
           {d e f : ℕ} {rest′ : List ℕ}
-          → fields-read 3 (getD file 0 0 / 8) rest ≡ parsed (d ∷ e ∷ f ∷ []) rest′
+          → fields-read zeros (getD file 0 0 / 8) rest ≡ parsed (d ∷ e ∷ f ∷ []) rest′
           → head-read file ≡ parsed (record { variables = a; twins = b; formulas = c; effects = d; operators = e; goal = f }) rest′
       unfolding head-read mapped-read next kept
       head-there e = rw (byte-here file 0 some, lt-ltb (getD file 0 0) 64 clear, six-split (getD file 0 0) (drop 1 file), lower, e)

@@ -12,7 +12,7 @@ use Rattle.task.specs.declared.Table.the-variants.{Formulas, Effects, Operators
 use Rattle.task.specs.Words.{joined, row-words, operator-row-words, words-of, operator-words}
 use Rattle.task.proofs.Words.{joined-append}
 use Rattle.task.specs.declared.TableRow.{TableRow}
-use Rattle.task.specs.Inner.Tables.{width, row-stored}
+use Rattle.task.specs.Inner.Tables.{width, listed, row-stored}
 use Rattle.task.proofs.Stores.{row-there, length-row-stored, row-front, row-behind}
 use Rattle.file_format.specs.Parse.{Parsed, parsed, unparsed, next, table-read}
 use Rattle.file_format.specs.Reading.{formula-read, effect-read, operator-read}
@@ -172,14 +172,13 @@ module _ (table : Table) (h : Head) (count : ℕ) (file : List ℕ) (at : ℕ) (
   rows-end words i place d l = done-end (λ i. width table * i) rows-p rows-q (rows-step h (drop at file) table) count file before words i place d l
 
   pub rows-more :
-      (words : List ℕ) (i place : ℕ) {next-place f s t : ℕ}
+      (words : List ℕ) (i place : ℕ) {next-place : ℕ} (r : TableRow)
       → width table * count ≤ length before
       → RowsDone words i place
       → i < count
-      → kept-words-read table h i (drop place file) ≡ parsed (f ∷ s ∷ t ∷ []) (drop next-place file)
-      → RowsDone (row-stored table words i (record { first = f; second = s; third = t })) (i + 1) next-place
-  rows-more words i place {next-place} {f} {s} {t} long d l e =
-      let r : TableRow = record { first = f; second = s; third = t } in
+      → kept-words-read table h i (drop place file) ≡ parsed (listed table r) (drop next-place file)
+      → RowsDone (row-stored table words i r) (i + 1) next-place
+  rows-more words i place {next-place} r long d l e =
       done-more (λ i. width table * i) rows-p rows-q (rows-step h (drop at file) table) count file before words (row-stored table words i r) i place d l e
       (length-row-stored table words i r)
       (row-front table words i r (omega (arith, row-there table l long, d .size)))

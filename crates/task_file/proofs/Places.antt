@@ -4,11 +4,12 @@ use native.Mathlib.Omega.{arith}
 use native.Mathlib.Numerals.{add-one}
 use native.Mathlib.Decide.{decLt}
 use mathlib.Core.Path.{_≡_, refl}
+use mathlib.Core.Bool.{not}
 use mathlib.Core.List.{List}
 use lib.ListN.{length, getD, drop, drop-of-length-le}
 use lib.Seq.{drop-cons}
-use lib.Dec.{ltb}
-use borrow.Author.Tests.{lt-ltb}
+use lib.Dec.{eqb}
+use borrow.Author.Tests.{eq-eqb, ne-eqb}
 use Rattle.file_format.specs.Parse.{parsed, unparsed, next, kept, byte-read, word-read, field-read}
 
 -- nothing stands behind the end
@@ -41,27 +42,28 @@ word-here file at h =
     rw (byte-here file at l, byte-here file (at + 1) h, e)
 
 -- a field by its bit and the word that stands there
-pub field-absent : (bit : ℕ) (bytes : List ℕ) → bit ≡ 0 → field-read bit bytes ≡ parsed 0 bytes
+pub field-absent : (default bit : ℕ) (bytes : List ℕ) → bit ≡ 0 → field-read default bit bytes ≡ parsed default bytes
 unfolding field-read
-field-absent bit bytes e = rw e
+field-absent default bit bytes e = rw e
 
-module _ (bit : ℕ) (bytes : List ℕ) (there : bit ≡ 0 → ⊥) where
-  field-present : field-read bit bytes ≡ next (word-read bytes) (λ w. kept (ltb 0 w) 3 w)
+module _ (default bit : ℕ) (bytes : List ℕ) (there : bit ≡ 0 → ⊥) where
+  field-present : field-read default bit bytes ≡ next (word-read bytes) (λ w. kept (not (eqb w default)) 3 w)
   unfolding field-read
   field-present = go bit refl
     where
-      go : (b : ℕ) → bit ≡ b → field-read bit bytes ≡ next (word-read bytes) (λ w. kept (ltb 0 w) 3 w)
+      go : (b : ℕ) → bit ≡ b → field-read default bit bytes ≡ next (word-read bytes) (λ w. kept (not (eqb w default)) 3 w)
       go zero e = absurd (there e)
       go (suc b) e = rw e
 
-  pub field-refused : {n : ℕ} → word-read bytes ≡ unparsed n → field-read bit bytes ≡ unparsed n
+  pub field-refused : {n : ℕ} → word-read bytes ≡ unparsed n → field-read default bit bytes ≡ unparsed n
   unfolding next
   field-refused e = rw (field-present, e)
 
-  pub field-zero : {w : ℕ} {rest : List ℕ} → w ≡ 0 → word-read bytes ≡ parsed w rest → field-read bit bytes ≡ unparsed 3
+  pub field-needless : {w : ℕ} {rest : List ℕ} → w ≡ default → word-read bytes ≡ parsed w rest → field-read default bit bytes ≡ unparsed 3
   unfolding next kept
-  field-zero z e = rw (field-present, e, z)
+  field-needless {w} z e = rw (field-present, e, eq-eqb w default z)
 
-  pub field-there : {w : ℕ} {rest : List ℕ} → (w ≡ 0 → ⊥) → word-read bytes ≡ parsed w rest → field-read bit bytes ≡ parsed w rest
+  pub field-there :
+      {w : ℕ} {rest : List ℕ} → (w ≡ default → ⊥) → word-read bytes ≡ parsed w rest → field-read default bit bytes ≡ parsed w rest
   unfolding next kept
-  field-there {w} z e = rw (field-present, e, lt-ltb 0 w (omega arith))
+  field-there {w} z e = rw (field-present, e, ne-eqb w default z)

@@ -23,12 +23,24 @@ pub enum Field {
     NoWord(u16),
 }
 
-// The three words of a row and the place behind it, or the number of the refusal.
+// Three fields and the place behind them, or the number of the refusal.
+pub enum Fields {
+    Three {
+        first: u16,
+        second: u16,
+        third: u16,
+        next: usize,
+    },
+    NoFields(u16),
+}
+
+// The words of a row, 0 behind those of a row of three, and the place behind it; or the number of the refusal.
 pub enum Row {
     Words {
         first: u16,
         second: u16,
         third: u16,
+        fourth: u16,
         next: usize,
     },
     NoRow(u16),

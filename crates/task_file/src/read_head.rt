@@ -4,18 +4,18 @@ ghost use Rattle.file_format.specs.Parse.{next};
 ghost use Rattle.file_format.specs.Reading.{room, head-read, head-kept};
 ghost use Rattle.task_file.specs.Inner.Answers.{head-told, lost-head};
 ghost use Rattle.task_file.specs.Outcome.{lengths};
+use crate::Fields;
 use crate::HeadAnswer;
-use crate::Row;
 use task::Head;
 use task::operator_rows::OPERATOR_WORDS;
 
-// A row's refusal, as that of the head. Constant time.
-fn refused(r: Row) -> HeadAnswer
+// The refusal of three fields, as that of the head. Constant time.
+fn refused(r: Fields) -> HeadAnswer
     ensures { λ h. ⌜ h ≡ lost-head r ⌝ }
 {
     match r {
-        Row::NoRow(n) => HeadAnswer::NoHead(n),
-        Row::Words {
+        Fields::NoFields(n) => HeadAnswer::NoHead(n),
+        Fields::Three {
             first: _,
             second: _,
             third: _,
@@ -36,7 +36,7 @@ fn read_head(file: &[u8]) -> HeadAnswer
         return HeadAnswer::NoHead(2);
     }
     let a = crate::word::read_three(file, 1, map);
-    let Row::Words {
+    let Fields::Three {
         first: variables,
         second: twins,
         third: formulas,
@@ -46,7 +46,7 @@ fn read_head(file: &[u8]) -> HeadAnswer
         return refused(a);
     };
     let b = crate::word::read_three(file, half, map / 8);
-    let Row::Words {
+    let Fields::Three {
         first: effects,
         second: operators,
         third: goal,

@@ -1,108 +1,147 @@
-// Rows of three words.
+// Rows, as their words.
 ghost use mathlib.Core.Path.{_≡_};
 ghost use lib.ListN.{drop};
-ghost use Rattle.task_file.specs.Inner.Answers.{row-told, arranged-row};
-ghost use Rattle.task_file.specs.Inner.Tables.{map-clear, row-words-read, kept-words-read};
+ghost use Rattle.task_file.specs.Inner.Answers.{row-told, lost-field, lost-fields};
+ghost use Rattle.task_file.specs.Inner.Tables.{row-words-read, kept-words-read};
+use crate::Field;
+use crate::Fields;
 use crate::Row;
+use crate::word::read_field;
+use crate::word::read_three;
+use task::DEFAULT_PERCENT;
 use task::Head;
 use task::Table;
+use task::rows::effect_kept;
+use task::rows::formula_kept;
+use task::rows::operator_number;
 
-// Whether no unused bit of a row's map stands. Constant time.
-fn map_clear(table: Table, map: u8) -> bool
-    ensures { λ r. ⌜ r ≡ map-clear table map ⌝ }
+// The refusal of three fields, as that of their row. Constant time, as are all below.
+fn refused(f: Fields) -> Row
+    ensures { λ r. ⌜ r ≡ lost-fields f ⌝ }
 {
-    match table {
-        Table::Formulas => map / 4 % 4 == 0,
-        Table::Effects => map / 4 % 4 == 0,
-        Table::Operators => map < 8,
+    match f {
+        Fields::NoFields(n) => Row::NoRow(n),
+        Fields::Three {
+            first: _,
+            second: _,
+            third: _,
+            next: _,
+        } => Row::NoRow(0),
     }
 }
 
-// The words of a row in their order: a formula's or an effect's kind stands first. Constant time.
-fn arranged(table: Table, kind: u16, first: u16, second: u16, third: u16, next: usize) -> Row
-    ensures { λ r. ⌜ r ≡ arranged-row table kind first second third next ⌝ }
+// The refusal of a field, as that of its row.
+fn no_field(f: Field) -> Row
+    ensures { λ r. ⌜ r ≡ lost-field f ⌝ }
 {
-    match table {
-        Table::Formulas => Row::Words {
-            first: kind,
-            second: first,
-            third: second,
-            next,
-        },
-        Table::Effects => Row::Words {
-            first: kind,
-            second: first,
-            third: second,
-            next,
-        },
-        Table::Operators => Row::Words {
-            first,
-            second,
-            third,
-            next,
-        },
+    match f {
+        Field::NoWord(n) => Row::NoRow(n),
+        Field::Word { word: _, next: _ } => Row::NoRow(0),
     }
 }
 
-// The words of a row, without its own number. Constant time.
-fn read_row(table: Table, file: &[u8], at: usize) -> Row
-    ensures { λ r. ⌜ row-told (now (file .entry)) r ≡ row-words-read table (drop at (now (file .entry))) ⌝ }
+// A formula's or an effect's row, without its own number.
+fn read_kind(file: &[u8], at: usize) -> Row
+    ensures { λ r. ⌜ row-told Table.Formulas (now (file .entry)) r ≡ row-words-read Table.Formulas (drop at (now (file .entry))) ⌝ }
 {
     if file.len() <= at {
         return Row::NoRow(1);
     }
     let map = file[at];
-    if !map_clear(table, map) {
+    if map / 4 % 4 != 0 {
         return Row::NoRow(2);
     }
-    let r = crate::word::read_three(file, at + 1, map);
-    let Row::Words {
+    let f = read_three(file, at + 1, map);
+    let Fields::Three {
         first,
         second,
-        third,
+        third: _,
         next,
-    } = r
+    } = f
     else {
-        return r;
+        return refused(f);
     };
-    arranged(table, map as u16 / 16, first, second, third, next)
+    Row::Words {
+        first: map as u16 / 16,
+        second: first,
+        third: second,
+        fourth: 0,
+        next,
+    }
 }
 
-// Formula row i: its words, if they keep their rule. Constant time, as are the two below.
-fn read_formula(head: Head, i: usize, file: &[u8], at: usize) -> Row
-    ensures { λ r. ⌜ row-told (now (file .entry)) r ≡ kept-words-read Table.Formulas head i (drop at (now (file .entry))) ⌝ }
+// An operator's row, without its own number: three fields, and the percent.
+fn read_four(file: &[u8], at: usize) -> Row
+    ensures { λ r. ⌜ row-told Table.Operators (now (file .entry)) r ≡ row-words-read Table.Operators (drop at (now (file .entry))) ⌝ }
 {
-    let r = read_row(Table::Formulas, file, at);
+    if file.len() <= at {
+        return Row::NoRow(1);
+    }
+    let map = file[at];
+    if 16 <= map {
+        return Row::NoRow(2);
+    }
+    let f = read_three(file, at + 1, map);
+    let Fields::Three {
+        first,
+        second,
+        third,
+        next: behind,
+    } = f
+    else {
+        return refused(f);
+    };
+    let p = read_field(file, behind, map / 8, DEFAULT_PERCENT);
+    let Field::Word { word: fourth, next } = p else {
+        return no_field(p);
+    };
+    Row::Words {
+        first,
+        second,
+        third,
+        fourth,
+        next,
+    }
+}
+
+// Formula row i: its words, if they keep their rule.
+fn read_formula(head: Head, i: usize, file: &[u8], at: usize) -> Row
+    ensures { λ r. ⌜ row-told Table.Formulas (now (file .entry)) r ≡ kept-words-read Table.Formulas head i (drop at (now (file .entry))) ⌝ }
+{
+    let r = read_kind(file, at);
     let Row::Words {
         first,
         second,
         third,
+        fourth,
         next,
     } = r
     else {
         return r;
     };
     let variables = head.variables as usize;
-    if !task::rows::formula_kept(variables, i, first, second, third) {
+    if !formula_kept(variables, i, first, second, third) {
         return Row::NoRow(10);
     }
     Row::Words {
         first,
         second,
         third,
+        fourth,
         next,
     }
 }
 
-// Effect row i: its words, if they keep their rule. Constant time.
+// Effect row i: its words, if they keep their rule.
 fn read_effect(head: Head, i: usize, file: &[u8], at: usize) -> Row
-    ensures { λ r. ⌜ row-told (now (file .entry)) r ≡ kept-words-read Table.Effects head i (drop at (now (file .entry))) ⌝ }
+    ensures { λ r. ⌜ row-told Table.Effects (now (file .entry)) r ≡ kept-words-read Table.Effects head i (drop at (now (file .entry))) ⌝ }
 {
-    let r = read_row(Table::Effects, file, at);
+    let r = read_kind(file, at);
     let Row::Words {
         first,
         second,
         third,
+        fourth,
         next,
     } = r
     else {
@@ -110,26 +149,28 @@ fn read_effect(head: Head, i: usize, file: &[u8], at: usize) -> Row
     };
     let variables = head.variables as usize;
     let formulas = head.formulas as usize;
-    if !task::rows::effect_kept(variables, formulas, i, first, second, third) {
+    if !effect_kept(variables, formulas, i, first, second, third) {
         return Row::NoRow(11);
     }
     Row::Words {
         first,
         second,
         third,
+        fourth,
         next,
     }
 }
 
-// Operator row i: its words, if they keep their rule. Constant time.
+// Operator row i: its words, if they keep their rules: 12, then 24.
 fn read_operator(head: Head, i: usize, file: &[u8], at: usize) -> Row
-    ensures { λ r. ⌜ row-told (now (file .entry)) r ≡ kept-words-read Table.Operators head i (drop at (now (file .entry))) ⌝ }
+    ensures { λ r. ⌜ row-told Table.Operators (now (file .entry)) r ≡ kept-words-read Table.Operators head i (drop at (now (file .entry))) ⌝ }
 {
-    let r = read_row(Table::Operators, file, at);
+    let r = read_four(file, at);
     let Row::Words {
         first,
         second,
         third,
+        fourth,
         next,
     } = r
     else {
@@ -137,21 +178,23 @@ fn read_operator(head: Head, i: usize, file: &[u8], at: usize) -> Row
     };
     let formulas = head.formulas as usize;
     let effects = head.effects as usize;
-    if !task::rows::operator_kept(formulas, effects, first, second, third) {
-        return Row::NoRow(12);
+    let number = operator_number(formulas, effects, first, second, third, fourth);
+    if number != 0 {
+        return Row::NoRow(number);
     }
     Row::Words {
         first,
         second,
         third,
+        fourth,
         next,
     }
 }
 
-// Row i of a table: its words, if they keep their rule. Constant time. The table is asked for here alone, so that a loop over rows
-// compiles to three loops without the question.
+// Row i of a table: its words, if they keep their rule. The table is asked for here alone, so that a loop over rows compiles to three loops without
+// the question.
 pub fn read_kept(table: Table, head: Head, i: usize, file: &[u8], at: usize) -> Row
-    ensures { λ r. ⌜ row-told (now (file .entry)) r ≡ kept-words-read table head i (drop at (now (file .entry))) ⌝ }
+    ensures { λ r. ⌜ row-told table (now (file .entry)) r ≡ kept-words-read table head i (drop at (now (file .entry))) ⌝ }
 {
     match table {
         Table::Formulas => read_formula(head, i, file, at),

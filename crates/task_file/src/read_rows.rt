@@ -22,6 +22,7 @@ fn refused(r: Row) -> Place
             first: _,
             second: _,
             third: _,
+            fourth: _,
             next: _,
         } => Place::Nowhere(0),
     }
@@ -47,6 +48,7 @@ pub fn read_rows(
             first,
             second,
             third,
+            fourth,
             next,
         } = r
         else {
@@ -56,6 +58,7 @@ pub fn read_rows(
             first,
             second,
             third,
+            fourth,
         };
         store_row(table, words, i, row);
         place = next;

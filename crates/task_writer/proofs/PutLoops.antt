@@ -7,21 +7,23 @@ use mathlib.Core.List.{List, [], _∷_, _++_, append-nil}
 use lib.ListN.{length, getD, take, length-append, List·getD-eq-default}
 use lib.Seq.{take-suc, getD-take, length-take-le}
 use Rattle.task.specs.declared.Table.{Table}
+use Rattle.task.specs.declared.TableRow.{TableRow}
 use Rattle.task.specs.declared.Table.the-variants.{Formulas, Effects, Operators}
 use Rattle.task.specs.Bounded.{upto}
 use Rattle.task.specs.Table.{row-at, operator-at}
 use Rattle.task.specs.Words.{joined, operator-row-words}
 use Rattle.task.proofs.Words.{joined-append}
 use Rattle.task.specs.Inner.Tables.{words-at}
-use Rattle.file_format.specs.Bytes.{number, word-bytes, field-bytes, row-bytes, operator-bytes, packed, bytes-for}
-use Rattle.task_writer.specs.Inner.Putting.{Put, three-bytes, rows-bytes, StateIn, byte-number, bytes-of}
-use Rattle.task_writer.proofs.Puts.{put-none, put-then, put-same, field-length}
+use Rattle.file_format.specs.Bytes.{number, word-bytes, row-defaults, operator-defaults, row-bytes, operator-bytes, packed, bytes-for}
+use Rattle.task_writer.specs.Inner.Putting.{Put, rows-bytes, StateIn, byte-number, bytes-of}
+use Rattle.file_format.proofs.Fields.{fields-length}
+use Rattle.task_writer.proofs.Puts.{put-none, put-then, put-same}
 
 -- what a loop has put after i rows
 pub record PutDone (B : ℕ → List ℕ) (count at : ℕ) (before out : List ℕ) (i place : ℕ) : Type 0 where
   pub within : i ≤ count
   pub done : Put (B i) at place before out
-  pub small : place ≤ at + 7 * i
+  pub small : place ≤ at + 9 * i
 
 module _ (B : ℕ → List ℕ) (count at : ℕ) (before : List ℕ) where
   pub put-begin : B 0 ≡ [] → PutDone B count at before before 0 at
@@ -32,7 +34,7 @@ module _ (B : ℕ → List ℕ) (count at : ℕ) (before : List ℕ) where
       → PutDone B count at before out i place
       → i < count
       → Put b place r out out′
-      → length b ≤ 7
+      → length b ≤ 9
       → B (suc i) ≡ B i ++ b
       → PutDone B count at before out′ (i + 1) r
   put-more out i place d h p l e =
@@ -66,21 +68,11 @@ rows-more-put Formulas words i = snoc-bytes row-bytes (row-at words) i
 rows-more-put Effects words i = snoc-bytes row-bytes (row-at words) i
 rows-more-put Operators words i = snoc-bytes operator-bytes (operator-at words) i
 
-pub three-bytes-length : (table : Table) (f s t : ℕ) → length (three-bytes table f s t) ≤ 7
-unfolding row-bytes operator-bytes operator-row-words joined
-three-bytes-length Formulas f s t =
-    let x = length-append (field-bytes s) (field-bytes t ++ []) in
-    let y = length-append (field-bytes t) [] in
-    omega (arith, field-length s, field-length t)
-three-bytes-length Effects f s t =
-    let x = length-append (field-bytes s) (field-bytes t ++ []) in
-    let y = length-append (field-bytes t) [] in
-    omega (arith, field-length s, field-length t)
-three-bytes-length Operators f s t =
-    let x = length-append (field-bytes f) (field-bytes s ++ (field-bytes t ++ [])) in
-    let y = length-append (field-bytes s) (field-bytes t ++ []) in
-    let z = length-append (field-bytes t) [] in
-    omega (arith, field-length f, field-length s, field-length t)
+pub row-bytes-length : (table : Table) (r : TableRow) → length (bytes-of table r) ≤ 9
+unfolding row-bytes operator-bytes operator-row-words
+row-bytes-length Formulas r = omega (arith, fields-length row-defaults (r .second ∷ r .third ∷ []))
+row-bytes-length Effects r = omega (arith, fields-length row-defaults (r .second ∷ r .third ∷ []))
+row-bytes-length Operators r = omega (arith, fields-length operator-defaults (r .first ∷ r .second ∷ r .third ∷ r .fourth ∷ []))
 
 -- plain words
 abbrev pub words-bytes : List ℕ → ℕ → List ℕ
@@ -97,7 +89,7 @@ words-more-put words k h =
     ∙ joined-append word-bytes (take k words) (getD words k 0 ∷ [])
     ∙ ap (λ (l : List ℕ). joined word-bytes (take k words) ++ l) (append-nil (word-bytes (getD words k 0)))
 
-pub word-length : (w : ℕ) → length (word-bytes w) ≤ 7
+pub word-length : (w : ℕ) → length (word-bytes w) ≤ 9
 unfolding word-bytes
 word-length w = omega arith
 

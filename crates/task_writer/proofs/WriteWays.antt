@@ -22,13 +22,14 @@ use Rattle.task.proofs.Held.{length-initial, length-originals, length-formulas,
 use Rattle.task.proofs.Passed.{passed, counts-tested, lengths-tested, initial-tested}
 use Rattle.task.specs.Inner.Tables.{words-at}
 use Rattle.task_writer.specs.declared.WriteAnswer.the-variants.{Written, NotWritten}
-use Rattle.file_format.specs.Bytes.{word-bytes, field-bytes, head-fields, head-bytes, packed, bytes-for, file-of}
+use Rattle.file_format.specs.Bytes.{word-bytes, head-defaults, head-fields, head-bytes, packed, bytes-for, file-of}
 use Rattle.task_writer.specs.Inner.Putting.{Put, bytes-of, rows-bytes, WriteIn}
 use Rattle.task_writer.specs.Writing.{wrote, file-outcome, write-outcome}
 use Rattle.file_format.proofs.Initial.{packed-length}
 use Rattle.task_file.proofs.ReadWays.{zeros-of, drop-zeros}
-use Rattle.task_writer.proofs.Puts.{put-then, put-same, put-size, field-length}
-use Rattle.task_writer.proofs.PutLoops.{rows-none-put, rows-more-put, three-bytes-length, words-bytes, words-more-put, word-length}
+use Rattle.file_format.proofs.Fields.{fields-length}
+use Rattle.task_writer.proofs.Puts.{put-then, put-same, put-size}
+use Rattle.task_writer.proofs.PutLoops.{rows-none-put, rows-more-put, row-bytes-length, words-bytes, words-more-put, word-length}
 
 -- a kind that is known fits the map
 formula-past : (k : ℕ) → 8 ≤ k → formula-kind k ≡ unknown-formula
@@ -87,48 +88,27 @@ write-in l e =
     }
 
 -- how far each part reaches
-pub rows-size : (table : Table) (words : List ℕ) (n : ℕ) → length (rows-bytes table words n) ≤ 7 * n
+pub rows-size : (table : Table) (words : List ℕ) (n : ℕ) → length (rows-bytes table words n) ≤ 9 * n
 rows-size table words zero = rw (rows-none-put table words) (omega arith)
 rows-size table words (suc n) =
     let r = words-at table words n in
     rw (rows-more-put table words n, length-append (rows-bytes table words n) (bytes-of table r))
-    (omega (arith, rows-size table words n, three-bytes-length table (r .first) (r .second) (r .third)))
+    (omega (arith, rows-size table words n, row-bytes-length table r))
 
-pub words-size : (words : List ℕ) (n : ℕ) → n ≤ length words → length (words-bytes words n) ≤ 7 * n
+pub words-size : (words : List ℕ) (n : ℕ) → n ≤ length words → length (words-bytes words n) ≤ 9 * n
 unfolding joined
 words-size words zero h = omega arith
 words-size words (suc n) h =
     rw (words-more-put words n h, length-append (words-bytes words n) (word-bytes (getD words n 0)))
     (omega (arith, words-size words n (omega arith), word-length (getD words n 0)))
 
-pub state-size : (state : List ℕ) (n : ℕ) → n ≤ length state → length (packed (take n state)) ≤ 7 * n
+pub state-size : (state : List ℕ) (n : ℕ) → n ≤ length state → length (packed (take n state)) ≤ 9 * n
 unfolding bytes-for
 state-size state n h = omega (arith, packed-length (take n state), length-take-le n state h)
 
 pub head-size : (h : Head) → length (head-bytes h) ≤ 13
-unfolding head-bytes head-fields joined
-head-size h =
-    let f : ℕ → List ℕ = field-bytes in
-    let r6 = f (h .goal) ++ [] in
-    let r5 = f (h .operators) ++ r6 in
-    let r4 = f (h .effects) ++ r5 in
-    let r3 = f (h .formulas) ++ r4 in
-    let r2 = f (h .twins) ++ r3 in
-    omega (
-      arith,
-      length-append (f (h .variables)) r2,
-      length-append (f (h .twins)) r3,
-      length-append (f (h .formulas)) r4,
-      length-append (f (h .effects)) r5,
-      length-append (f (h .operators)) r6,
-      length-append (f (h .goal)) [],
-      field-length (h .variables),
-      field-length (h .twins),
-      field-length (h .formulas),
-      field-length (h .effects),
-      field-length (h .operators),
-      field-length (h .goal),
-    )
+unfolding head-bytes
+head-size h = omega (arith, fields-length head-defaults (head-fields h))
 
 pub same-head : (l : Lent) → LongEnough l → head-of (task-of l) ≡ l .head
 unfolding head-of task-of

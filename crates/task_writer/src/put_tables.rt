@@ -25,7 +25,7 @@ pub fn put_rows(table: Table, words: &[u16], count: usize, out: &mut [u8], at: u
 
 // The first `count` words, plain. Linear.
 pub fn put_words(words: &[u16], count: usize, out: &mut [u8], at: usize) -> usize
-    requires { ⌜ (count ≤ length (now words)) × (at + 7 * count ≤ 1000000) ⌝ }
+    requires { ⌜ (count ≤ length (now words)) × (at + 9 * count ≤ 1000000) ⌝ }
     ensures { λ r. ⌜ Put (joined word-bytes (take count (now (words .entry)))) at r (now (out .entry)) (now (out .exit)) ⌝ }
 {
     let mut k = 0;
@@ -67,7 +67,7 @@ fn pack(initial: &[u8], count: usize, j: usize) -> u8
 
 // The state of `count` variables, packed. Linear.
 pub fn put_state(initial: &[u8], count: usize, out: &mut [u8], at: usize) -> usize
-    requires { ⌜ (StateIn (now initial) count) × (at + 7 * count ≤ 1000000) ⌝ }
+    requires { ⌜ (StateIn (now initial) count) × (at + 9 * count ≤ 1000000) ⌝ }
     ensures { λ r. ⌜ Put (packed (take count (now (initial .entry)))) at r (now (out .entry)) (now (out .exit)) ⌝ }
 {
     let bytes = (count + 7) / 8;

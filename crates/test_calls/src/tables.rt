@@ -1,7 +1,7 @@
 // The check of tables, and rows on request.
 ghost use mathlib.Core.Path.{_≡_};
 ghost use lib.ListN.{length, getD};
-ghost use Rattle.task.specs.Table.{lent, row-part};
+ghost use Rattle.task.specs.Table.{lent, row-part, operator-part};
 ghost use Rattle.task.specs.Check.{refusal};
 
 // `task::check::check`, with the head as six numbers.
@@ -47,5 +47,22 @@ pub extern "C" fn test_row_word(table: &[u16], number: usize, at: usize) -> u16
     ensures { λ r. ⌜ r ≡ getD (row-part (now (table .entry)) number) at 0 ⌝ }
 {
     let part = task::rows::row(table, number);
+    if at < part.len() { part[at] } else { 0 }
+}
+
+// The same of an operator's row.
+#[no_mangle]
+pub extern "C" fn test_operator_row_length(table: &[u16], number: usize) -> usize
+    ensures { λ r. ⌜ r ≡ length (operator-part (now (table .entry)) number) ⌝ }
+{
+    let part = task::rows::operator_row(table, number);
+    part.len()
+}
+
+#[no_mangle]
+pub extern "C" fn test_operator_row_word(table: &[u16], number: usize, at: usize) -> u16
+    ensures { λ r. ⌜ r ≡ getD (operator-part (now (table .entry)) number) at 0 ⌝ }
+{
+    let part = task::rows::operator_row(table, number);
     if at < part.len() { part[at] } else { 0 }
 }

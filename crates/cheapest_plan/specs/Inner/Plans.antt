@@ -18,7 +18,7 @@ pub record PlanReady (h : Head) (initial f e o scratch words : List ℕ) : Type 
   pub t : Task
   pub tables : TaskIn t h f e o
   pub passes : Checked t
-  pub cheap : (s : List ℕ) (o : ℕ) → charge t s o ≤ 65535
+  pub cheap : (s : List ℕ) (o : ℕ) → charge t s o ≤ 131070
   pub starts : t .initial ≡ take (h .variables) initial
   pub few : h .variables ≤ 10
   pub there : h .variables ≤ length initial

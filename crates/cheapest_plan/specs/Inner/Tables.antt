@@ -28,7 +28,7 @@ pub data Ends (v n : ℕ) (status : List ℕ → Status) (p : List ℕ) (step : 
 
 -- most that a queued state costs, and most steps of its list
 abbrev pub most-cost : ℕ
-most-cost = 67107840
+most-cost = 134215680
 
 -- The words of state s: its cost and one, 0 if it was taken, the largest if it was not reached; the steps of its list; and the last of them.
 pub data Says (v n : ℕ) (status : List ℕ → Status) (words : List ℕ) (s : ℕ) : Status → Type 0 where
@@ -77,12 +77,12 @@ pub data Verdict (p q : List ℕ) : Bool → Type 0 where
 pub record Compares (n : ℕ) (words : List ℕ) (x y : ℕ) (r : Bool) : Type 0 where
   pub told : (h : Comparable n words x y) → Verdict (h .first) (h .second) r
 
--- A task that the words have room for: n states, and charges of 16 bits.
+-- A task that the words have room for: n states, and charges that are small.
 pub record Ground (t : Task) (n : ℕ) : Type 0 where
   pub passes : Checked t
   pub states : n ≡ 2 ^ length (t .initial)
   pub few : n ≤ 1024
-  pub cheap : (s : List ℕ) (o : ℕ) → charge t s o ≤ 65535
+  pub cheap : (s : List ℕ) (o : ℕ) → charge t s o ≤ 131070
 
 -- What is known where k operators have been stepped from state s, which was taken with list p at cost c.
 pub record Stepping (t : Task) (n : ℕ) (words : List ℕ) (s : List ℕ) (k : ℕ) (p : List ℕ) (c : ℕ) : Type 0 where

@@ -62,7 +62,7 @@ took t s o = took-by (ltb o (length (t .operators))) (applicable t s o) t s o
 pub record Takes (t : Task) (s : List ℕ) (o : ℕ) (r : Taken) (after : List ℕ) : Type 0 where
   pub answer : r ≡ took t s o .answer
   pub state : after ≡ took t s o .state
-  pub small : r .charge ≤ 65535
+  pub small : r .charge ≤ 131070
 
 -- the formula that operator n asks for, row 0 if it is not there
 abbrev pub asked : Head → List ℕ → ℕ → ℕ

@@ -9,7 +9,7 @@ use Rattle.task.specs.Bounded.{upto}
 use Rattle.task.specs.Table.{operator-width}
 use Rattle.task.specs.declared.Table.{Table}
 use Rattle.task.specs.declared.Table.the-variants.{Formulas, Effects, Operators}
-use Rattle.task.specs.Inner.Tables.{width, words-at}
+use Rattle.task.specs.Inner.Tables.{width, words-at, listed}
 use Rattle.printing.specs.Lines.{line, numbered, initial-line}
 
 -- A text of at most `most` bytes was put at a place: byte by byte, nothing past the buffer's end; the next place counts on all the same.
@@ -23,10 +23,8 @@ abbrev pub counts-of : Head → List ℕ
 counts-of h = h .variables ∷ h .twins ∷ h .formulas ∷ h .effects ∷ h .operators ∷ h .goal ∷ []
 
 -- the words of row i of a table
-abbrev pub listed : Table → List ℕ → ℕ → List ℕ
-listed table words i =
-    let r = words-at table words i in
-    r .first ∷ r .second ∷ r .third ∷ []
+abbrev pub listed-at : Table → List ℕ → ℕ → List ℕ
+listed-at table words i = listed table (words-at table words i)
 
 -- the word of twin row k
 abbrev pub original-at : List ℕ → ℕ → List ℕ
@@ -42,9 +40,9 @@ front-text h initial twins =
 -- the lines f, e and o
 unfoldable pub tables-text : Head → (formulas effects operators : List ℕ) → List ℕ
 tables-text h formulas effects operators =
-    numbered 102 0 (upto (h .formulas) (listed Formulas formulas))
-    ++ (numbered 101 0 (upto (h .effects) (listed Effects effects))
-    ++ numbered 111 0 (upto (h .operators) (listed Operators operators)))
+    numbered 102 0 (upto (h .formulas) (listed-at Formulas formulas))
+    ++ (numbered 101 0 (upto (h .effects) (listed-at Effects effects))
+    ++ numbered 111 0 (upto (h .operators) (listed-at Operators operators)))
 
 -- What the digits of the first `count` bytes ask at a place.
 pub record BitsReady (at count : ℕ) (initial : List ℕ) : Type 0 where
@@ -60,7 +58,7 @@ pub record TwinsReady (at first count : ℕ) (twins : List ℕ) : Type 0 where
 
 -- What the lines of a table of rows ask.
 pub record RowsReady (table : Table) (at count : ℕ) (words : List ℕ) : Type 0 where
-  pub room : at + 26 * count ≤ 1000000
+  pub room : at + 32 * count ≤ 1000000
   pub long : width table * count ≤ length words
   pub few : count ≤ 4096
 

@@ -12,4 +12,4 @@ three t i x y z = set (set (set t (3 * i) x) (3 * i + 1) y) (3 * i + 2) z
 abbrev pub operator-stored : List ℕ → ℕ → Operator → List ℕ
 operator-stored t i o =
     let at = operator-width * i in
-    set (set (set t at (o .precondition)) (at + 1) (o .effect)) (at + 2) (o .cost)
+    set (set (set (set t at (o .precondition)) (at + 1) (o .effect)) (at + 2) (o .cost)) (at + 3) (o .percent)

@@ -5,9 +5,10 @@ use mathlib.Core.Path.{_≡_}
 use lib.ListN.{length, take, drop, replicate}
 use Rattle.task.specs.declared.Head.{Head}
 use Rattle.task.specs.declared.Table.{Table}
-use Rattle.task.specs.declared.Table.the-variants.{Formulas, Effects, Operators}
 use Rattle.task_file.specs.declared.Field.{Field}
 use Rattle.task_file.specs.declared.Field.the-variants.{Word, NoWord}
+use Rattle.task_file.specs.declared.Fields.{Fields}
+use Rattle.task_file.specs.declared.Fields.the-variants.{Three, NoFields}
 use Rattle.task_file.specs.declared.Row.{Row}
 use Rattle.task_file.specs.declared.Row.the-variants.{Words, NoRow}
 use Rattle.task_file.specs.declared.ReadAnswer.{ReadAnswer}
@@ -16,6 +17,7 @@ use Rattle.task_file.specs.declared.HeadAnswer.{HeadAnswer}
 use Rattle.task_file.specs.declared.HeadAnswer.the-variants.{Counts, NoHead}
 use Rattle.task_file.specs.declared.Place.{Place}
 use Rattle.task_file.specs.declared.Place.the-variants.{At, Nowhere}
+use Rattle.task.specs.Inner.Tables.{listed}
 use Rattle.task.specs.Bounded.{upto}
 use Rattle.file_format.specs.Reading.{bit-of}
 use Rattle.file_format.specs.Parse.{Parsed, parsed, unparsed}
@@ -24,24 +26,32 @@ abbrev pub field-told : List ℕ → Field → Parsed ℕ
 field-told file (Word word next) = parsed word (drop next file)
 field-told file (NoWord n) = unparsed n
 
-abbrev pub row-told : List ℕ → Row → Parsed (List ℕ)
-row-told file (Words first second third next) = parsed (first ∷ second ∷ third ∷ []) (drop next file)
-row-told file (NoRow n) = unparsed n
+abbrev pub fields-told : List ℕ → Fields → Parsed (List ℕ)
+fields-told file (Three first second third next) = parsed (first ∷ second ∷ third ∷ []) (drop next file)
+fields-told file (NoFields n) = unparsed n
 
--- a field's refusal, as that of its row
-abbrev pub carried : Field → Row
-carried (Word word next) = NoRow 0
-carried (NoWord n) = NoRow n
+abbrev pub row-told : Table → List ℕ → Row → Parsed (List ℕ)
+row-told table file (Words first second third fourth next) =
+    parsed (listed table (record { first = first; second = second; third = third; fourth = fourth })) (drop next file)
+row-told table file (NoRow n) = unparsed n
 
--- a row's kind and the fields of its map, as the row's words
-abbrev pub arranged-row : Table → (kind first second third next : ℕ) → Row
-arranged-row Formulas kind first second third next = Words kind first second next
-arranged-row Effects kind first second third next = Words kind first second next
-arranged-row Operators kind first second third next = Words first second third next
+-- a field's refusal, as that of the three, and as that of its row
+abbrev pub carried : Field → Fields
+carried (Word word next) = NoFields 0
+carried (NoWord n) = NoFields n
+
+abbrev pub lost-field : Field → Row
+lost-field (Word word next) = NoRow 0
+lost-field (NoWord n) = NoRow n
+
+-- the refusal of three fields, as that of their row
+abbrev pub lost-fields : Fields → Row
+lost-fields (Three first second third next) = NoRow 0
+lost-fields (NoFields n) = NoRow n
 
 -- a row's refusal, as that of its table
 abbrev pub lost-row : Row → Place
-lost-row (Words first second third next) = Nowhere 0
+lost-row (Words first second third fourth next) = Nowhere 0
 lost-row (NoRow n) = Nowhere n
 
 -- a table's words, and the place behind them
@@ -68,10 +78,10 @@ abbrev pub head-told : List ℕ → HeadAnswer → Parsed Head
 head-told file (Counts head next) = parsed head (drop next file)
 head-told file (NoHead n) = unparsed n
 
--- a row's refusal, as that of the head
-abbrev pub lost-head : Row → HeadAnswer
-lost-head (Words first second third next) = NoHead 0
-lost-head (NoRow n) = NoHead n
+-- the refusal of three fields, as that of the head
+abbrev pub lost-head : Fields → HeadAnswer
+lost-head (Three first second third next) = NoHead 0
+lost-head (NoFields n) = NoHead n
 
 -- every lent table all 0
 pub record Cleared (initial twins formulas effects operators initial′ twins′ formulas′ effects′ operators′ : List ℕ) : Type 0 where

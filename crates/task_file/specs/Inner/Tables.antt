@@ -1,25 +1,12 @@
--- The three tables of rows side by side, for one loop over any of them: a row as its three words.
+-- The three tables of rows side by side, for one loop over any of them: a row as its words.
 use Prim.Native.Nat.{ℕ}
-use mathlib.Core.Bool.{Bool}
 use mathlib.Core.List.{List, []}
 use Rattle.task.specs.declared.Head.{Head}
 use Rattle.task.specs.declared.Table.{Table}
 use Rattle.task.specs.declared.Table.the-variants.{Formulas, Effects, Operators}
 use Rattle.task.specs.Words.{row-words, operator-row-words, words-of, operator-words}
 use Rattle.file_format.specs.Parse.{Parsed, parsed, next, table-read}
-use Rattle.file_format.specs.Reading.{row-clear, operator-clear, row-read, operator-fields-read, formula-read, effect-read, operator-read}
-
--- no unused bit of a row's map stands
-abbrev pub map-clear : Table → ℕ → Bool
-map-clear Formulas m = row-clear m
-map-clear Effects m = row-clear m
-map-clear Operators m = operator-clear m
-
--- a row's own number
-abbrev pub own-number : Table → ℕ
-own-number Formulas = 10
-own-number Effects = 11
-own-number Operators = 12
+use Rattle.file_format.specs.Reading.{row-read, operator-fields-read, formula-read, effect-read, operator-read}
 
 -- a row's words, without its own number
 abbrev pub row-words-read : Table → List ℕ → Parsed (List ℕ)

@@ -25,14 +25,14 @@ MapFits Formulas kind = kind < 16
 MapFits Effects kind = kind < 16
 MapFits Operators kind = Unit {0}
 
--- the bytes of a row, by its three words
-abbrev pub three-bytes : Table → (first second third : ℕ) → List ℕ
-three-bytes Formulas kind a b = row-bytes (record { kind = kind; a = a; b = b })
-three-bytes Effects kind a b = row-bytes (record { kind = kind; a = a; b = b })
-three-bytes Operators p e c = operator-bytes (operator p e c)
+-- the bytes of a row, by its words
+abbrev pub kind-bytes : (kind a b : ℕ) → List ℕ
+kind-bytes kind a b = row-bytes (record { kind = kind; a = a; b = b })
 
 abbrev pub bytes-of : Table → TableRow → List ℕ
-bytes-of table r = three-bytes table (r .first) (r .second) (r .third)
+bytes-of Formulas r = kind-bytes (r .first) (r .second) (r .third)
+bytes-of Effects r = kind-bytes (r .first) (r .second) (r .third)
+bytes-of Operators r = operator-bytes (operator (r .first) (r .second) (r .third) (r .fourth))
 
 -- the bytes of the first n rows of a table
 abbrev pub rows-bytes : Table → List ℕ → ℕ → List ℕ
@@ -43,7 +43,7 @@ rows-bytes Operators words n = joined operator-bytes (upto n (operator-at words)
 -- a table whose rows can be put at a place
 pub record RowsIn (table : Table) (words : List ℕ) (count at : ℕ) : Type 0 where
   pub fit : width table * count ≤ length words
-  pub room : at + 7 * count ≤ 1000000
+  pub room : at + 9 * count ≤ 1000000
   pub maps : (i : ℕ) → i < count → MapFits table (words-at table words i .first)
 
 -- a state whose first variables are bits

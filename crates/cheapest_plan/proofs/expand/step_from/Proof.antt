@@ -8,7 +8,7 @@ use Rattle.cheapest_plan.proofs.expand.step_from.Reads as reads
 use Rattle.cheapest_plan.proofs.expand.step_from.Lts as lts
 use Rattle.cheapest_plan.proofs.relax.relax.Reads as relax-reads
 use Rattle.state_codes.proofs.next_code.Reads as next-code-reads
-use Rattle.task.proofs.operator_rows.cost_of.Reads as cost-of-reads
+use Rattle.task.proofs.operator_rows.charge_of.Reads as charge-of-reads
 use Rattle.task.proofs.operator_rows.effect_of.Reads as effect-of-reads
 use Rattle.task.proofs.operator_rows.precondition_of.Reads as precondition-of-reads
 
@@ -61,12 +61,8 @@ next-code-requires : tie.Need-next-code-requires
 next-code-requires c κs = search needs
 
 -- src/expand.rt:37:18
-cost-of-requires : tie.Need-cost-of-requires
-cost-of-requires c κs = search needs
-
--- src/expand.rt:37:18
-cast-charge : tie.Need-cast-charge
-cast-charge c = search needs
+charge-of-requires : tie.Need-charge-of-requires
+charge-of-requires c κs = search needs
 
 -- src/expand.rt:38:24
 add-step : tie.Need-add-step
@@ -87,36 +83,36 @@ cast-step c = search needs
 -- src/expand.rt:39:24
 add-relax : tie.Need-add-relax
 add-relax c =
-    let at-cost-of = c .before in
-    let at-effect-of = at-cost-of .before .before .before in
+    let at-charge-of = c .before in
+    let at-effect-of = at-charge-of .before .before .before in
     let at-if1 = at-effect-of .before in
     let at-precondition-of = at-if1 .before .before in
     let at-start = at-precondition-of .before .before .before .before .before .before in
     let pre = at-start .pre .1 in
     let below = at-start .pre .0 in
     let fit = sums-fit (pre .stage) (pre .stepping) below (at-precondition-of .precondition-of .ensures) (at-if1 .if1 .left)
-    (at-effect-of .effect-of .ensures) (at-cost-of .cost-of .ensures) in
+    (at-effect-of .effect-of .ensures) (at-charge-of .charge-of .ensures) in
     omega (arith, fit)
 
 -- src/expand.rt:39:39
 add-relax-2 : tie.Need-add-relax-2
 add-relax-2 c =
-    let at-cost-of = c .before in
-    let at-effect-of = at-cost-of .before .before .before in
+    let at-charge-of = c .before in
+    let at-effect-of = at-charge-of .before .before .before in
     let at-if1 = at-effect-of .before in
     let at-precondition-of = at-if1 .before .before in
     let at-start = at-precondition-of .before .before .before .before .before .before in
     let pre = at-start .pre .1 in
     let below = at-start .pre .0 in
     let fit = sums-fit (pre .stage) (pre .stepping) below (at-precondition-of .precondition-of .ensures) (at-if1 .if1 .left)
-    (at-effect-of .effect-of .ensures) (at-cost-of .cost-of .ensures) in
+    (at-effect-of .effect-of .ensures) (at-charge-of .charge-of .ensures) in
     omega (arith, fit)
 
 -- src/expand.rt:39:5
 relax-requires : tie.Need-relax-requires
 relax-requires c κs =
-    let at-cost-of = c .before .before in
-    let at-next-code = at-cost-of .before in
+    let at-charge-of = c .before .before in
+    let at-next-code = at-charge-of .before in
     let at-effect-of = at-next-code .before .before in
     let at-if1 = at-effect-of .before in
     let at-precondition-of = at-if1 .before .before in
@@ -125,7 +121,7 @@ relax-requires c κs =
     let below = at-start .pre .0 in (
       pre .roomy,
       relaxable (pre .stage) (pre .stepping) below (at-precondition-of .precondition-of .ensures) (at-if1 .if1 .left) (at-effect-of .effect-of .ensures)
-          (at-cost-of .cost-of .ensures) (at-next-code .next-code .ensures),
+          (at-charge-of .charge-of .ensures) (at-next-code .next-code .ensures),
     )
 
 -- src/expand.rt:15:1
@@ -140,8 +136,8 @@ same-length-2 c = search needs
 returns-2 : tie.Need-returns-2
 returns-2 c =
     let at-relax = c .before .before .before .before in
-    let at-cost-of = at-relax .before .before .before in
-    let at-next-code = at-cost-of .before in
+    let at-charge-of = at-relax .before .before .before in
+    let at-next-code = at-charge-of .before in
     let at-effect-of = at-next-code .before .before in
     let at-if1 = at-effect-of .before in
     let at-precondition-of = at-if1 .before .before in
@@ -151,7 +147,7 @@ returns-2 c =
       zeros = relaxed .zeros;
       told = λ h at.
           stepped-on h at (at-start .pre .0) (at-precondition-of .precondition-of .ensures) (at-if1 .if1 .left) (at-effect-of .effect-of .ensures)
-          (at-cost-of .cost-of .ensures) (at-next-code .next-code .ensures) relaxed;
+          (at-charge-of .charge-of .ensures) (at-next-code .next-code .ensures) relaxed;
     }
 
 pub step-from-spec : {M : Type 1} → statement M
@@ -167,8 +163,7 @@ step-from-spec =
     mul-next-code
     shared-slice-read-next-code
     next-code-requires
-    cost-of-requires
-    cast-charge
+    charge-of-requires
     add-step
     mul-step
     add-step-2

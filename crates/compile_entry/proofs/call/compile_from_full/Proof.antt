@@ -1,4 +1,4 @@
--- `compile_from_full` meets its contract: the source in tables with room for every task: 50 KiB. Assumes nothing.
+-- `compile_from_full` meets its contract: the source in tables with room for every task: 51 KiB. Assumes nothing.
 use Rattle.entry_tables.specs.Own.{own}
 use Rattle.compile_entry.specs.Entry.{compile-entry, compile-entry-by}
 use borrow.Author.Needs.{needs}

@@ -1,4 +1,4 @@
--- `compile_full` meets its contract: through room for every compiled task: 82.5 KiB. Assumes nothing.
+-- `compile_full` meets its contract: through room for every compiled task: 83 KiB. Assumes nothing.
 use lib.ListN.{length}
 use Rattle.task.specs.Table.{lent}
 use Rattle.entry_tables.specs.Own.{own-room}

@@ -1,4 +1,4 @@
--- `compile_small` meets its contract: through small room: 8.75 KiB. Assumes nothing.
+-- `compile_small` meets its contract: through small room: 9 KiB. Assumes nothing.
 use Rattle.compiled_file.specs.Inner.Giving.{small-room}
 use borrow.Author.Needs.{needs}
 use Rattle.compiled_file.proofs.compiling.compile_small.Statement.{statement}

@@ -1,4 +1,6 @@
 -- `take` gives what `took` gives, each way out by a law of Taking. Assumes nothing.
+use Prim.Native.Nat.{ℕ, _≤_}
+use Rattle.task.proofs.Stores.{cost-among}
 use native.Mathlib.Omega.{arith}
 use mathlib.Core.Path.{refl}
 use Rattle.operator_step.proofs.Taking.{valuable, asked-below, stays, there, conditions-ready, carried-out}
@@ -54,8 +56,8 @@ carry-out-requires c κs =
     (held .last .1 .1 .1 .0) (held .kept .1 .1 .1 .0)
     (held .ensures .1 .known))
 
-cost-of-requires : tie.Need-cost-of-requires
-cost-of-requires c κs =
+charge-of-requires : tie.Need-charge-of-requires
+charge-of-requires c κs =
     let at-if1 = c .before .before .before .before .before .before .before .before in
     let at-stop-of = at-if1 .before in
     let at-holds = at-stop-of .before .before .before .before in
@@ -75,15 +77,16 @@ returns-2 c =
     let at-stop-of = at-if1 .before in
     let at-holds = at-stop-of .before .before .before .before in
     let at-asked = at-holds .before .before .before in
-    let start = at-asked .before .before .before .before .before .before .before in
+    let at-operators = at-asked .before .before .before .before in
+    let start = at-operators .before .before .before in
     let n = start .args .number in
     let p = at-asked .asked .ensures in
     let held = at-holds .holds in
     let same = held .kept .1 .1 .1 .0 in
     let carried = rw (at-effect-of .effect-of .ensures) at (at-carry-out .carry-out .ensures) in (
-      rw (c .cost-of .ensures)
+      rw (c .charge-of .ensures)
           (carried-out (start .pre) n p (held .ensures .0) (at-stop-of .stop-of .ensures) (at-if1 .if1 .left) (held .last .1 .1 .1 .0) same (held .ensures .1 .known) _ _ carried
-          (omega (arith, c .cost-of .ensures))),
+          (cost-among (λ (x : ℕ). x ≤ 65535) (start .args .operators .now) n (λ k. omega (arith, at-operators .shared-slice-known3 .given k)))),
       scratch-done n p (held .ensures .1) refl (omega (arith, asked-below (start .pre) n p)) same (carried .deciding),
     )
 
@@ -92,5 +95,5 @@ take-spec =
     tie.close
     (tie.spec
     (λ c. search needs) (λ c κs. search needs) holds-requires (λ c κs. search needs) (λ c. search needs) (λ c. search needs) returns
-    effect-of-requires (λ c. search needs) add-carry-out carry-out-requires cost-of-requires (λ c. search needs) (λ c. search needs)
+    effect-of-requires (λ c. search needs) add-carry-out carry-out-requires charge-of-requires (λ c. search needs) (λ c. search needs)
     (λ c. search needs) returns-2)

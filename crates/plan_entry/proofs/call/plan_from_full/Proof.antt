@@ -1,4 +1,4 @@
--- `plan_from_full` meets its contract: the task in tables with room for every task: 50 KiB. Assumes nothing.
+-- `plan_from_full` meets its contract: the task in tables with room for every task: 51 KiB. Assumes nothing.
 use Rattle.entry_tables.specs.Own.{own}
 use Rattle.plan_entry.specs.Entry.{plan-entry, plan-entry-by}
 use borrow.Author.Needs.{needs}

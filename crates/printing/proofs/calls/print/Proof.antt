@@ -32,7 +32,7 @@ returns-2 c =
     (lent (at-args .args .head) (at-args .args .initial .now) (at-args .args .twins .now) (at-args .args .formulas .now) (at-args .args .effects .now)
     (at-args .args .operators .now))
     (length (at-args .args .out .now)) (c .before .before .settled .result) (sym (at-check .check .ensures) ∙ (at-if1 .if1 .left))
-    (c .before .before .settled .ensures _ (length (at-args .args .out .now)) 225000 (put-on (at-clear .clear .ensures) (at-task-lines .task-lines .ensures)))
+    (c .before .before .settled .ensures _ (length (at-args .args .out .now)) 276000 (put-on (at-clear .clear .ensures) (at-task-lines .task-lines .ensures)))
 
 pub print-spec : {M : Type 1} → statement M
 print-spec =

@@ -6,7 +6,7 @@ use mathlib.Core.Path.{sym}
 use Rattle.task.specs.Bounded.{upto}
 use Rattle.task.proofs.Stores.{row-there}
 use Rattle.printing.specs.Lines.{numbered}
-use Rattle.printing.specs.Inner.Put.{Put, listed}
+use Rattle.printing.specs.Inner.Put.{Put, listed-at}
 use Rattle.printing.proofs.Puts.{put-length, put-ends}
 use Rattle.printing.proofs.Texts.{rows-none, row-put, rows-more}
 use Rattle.printing.proofs.lines.row_lines.Statement.{statement}
@@ -14,7 +14,7 @@ use Rattle.printing.proofs.lines.row_lines.Tie as tie
 
 abbrev Inv-loop : tie.InvT-loop
 Inv-loop out₀ at letter table words count next₀ i₀ out next i =
-    (i ≤ count) × Put out₀ at (numbered letter 0 (upto i (listed table words))) (26 * i) out next
+    (i ≤ count) × Put out₀ at (numbered letter 0 (upto i (listed-at table words))) (32 * i) out next
 
 abbrev μ-loop : tie.MeasureT-loop
 μ-loop out₀ at letter table words count next₀ i₀ out next i = count - i
@@ -22,16 +22,16 @@ abbrev μ-loop : tie.MeasureT-loop
 loop-holds : tie.Need-loop-holds Inv-loop μ-loop
 loop-holds c =
     let a = c .before .before .args in
-    (omega arith, rows-none (a .letter) 0 (listed (a .table) (a .words .now)) (a .out .now) (a .at))
+    (omega arith, rows-none (a .letter) 0 (listed-at (a .table) (a .words .now)) (a .out .now) (a .at))
 
 row-at-requires : tie.Need-row-at-requires Inv-loop μ-loop
 row-at-requires c κs = row-there (c .before .before .before .before .args .table) (c .loop-test .taken) (c .before .before .before .before .pre .long)
 
-cast-line-of-four : tie.Need-cast-line-of-four Inv-loop μ-loop
-cast-line-of-four c = omega (arith, c .before .before .loop-test .taken, c .before .before .before .before .before .before .pre .few)
+cast-row-line : tie.Need-cast-row-line Inv-loop μ-loop
+cast-row-line c = omega (arith, c .before .before .loop-test .taken, c .before .before .before .before .before .before .pre .few)
 
-line-of-four-requires : tie.Need-line-of-four-requires Inv-loop μ-loop
-line-of-four-requires c κs =
+row-line-requires : tie.Need-row-line-requires Inv-loop μ-loop
+row-line-requires c κs =
     let at-loop = c .before .before .before in
     let at-pre = at-loop .before .before .before in
     omega (arith, c .before .before .loop-test .taken, at-loop .loop .inv .1 .counted, at-loop .loop .inv .1 .short, at-pre .pre .room)
@@ -53,9 +53,9 @@ loop-again c =
     let at-args = at-loop .before .before .before in
     let a = at-args .args in
     let i = at-loop .loop .i in
-    let line = row-put (a .letter) i (a .table) (a .words .now) (at-row-at .row-at .ensures) (c .before .before .line-of-four .ensures) in (
+    let line = row-put (a .letter) i (a .table) (a .words .now) (at-row-at .row-at .ensures) (c .before .before .row-line .ensures) in (
       omega (arith, at-loop-test .loop-test .taken),
-      rows-more (a .letter) 0 i i (listed (a .table) (a .words .now)) (at-loop .loop .inv .1) line (sym (zero-add i)) (omega arith),
+      rows-more (a .letter) 0 i i (listed-at (a .table) (a .words .now)) (at-loop .loop .inv .1) line (sym (zero-add i)) (omega arith),
     )
 
 same-length : tie.Need-same-length Inv-loop μ-loop
@@ -64,7 +64,7 @@ same-length c = put-length (c .before .loop .inv .1)
 returns : tie.Need-returns Inv-loop μ-loop
 returns c =
     let a = c .before .before .before .before .args in
-    put-ends (λ n. numbered (a .letter) 0 (upto n (listed (a .table) (a .words .now)))) (λ n. 26 * n) (c .before .loop .inv .1) (c .before .loop .inv .0)
+    put-ends (λ n. numbered (a .letter) 0 (upto n (listed-at (a .table) (a .words .now)))) (λ n. 32 * n) (c .before .loop .inv .1) (c .before .loop .inv .0)
     (c .loop-test .left)
 
 pub row-lines-spec : {M : Type 1} → statement M
@@ -73,4 +73,4 @@ row-lines-spec =
     (tie.spec
     Inv-loop
     μ-loop
-    loop-holds row-at-requires cast-line-of-four line-of-four-requires add-i loop-less loop-again same-length returns)
+    loop-holds row-at-requires cast-row-line row-line-requires add-i loop-less loop-again same-length returns)

@@ -1,4 +1,4 @@
--- `read_full` meets its contract: through tables with room for every task: 50 KiB. Assumes nothing.
+-- `read_full` meets its contract: through tables with room for every task: 51 KiB. Assumes nothing.
 use Rattle.entry_tables.specs.Own.{own}
 use Rattle.read_entry.specs.Entry.{read-entry, read-entry-by}
 use borrow.Author.Needs.{needs}

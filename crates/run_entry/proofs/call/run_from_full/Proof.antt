@@ -1,4 +1,4 @@
--- `run_from_full` meets its contract: the task in tables with room for every task: 50 KiB. Assumes nothing.
+-- `run_from_full` meets its contract: the task in tables with room for every task: 51 KiB. Assumes nothing.
 use Rattle.entry_tables.specs.Own.{own}
 use Rattle.run_entry.specs.Entry.{run-entry, run-entry-by}
 use borrow.Author.Needs.{needs}

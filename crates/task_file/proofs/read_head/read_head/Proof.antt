@@ -1,7 +1,7 @@
 -- `read_head` meets its contract: the six fields of the head: the lower three bits of the map, then the upper three. Assumes nothing.
 use mathlib.Core.Path.{_≡_, refl, sym, ap, _∙_}
 use native.Mathlib.Omega.{arith}
-use Rattle.task_file.specs.Inner.Answers.{row-told, head-told, lost-head}
+use Rattle.task_file.specs.Inner.Answers.{fields-told, head-told, lost-head}
 use Rattle.task_file.proofs.HeadWays.{head-ends, head-unclear, lower-refused, upper-refused, head-there, pos}
 use borrow.Author.Needs.{needs}
 use Rattle.task_file.proofs.read_head.read_head.Statement.{statement}
@@ -27,7 +27,7 @@ returns-3 c =
     let at-if1 = at-if2 .before .before in
     let at-args = at-if1 .before .before in
     let f = at-args .args .file .now in ap (head-told f) (c .refused .ensures ∙ ap lost-head (c .before .enum-told .given .1)) ∙ sym
-    (lower-refused f (pos (at-if1 .if1 .left)) (at-if2 .if2 .left) (sym (at-read-three .read-three .ensures) ∙ ap (row-told f) (c .before .enum-told .given .1)))
+    (lower-refused f (pos (at-if1 .if1 .left)) (at-if2 .if2 .left) (sym (at-read-three .read-three .ensures) ∙ ap (fields-told f) (c .before .enum-told .given .1)))
 
 -- src/read_head.rt:37:9
 returns-4 : tie.Need-returns-4
@@ -39,8 +39,8 @@ returns-4 c =
     let at-if1 = at-if2 .before .before in
     let at-args = at-if1 .before .before in
     let f = at-args .args .file .now in ap (head-told f) (c .refused2 .ensures ∙ ap lost-head (c .before .enum-told2 .given .1)) ∙ sym
-    (upper-refused f (pos (at-if1 .if1 .left)) (at-if2 .if2 .left) (sym (at-read-three .read-three .ensures) ∙ ap (row-told f) (at-a .a .given .1))
-    (sym (at-read-three2 .read-three2 .ensures) ∙ ap (row-told f) (c .before .enum-told2 .given .1)))
+    (upper-refused f (pos (at-if1 .if1 .left)) (at-if2 .if2 .left) (sym (at-read-three .read-three .ensures) ∙ ap (fields-told f) (at-a .a .given .1))
+    (sym (at-read-three2 .read-three2 .ensures) ∙ ap (fields-told f) (c .before .enum-told2 .given .1)))
 
 -- src/read_head.rt:21:1
 returns-5 : tie.Need-returns-5
@@ -52,8 +52,8 @@ returns-5 c =
     let at-if1 = at-if2 .before .before in
     let at-args = at-if1 .before .before in
     let f = at-args .args .file .now in sym
-    (head-there f (pos (at-if1 .if1 .left)) (at-if2 .if2 .left) (sym (at-read-three .read-three .ensures) ∙ ap (row-told f) (at-a .a .given .1))
-    (sym (at-read-three2 .read-three2 .ensures) ∙ ap (row-told f) (c .before .b .given .1)))
+    (head-there f (pos (at-if1 .if1 .left)) (at-if2 .if2 .left) (sym (at-read-three .read-three .ensures) ∙ ap (fields-told f) (at-a .a .given .1))
+    (sym (at-read-three2 .read-three2 .ensures) ∙ ap (fields-told f) (c .before .b .given .1)))
 
 pub read-head-spec : {M : Type 1} → statement M
 read-head-spec =

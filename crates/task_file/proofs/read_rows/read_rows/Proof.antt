@@ -33,7 +33,7 @@ returns c =
     let told = c .before .enum-told .given .1 in
     rows-refused (a .table) (a .head) (a .count) (a .file .now) (a .at) (a .words .now) (at .words) (at .i) (at .place) (at .inv)
     (at-loop-test .loop-test .taken)
-    (sym (at-read-kept .read-kept .ensures) ∙ ap (row-told (a .file .now)) told) (c .refused .ensures ∙ ap lost-row told)
+    (sym (at-read-kept .read-kept .ensures) ∙ ap (row-told (a .table) (a .file .now)) told) (c .refused .ensures ∙ ap lost-row told)
 
 store-row-requires : tie.Need-store-row-requires Inv-loop μ-loop
 store-row-requires c κs =
@@ -58,9 +58,9 @@ loop-again c =
     let a = at-args .args in
     let at = at-loop .loop in
     rw (c .before .before .store-row .ensures)
-    (rows-more (a .table) (a .head) (a .count) (a .file .now) (a .at) (a .words .now) (at .words) (at .i) (at .place) (at-args .pre) (at .inv)
+    (rows-more (a .table) (a .head) (a .count) (a .file .now) (a .at) (a .words .now) (at .words) (at .i) (at .place) _ (at-args .pre) (at .inv)
     (at-loop-test .loop-test .taken)
-    (sym (at-read-kept .read-kept .ensures) ∙ ap (row-told (a .file .now)) (at-r .r .given .1)))
+    (sym (at-read-kept .read-kept .ensures) ∙ ap (row-told (a .table) (a .file .now)) (at-r .r .given .1)))
 
 same-length-2 : tie.Need-same-length-2 Inv-loop μ-loop
 same-length-2 c = c .before .loop .inv .size

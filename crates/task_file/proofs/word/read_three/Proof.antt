@@ -1,7 +1,7 @@
 -- `read_three` meets its contract: three fields by the lowest bits of a map: what the head and every row is made of. Assumes nothing.
 use mathlib.Core.Path.{_≡_, sym, ap, _∙_}
 use lib.ListN.{drop}
-use Rattle.task_file.specs.Inner.Answers.{field-told, row-told, carried}
+use Rattle.task_file.specs.Inner.Answers.{field-told, fields-told, carried}
 use Rattle.task_file.proofs.RowWords.{first-refused, second-refused, third-refused, three-there}
 use borrow.Author.Needs.{needs}
 use Rattle.task_file.proofs.word.read_three.Statement.{statement}
@@ -16,7 +16,7 @@ returns : tie.Need-returns
 returns c =
     let at-read-field = c .before .before .before in
     let at-args = at-read-field .before .before in
-    let f = at-args .args .file .now in let m = at-args .args .map in let d = drop (at-args .args .at) f in ap (row-told f)
+    let f = at-args .args .file .now in let m = at-args .args .map in let d = drop (at-args .args .at) f in ap (fields-told f)
     (c .refused .ensures ∙ ap carried (c .before .enum-told .given .1)) ∙ sym
     (first-refused m d (sym (at-read-field .read-field .ensures) ∙ ap (field-told f) (c .before .enum-told .given .1)))
 
@@ -27,7 +27,7 @@ returns-2 c =
     let at-a = at-read-field2 .before .before in
     let at-read-field = at-a .before .before in
     let at-args = at-read-field .before .before in
-    let f = at-args .args .file .now in let m = at-args .args .map in let d = drop (at-args .args .at) f in ap (row-told f)
+    let f = at-args .args .file .now in let m = at-args .args .map in let d = drop (at-args .args .at) f in ap (fields-told f)
     (c .refused2 .ensures ∙ ap carried (c .before .enum-told2 .given .1)) ∙ sym
     (second-refused m d (sym (at-read-field .read-field .ensures) ∙ ap (field-told f) (at-a .a .given .1))
     (sym (at-read-field2 .read-field2 .ensures) ∙ ap (field-told f) (c .before .enum-told2 .given .1)))
@@ -41,7 +41,7 @@ returns-3 c =
     let at-a = at-read-field2 .before .before in
     let at-read-field = at-a .before .before in
     let at-args = at-read-field .before .before in
-    let f = at-args .args .file .now in let m = at-args .args .map in let d = drop (at-args .args .at) f in ap (row-told f)
+    let f = at-args .args .file .now in let m = at-args .args .map in let d = drop (at-args .args .at) f in ap (fields-told f)
     (c .refused3 .ensures ∙ ap carried (c .before .enum-told3 .given .1)) ∙ sym
     (third-refused m d (sym (at-read-field .read-field .ensures) ∙ ap (field-told f) (at-a .a .given .1))
     (sym (at-read-field2 .read-field2 .ensures) ∙ ap (field-told f) (at-b .b .given .1))

@@ -13,7 +13,7 @@ put-field-requires-2 : tie.Need-put-field-requires-2
 put-field-requires-2 c κs =
     let at-put-field = c .before .before .before in
     let at-pre = at-put-field .before .before .before in
-    omega (arith, at-pre .pre, field-next (at-pre .args .a) (at-put-field .put-field .ensures))
+    omega (arith, at-pre .pre, field-next 0 (at-pre .args .a) (at-put-field .put-field .ensures))
 
 -- src/put.rt:48:5
 put-field-requires-3 : tie.Need-put-field-requires-3
@@ -22,7 +22,7 @@ put-field-requires-3 c κs =
     let at-put-field = at-put-field2 .before .before .before .before in
     let at-pre = at-put-field .before .before .before in
     omega
-    (arith, at-pre .pre, field-next (at-pre .args .a) (at-put-field .put-field .ensures), field-next (at-pre .args .b) (at-put-field2 .put-field2 .ensures))
+    (arith, at-pre .pre, field-next 0 (at-pre .args .a) (at-put-field .put-field .ensures), field-next 0 (at-pre .args .b) (at-put-field2 .put-field2 .ensures))
 
 -- src/put.rt:42:1
 returns : tie.Need-returns

@@ -5,7 +5,7 @@ use Rattle.task.specs.Inner.Tables.{words-at}
 use Rattle.task.proofs.Stores.{row-there}
 use Rattle.task_writer.specs.Inner.Putting.{rows-bytes}
 use Rattle.task_writer.proofs.Puts.{put-size}
-use Rattle.task_writer.proofs.PutLoops.{PutDone, put-begin, put-more, put-end, rows-none-put, rows-more-put, three-bytes-length}
+use Rattle.task_writer.proofs.PutLoops.{PutDone, put-begin, put-more, put-end, rows-none-put, rows-more-put, row-bytes-length}
 use Rattle.task_writer.proofs.put_tables.put_rows.Statement.{statement}
 use Rattle.task_writer.proofs.put_tables.put_rows.Tie as tie
 
@@ -53,7 +53,7 @@ loop-again c =
     let at = at-loop .loop in
     let r = words-at (a .table) (a .words .now) (at .i) in
     put-more (rows-bytes (a .table) (a .words .now)) (a .count) (a .at) (a .out .now) (at .out) (at .i) (at .place) (at .inv) (at-loop-test .loop-test .taken)
-    (rw (at-row-at .row-at .ensures) at (c .before .before .put-row .ensures)) (three-bytes-length (a .table) (r .first) (r .second) (r .third))
+    (rw (at-row-at .row-at .ensures) at (c .before .before .put-row .ensures)) (row-bytes-length (a .table) r)
     (rows-more-put (a .table) (a .words .now) (at .i))
 
 same-length : tie.Need-same-length Inv-loop μ-loop

@@ -4,7 +4,7 @@ use native.Mathlib.Omega.{arith}
 use borrow.Author.Needs.{needs}
 use Prim.Native.Nat.{_+_, _-_, _*_, _/_}
 use lib.ListN.{length, getD, take}
-use Rattle.task_writer.specs.Inner.Putting.{Put, rows-bytes, three-bytes, byte-number}
+use Rattle.task_writer.specs.Inner.Putting.{Put, rows-bytes, byte-number}
 use Rattle.task_writer.proofs.Puts.{put-size, put-same}
 use Rattle.task_writer.proofs.PutLoops.{PutDone, put-begin, put-more, put-end, state-bytes, state-none-put, state-more-put, state-all}
 use Rattle.task_writer.proofs.put_tables.put_state.Statement.{statement}

@@ -4,7 +4,7 @@ use native.Mathlib.Omega.{arith}
 use borrow.Author.Needs.{needs}
 use Prim.Native.Nat.{_+_, _-_, _*_, _/_}
 use lib.ListN.{length, getD, take}
-use Rattle.task_writer.specs.Inner.Putting.{Put, rows-bytes, three-bytes, byte-number}
+use Rattle.task_writer.specs.Inner.Putting.{Put, rows-bytes, byte-number}
 use Rattle.task_writer.proofs.Puts.{put-size}
 use Rattle.task_writer.proofs.PutLoops.{PutDone, put-begin, put-more, put-end, words-bytes, words-none-put, words-more-put, word-length}
 use Rattle.task_writer.proofs.put_tables.put_words.Statement.{statement}
