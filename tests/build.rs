@@ -1,4 +1,5 @@
-//! Tells the linker where `libtest_calls.a` lies, and `libentries.a` if asked for.
+//! Tells the linker where `libtest_calls.a` and `liboperator_records.a` lie, and
+//! `libentries.a` if asked for.
 
 use std::env;
 use std::path::PathBuf;
@@ -6,6 +7,7 @@ use std::path::PathBuf;
 fn main() {
     println!("cargo:rerun-if-changed=build.rs");
     library("libtest_calls.a", "TEST_CALLS_DIR");
+    library("liboperator_records.a", "TEST_CALLS_DIR");
     if env::var_os("CARGO_FEATURE_ENTRIES").is_some() {
         library("libentries.a", "ENTRIES_DIR");
     }

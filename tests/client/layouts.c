@@ -70,7 +70,7 @@ static const uint8_t whole_tables[PNF_TABLES_BYTES(2, 0, 5, 4, 1)] = {
     3, 0, 1, 0, 0, 0, 4, 0, 0, 0, 3, 0,
     1, 0, 0, 0, 0, 0, 2, 0, 1, 0, 0, 0, 4, 0, 1, 0, 1, 0,         /* effects */
     3, 0, 0, 0, 2, 0,
-    2, 0, 3, 0, 3, 0                                              /* operator */
+    2, 0, 3, 0, 3, 0, 100, 0                                      /* operator */
 };
 static const uint8_t whole_compiled[] = {
     0x3f, 4, 0, 2, 0, 7, 0, 12, 0, 1, 0, 6, 0,                    /* head */
@@ -171,8 +171,9 @@ static void expect_no_plan(const char *what, const uint8_t *bytes, size_t length
 static void sizes(void)
 {
     check("head", PNF_HEAD_BYTES == 12);
-    check("largest tables", PNF_MOST_TABLES_BYTES == 51724);
-    check("whole example's tables", sizeof whole_tables == 74);
+    check("largest tables", PNF_MOST_TABLES_BYTES == 52236);
+    check("whole example's tables", sizeof whole_tables == 76);
+    check("an operator row", PNF_OPERATOR_BYTES == 8);
     check("results", PNF_COMPILE_RESULT_BYTES == 4 && PNF_RUN_RESULT_BYTES == 16);
     check("a plan's result", PNF_PLAN_RESULT_BYTES == 12 && PNF_MOST_PLAN_BYTES == 2046);
     check("twins", 2 * PNF_MOST_TWINS == PNF_MOST_VARIABLES);
@@ -273,17 +274,25 @@ static void refused_runs(void)
     expect_no_run("1 before 16", r, PNF_FILE_ENDS);
 }
 
-/* 65,535 steps of cost 65,535; one number more is 19, even if the first would stop. */
+/*
+ * 65,535 steps of cost 65,535, and the same at 200 percent; one number more is 19, even if the
+ * first would stop.
+ */
 static void longest_runs(void)
 {
     static const uint8_t costly[] = {0x1c, 1, 0, 1, 0, 1, 0, 0x10, 0x00, 0x04, 255, 255};
+    static const uint8_t doubled[] = {0x1c, 1, 0, 1, 0, 1, 0, 0x10, 0x00, 0x0c, 255, 255, 200, 0};
     static const uint8_t total[] = {255, 255, 0, 0, 1, 0, 254, 255, 0, 0, 0, 0, 1, 1, 0, 0};
+    static const uint8_t twice[] = {255, 255, 0, 0, 2, 0, 252, 255, 1, 0, 0, 0, 1, 1, 0, 0};
     uint8_t *sequence = calloc(PNF_MOST_STEPS + 2, 2);
     struct run r = {costly, sizeof costly, NULL, 0, sequence, 2 * PNF_MOST_STEPS, 16};
 
     if (sequence == NULL)
         abort();
     expect_run("65,535 steps", r, PNF_OK, NULL, total, 16);
+    r.file = doubled;
+    r.file_len = sizeof doubled;
+    expect_run("at 200 percent", r, PNF_OK, NULL, twice, 16);
     r.sequence_len++;
     expect_no_run("half a number more", r, PNF_SEQUENCE);
     r.sequence_len++;
@@ -320,6 +329,52 @@ static void planning(void)
                     cost_1, 12);
     for (length = 0; length < 9; length++)
         expect_plan("empty plan", smallest, sizeof smallest, length, 12, PNF_OK, NULL, 0, none, 12);
+}
+
+/*
+ * One variable that three operators set, the goal is the variable: cost 5 at 50, cost 2 at 100
+ * (absent), cost 9 at 0. Charges 3, 2 and 0.
+ */
+static const uint8_t discounted[] = {
+    0x3d, 1, 0, 2, 0, 1, 0, 3, 0, 1, 0,                           /* head */
+    0x00, 0x10, 0x20, 0x10,                                       /* true; v0; set v0 */
+    0x0c, 5, 0, 50, 0, 0x04, 2, 0, 0x0c, 9, 0, 0, 0               /* operators */
+};
+static const uint8_t discounted_tables[PNF_TABLES_BYTES(1, 0, 2, 1, 3)] = {
+    1, 0, 0, 0, 2, 0, 1, 0, 3, 0, 1, 0, 0,                        /* head; initially none */
+    1, 0, 0, 0, 0, 0, 2, 0, 0, 0, 0, 0, 1, 0, 0, 0, 0, 0,         /* true; v0; set v0 */
+    0, 0, 0, 0, 5, 0, 50, 0, 0, 0, 0, 0, 2, 0, 100, 0,            /* operators */
+    0, 0, 0, 0, 9, 0, 0, 0
+};
+static const uint8_t discounted_compiled[] = {
+    0x3d, 1, 0, 3, 0, 7, 0, 3, 0, 2, 0,                           /* head */
+    0x00, 0x00, 0x10, 0x20,                                       /* false; true; v0 */
+    0x00, 0x10, 0x43, 1, 0, 1, 0, 0x10, 0x43, 1, 0, 3, 0,         /* effects */
+    0x10, 0x43, 1, 0, 5, 0,
+    0x0f, 1, 0, 2, 0, 5, 0, 50, 0, 0x07, 1, 0, 4, 0, 2, 0,        /* operators */
+    0x0f, 1, 0, 6, 0, 9, 0, 0, 0
+};
+
+/* Percents in the tables and in the compiled task, and the charges of runs and plans. */
+static void percents(void)
+{
+    static const uint8_t sequence[] = {0, 0, 1, 0, 0, 0, 2, 0}, state[1] = {0}, after[1] = {1};
+    static const uint8_t charged[] = {4, 0, 0, 0, 8, 0, 0, 0, 0, 0, 0, 0, 1, 1, 0, 0};
+    static const uint8_t last[2] = {2, 0}, free_of_charge[12] = {1, 0, 0, 0, 0};
+    struct run source = {discounted, sizeof discounted, state, 1, sequence, 8, 16};
+    struct run other = {discounted_compiled, sizeof discounted_compiled, state, 1, sequence, 8, 16};
+
+    expect_read("percents", discounted, sizeof discounted, sizeof discounted_tables, PNF_OK, discounted_tables,
+                sizeof discounted_tables);
+    expect_read("a word short", discounted, sizeof discounted, sizeof discounted_tables - 2, PNF_OUTPUT_SHORT,
+                NULL, 0);
+    expect_compile("percents are kept", discounted, sizeof discounted, sizeof discounted_compiled, 4, PNF_OK,
+                   discounted_compiled, sizeof discounted_compiled);
+    expect_run("source's charges", source, PNF_OK, after, charged, 16);
+    expect_run("compiled task's charges", other, PNF_OK, after, charged, 16);
+    expect_plan("source's plan", discounted, sizeof discounted, 2, 12, PNF_OK, last, 2, free_of_charge, 12);
+    expect_plan("compiled task's plan", discounted_compiled, sizeof discounted_compiled, 2, 12, PNF_OK,
+                last, 2, free_of_charge, 12);
 }
 
 /* 21, then 20, then 22, then 23. */
@@ -367,6 +422,16 @@ static void damaged_files(void)
         {"effect kind 5", PNF_EFFECT_ROW, 7, {0x0c, 1, 0, 1, 0, 0x10, 0x50}},
         {"precondition F", PNF_OPERATOR_ROW, 12,
          {0x1c, 1, 0, 1, 0, 1, 0, 0x10, 0x00, 0x01, 1, 0}},
+        {"unused operator bit", PNF_UNUSED_BIT, 10,
+         {0x1c, 1, 0, 1, 0, 1, 0, 0x10, 0x00, 0x18}},
+        {"half a percent", PNF_FILE_ENDS, 11,
+         {0x1c, 1, 0, 1, 0, 1, 0, 0x10, 0x00, 0x08, 201}},
+        {"percent 100", PNF_PRESENT_ZERO, 12,
+         {0x1c, 1, 0, 1, 0, 1, 0, 0x10, 0x00, 0x08, 100, 0}},
+        {"percent 201", PNF_PERCENT, 12,
+         {0x1c, 1, 0, 1, 0, 1, 0, 0x10, 0x00, 0x08, 201, 0}},
+        {"bytes follow a percent 0", PNF_BYTES_FOLLOW, 13,
+         {0x1c, 1, 0, 1, 0, 1, 0, 0x10, 0x00, 0x08, 0, 0, 0}},
     };
     static const uint8_t state[] = {2, 1, 7};
     size_t i;
@@ -429,6 +494,7 @@ int main(void)
         refused_runs();
         longest_runs();
         planning();
+        percents();
         refused_plans();
         damaged_files();
         over_a_limit();

@@ -69,7 +69,7 @@ static void put_deepest(unsigned kind, enum way way)
         below[1] = way == LEFT ? 0 : i - 1;
         put_row(way == UNDER ? 4 : 3, below, 2);
     }
-    put_row(0, operator_row, 3);
+    put_row(0, operator_row, 3); /* without a percent: 100 */
 }
 
 static uint32_t answer;

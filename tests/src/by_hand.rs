@@ -24,6 +24,7 @@ pub fn all() -> Vec<ByHand> {
         only_equal_rows_are_one(),
         false_precondition(),
         rules_in_order(),
+        percents_are_kept(),
     ]
 }
 
@@ -34,6 +35,8 @@ fn task(
     effects: &[[u16; 3]],
     operators: &[[u16; 3]],
 ) -> Task {
+    let operators = operators.iter();
+    let operators = operators.flat_map(|&[a, b, cost]| full_price(a, b, cost));
     Task {
         head: Head::from_words(head),
         tables: Tables {
@@ -41,7 +44,7 @@ fn task(
             twins: Vec::new(),
             formulas: formulas.concat(),
             effects: effects.concat(),
-            operators: operators.concat(),
+            operators: operators.collect(),
         },
     }
 }
@@ -73,7 +76,7 @@ fn row_one_still_builds_n() -> ByHand {
         ),
         printed: "t 3 1 4 3 1 1\ni 001\nw 2 1\n\
             f 0 0 0 0\nf 1 1 0 0\nf 2 2 1 0\nf 3 2 2 0\n\
-            e 0 0 0 0\ne 1 1 0 0\ne 2 4 1 1\no 0 1 2 7\n",
+            e 0 0 0 0\ne 1 1 0 0\ne 2 4 1 1\no 0 1 2 7 100\n",
     }
 }
 
@@ -89,7 +92,7 @@ fn row_zero_builds_no_n() -> ByHand {
         ),
         printed: "t 2 0 3 3 1 2\ni 11\n\
             f 0 0 0 0\nf 1 1 0 0\nf 2 2 1 0\n\
-            e 0 0 0 0\ne 1 2 0 0\ne 2 4 1 1\no 0 1 2 0\n",
+            e 0 0 0 0\ne 1 2 0 0\ne 2 4 1 1\no 0 1 2 0 100\n",
     }
 }
 
@@ -106,7 +109,7 @@ fn goal_brings_a_twin() -> ByHand {
         printed: "t 2 1 3 6 1 2\ni 01\nw 1 0\n\
             f 0 0 0 0\nf 1 1 0 0\nf 2 2 1 0\n\
             e 0 0 0 0\ne 1 1 0 0\ne 2 4 1 1\ne 3 2 1 0\ne 4 4 1 3\ne 5 3 2 4\n\
-            o 0 1 5 1\n",
+            o 0 1 5 1 100\n",
     }
 }
 
@@ -123,7 +126,7 @@ fn equivalence_in_order() -> ByHand {
         printed: "t 4 2 12 1 1 11\ni 1010\nw 2 1\nw 3 0\n\
             f 0 0 0 0\nf 1 1 0 0\nf 2 2 0 0\nf 3 2 2 0\nf 4 4 2 3\nf 5 2 3 0\n\
             f 6 2 1 0\nf 7 4 5 6\nf 8 5 4 7\nf 9 4 2 6\nf 10 4 5 3\nf 11 5 9 10\n\
-            e 0 0 0 0\no 0 8 0 9\n",
+            e 0 0 0 0\no 0 8 0 9 100\n",
     }
 }
 
@@ -155,7 +158,7 @@ fn inner_effect_first() -> ByHand {
         ),
         printed: "t 3 0 5 3 1 1\ni 000\n\
             f 0 0 0 0\nf 1 1 0 0\nf 2 2 1 0\nf 3 2 0 0\nf 4 4 3 2\n\
-            e 0 0 0 0\ne 1 1 2 0\ne 2 4 4 1\no 0 1 2 5\n",
+            e 0 0 0 0\ne 1 1 2 0\ne 2 4 4 1\no 0 1 2 5 100\n",
     }
 }
 
@@ -172,7 +175,7 @@ fn clear_then_not_set() -> ByHand {
         printed: "t 4 1 6 6 1 1\ni 0110\nw 3 1\n\
             f 0 0 0 0\nf 1 1 0 0\nf 2 2 1 0\nf 3 2 2 0\nf 4 2 3 0\nf 5 4 3 4\n\
             e 0 0 0 0\ne 1 1 0 0\ne 2 4 2 1\ne 3 2 0 0\ne 4 4 5 3\ne 5 3 2 4\n\
-            o 0 1 5 2\n",
+            o 0 1 5 2 100\n",
     }
 }
 
@@ -229,7 +232,26 @@ fn false_precondition() -> ByHand {
         printed: "t 2 1 3 6 2 0\ni 10\nw 1 0\n\
             f 0 0 0 0\nf 1 1 0 0\nf 2 2 1 0\n\
             e 0 0 0 0\ne 1 2 0 0\ne 2 4 2 1\ne 3 1 1 0\ne 4 4 2 3\ne 5 3 2 4\n\
-            o 0 0 5 4\no 1 2 0 6\n",
+            o 0 0 5 4 100\no 1 2 0 6 100\n",
+    }
+}
+
+/// Operators of the same cost, an empty effect and three percents.
+fn percents_are_kept() -> ByHand {
+    let mut kept = task(
+        [0, 0, 1, 1, 3, 0],
+        &[],
+        &[[1, 0, 0]],
+        &[[0, 0, 0]],
+        &[[0, 0, 9]; 3],
+    );
+    kept.set_percent(0, 0);
+    kept.set_percent(2, 200);
+    ByHand {
+        rule: "the compiled operator keeps cost and percent",
+        task: kept,
+        printed: "t 0 0 2 1 3 1\ni\nf 0 0 0 0\nf 1 1 0 0\ne 0 0 0 0\n\
+            o 0 1 0 9 0\no 1 1 0 9 100\no 2 1 0 9 200\n",
     }
 }
 
@@ -248,6 +270,6 @@ fn rules_in_order() -> ByHand {
             f 0 0 0 0\nf 1 1 0 0\nf 2 2 1 0\nf 3 2 0 0\nf 4 4 3 3\n\
             e 0 0 0 0\ne 1 1 0 0\ne 2 4 2 1\ne 3 2 1 0\ne 4 4 2 3\ne 5 3 2 4\n\
             e 6 2 0 0\ne 7 4 4 6\ne 8 3 5 7\ne 9 1 1 0\ne 10 4 4 9\ne 11 3 8 10\n\
-            o 0 1 11 1\n",
+            o 0 1 11 1 100\n",
     }
 }

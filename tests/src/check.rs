@@ -17,7 +17,7 @@ pub fn check(head: &Head, tables: &Tables) -> Result<(), Refusal> {
         check_effect(head, i, row(&tables.effects, i))?;
     }
     for i in 0..usize::from(head.operator_count) {
-        check_operator(head, row(&tables.operators, i))?;
+        check_operator(head, operator_row(&tables.operators, i))?;
     }
     Ok(())
 }
@@ -102,7 +102,9 @@ pub fn check_effect(head: &Head, number: usize, row: &[u16]) -> Result<(), Refus
     refuse_if(!fits(a, row[1]) || !fits(b, row[2]), 11)
 }
 
+/// 12, then 24.
 pub fn check_operator(head: &Head, row: &[u16]) -> Result<(), Refusal> {
     let known = row[0] < head.formula_count && row[1] < head.effect_count;
-    refuse_if(!known, 12)
+    refuse_if(!known, 12)?;
+    refuse_if(row[3] > MOST_PERCENT, 24)
 }

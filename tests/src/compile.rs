@@ -71,7 +71,7 @@ fn finish(task: &Task, mut builder: Builder) -> Result<Task, Over> {
     let mut preconditions = Vec::new();
     let mut conditions = Vec::new();
     for i in 0..usize::from(task.head.operator_count) {
-        let [precondition, root, _] = task.operator(i);
+        let [precondition, root, ..] = task.operator(i);
         preconditions.push(builder.image(precondition)?);
         conditions.push(operator_conditions(task, &mut builder, root)?);
     }
@@ -80,8 +80,8 @@ fn finish(task: &Task, mut builder: Builder) -> Result<Task, Over> {
     let mut operators = Vec::new();
     for (i, &precondition) in preconditions.iter().enumerate() {
         let root = effects.write_rules(&builder, &conditions[i])?;
-        let [_, _, cost] = task.operator(i);
-        operators.extend([precondition, root, cost]);
+        let [_, _, cost, percent] = task.operator(i);
+        operators.extend([precondition, root, cost, percent]);
     }
     Ok(assemble(task, builder, effects, operators, goal))
 }

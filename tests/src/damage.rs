@@ -3,8 +3,9 @@
 use crate::random::Random;
 use crate::task::*;
 
-/// The refusals of the check in 01's order.
-pub const ORDER: [Refusal; 8] = [6, 7, 5, 8, 9, 10, 11, 12];
+/// The refusals of the check in 01's order, 24 (02, K2) after 12 of the same
+/// row: the damages by 24 are in the last operator row.
+pub const ORDER: [Refusal; 9] = [6, 7, 5, 8, 9, 10, 11, 12, 24];
 
 /// A damage that alone brings exactly `number`.
 pub struct Damage {
@@ -29,7 +30,7 @@ pub fn base() -> Task {
             2, 6, 0, 3, 0, 0, 4, 1, 0, 5, 0, 2, 6, 3, 1, 7, 4, 0, //
         ],
         effects: vec![1, 6, 0, 2, 0, 0, 3, 1, 0, 4, 5, 2, 0, 0, 0],
-        operators: vec![5, 4, 65_535, 0, 0, 0, 2, 3, 7],
+        operators: vec![5, 4, 65_535, 200, 0, 0, 0, 100, 2, 3, 7, 50],
     };
     Task { head, tables }
 }
@@ -104,8 +105,10 @@ fn row_damages() -> Vec<Damage> {
         damage!(11, "under formula F", |t| t.tables.effects[10] = 6),
         damage!(11, "last row", |t| t.tables.effects[14] = 1),
         damage!(12, "precondition F", |t| t.tables.operators[0] = 6),
-        damage!(12, "effect E", |t| t.tables.operators[4] = 5),
-        damage!(12, "last row", |t| t.tables.operators[6] = 65_535),
+        damage!(12, "effect E", |t| t.tables.operators[5] = 5),
+        damage!(12, "last row", |t| t.tables.operators[8] = 65_535),
+        damage!(24, "percent 201", |t| t.tables.operators[11] = 201),
+        damage!(24, "percent 65535", |t| t.tables.operators[11] = 65_535),
     ]
 }
 
@@ -169,7 +172,7 @@ fn one_length(random: &mut Random, task: &mut Task) {
 /// Another value near the old one, or near one of the head's counts.
 fn changed(random: &mut Random, head: &Head, old: u16) -> u16 {
     let count = random.pick(&head.words());
-    match random.below(8) {
+    match random.below(9) {
         0 => old.wrapping_add(1),
         1 => old.wrapping_sub(1),
         2 => count,
@@ -177,14 +180,16 @@ fn changed(random: &mut Random, head: &Head, old: u16) -> u16 {
         4 => count.wrapping_add(1),
         5 => random.below(10) as u16,
         6 => random.pick(&[0, 255, 256, 511, 512, 4096, 32_768, 65_535]),
+        7 => random.pick(&[0, 50, 99, 100, 101, 200, 201, 300]),
         _ => random.word(),
     }
 }
 
-/// Changes, cuts or adds a byte of a file at random.
+/// Changes, cuts or adds a byte of a file at random; some of the bytes make
+/// percents that are refused, or just not.
 pub fn file(random: &mut Random, file: &mut Vec<u8>) {
     let at = random.below(file.len() + 1);
-    match random.below(8) {
+    match random.below(9) {
         0 => file.truncate(at),
         1 => file.insert(at, random.byte()),
         2 if at < file.len() => {
@@ -192,6 +197,7 @@ pub fn file(random: &mut Random, file: &mut Vec<u8>) {
         }
         3 if at < file.len() => file[at] = random.pick(&[0, 1, 2, 255]),
         4 if at < file.len() => file[at] = file[at].wrapping_add(1),
+        5 if at < file.len() => file[at] = random.pick(&[8, 100, 200, 201]),
         _ if at < file.len() => file[at] ^= 1 << random.below(8),
         _ => file.push(random.byte()),
     }

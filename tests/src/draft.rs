@@ -66,8 +66,12 @@ impl Draft {
         self.effect(effect::UNDER, condition, inner)
     }
 
+    /// An operator that charges its cost.
     pub fn operator(&mut self, precondition: u16, effect: u16, cost: u16) -> u16 {
-        let row = [precondition, effect, cost];
+        self.operator_row(full_price(precondition, effect, cost))
+    }
+
+    pub fn operator_row(&mut self, row: [u16; OPERATOR_ROW]) -> u16 {
         self.task.tables.operators.extend(row);
         self.task.head.operator_count += 1;
         self.task.head.operator_count - 1

@@ -12,7 +12,7 @@ pub fn whole() -> Task {
             twins: vec![],
             formulas: vec![2, 0, 0, 2, 1, 0, 3, 0, 0, 3, 1, 0, 4, 0, 3],
             effects: vec![1, 0, 0, 2, 1, 0, 4, 1, 1, 3, 0, 2],
-            operators: vec![2, 3, 3],
+            operators: full_price(2, 3, 3).to_vec(),
         },
     }
 }
@@ -42,7 +42,7 @@ e 8 3 5 7
 e 9 1 3 0
 e 10 4 3 9
 e 11 3 8 10
-o 0 2 11 3
+o 0 2 11 3 100
 ";
 
 /// The task of the smallest file: no variables, goal true.
@@ -100,12 +100,56 @@ pub fn formula_over_empty() -> Task {
 
 /// One operator of the greatest cost that does nothing.
 pub fn costly() -> Task {
+    priced(65_535, FULL_PERCENT)
+}
+
+/// One operator of this cost and percent that does nothing.
+pub fn priced(cost: u16, percent: u16) -> Task {
     let mut draft = Draft::new(&[]);
     let yes = draft.yes();
     let empty = draft.effect(effect::EMPTY, 0, 0);
-    draft.operator(yes, empty, 65_535);
+    draft.operator_row([yes, empty, cost, percent]);
     draft.finish(yes)
 }
+
+/// Cost, percent and the charge (02, K2): to the nearest whole, a half
+/// upwards.
+pub const CHARGES: [(u16, u16, u64); 34] = [
+    (0, 0, 0),
+    (0, 200, 0),
+    (1, 0, 0),
+    (1, 1, 0),
+    (1, 49, 0),
+    (1, 50, 1),
+    (1, 51, 1),
+    (1, 99, 1),
+    (1, 100, 1),
+    (1, 149, 1),
+    (1, 150, 2),
+    (1, 200, 2),
+    (2, 24, 0),
+    (2, 25, 1),
+    (3, 50, 2),
+    (3, 150, 5),
+    (5, 50, 3),
+    (7, 7, 0),
+    (33, 50, 17),
+    (49, 1, 0),
+    (50, 1, 1),
+    (149, 1, 1),
+    (150, 1, 2),
+    (99, 99, 98),
+    (101, 99, 100),
+    (65_534, 50, 32_767),
+    (65_535, 0, 0),
+    (65_535, 1, 655),
+    (65_535, 50, 32_768),
+    (65_535, 99, 64_880),
+    (65_535, 100, 65_535),
+    (65_535, 101, 66_190),
+    (65_535, 199, 130_415),
+    (65_535, 200, 131_070),
+];
 
 /// 002's running example; i, w, t1, t2 are variables 0 to 3.
 pub fn running() -> Task {
@@ -153,6 +197,24 @@ pub fn journey() -> Task {
     draft.operator(yes, go_halfway, 1);
     draft.operator(halfway, arrive, 3);
     draft.operator(both, arrive, 3);
+    draft.finish(there)
+}
+
+/// A journey with percents: they decide, and by the costs alone another
+/// plan were the cheapest; halfway, there are variables 0 and 1. Operators:
+/// direct (5), two ways halfway (3 at 50, 1 at 200), two on from there (5 at
+/// 50, 9 at 0).
+pub fn percents() -> Task {
+    let mut draft = Draft::new(&[0, 0]);
+    let yes = draft.yes();
+    let [halfway, there] = [0, 1].map(|v| draft.variable(v));
+    let not_halfway = draft.not(halfway);
+    let [go_halfway, arrive] = [0, 1].map(|v| draft.set(v));
+    draft.operator(not_halfway, arrive, 5);
+    draft.operator_row([yes, go_halfway, 3, 50]);
+    draft.operator_row([yes, go_halfway, 1, 200]);
+    draft.operator_row([halfway, arrive, 5, 50]);
+    draft.operator_row([halfway, arrive, 9, 0]);
     draft.finish(there)
 }
 

@@ -12,6 +12,9 @@ pub const LARGEST: Lengths = Lengths {
     operators: MOST_OPERATORS * OPERATOR_ROW,
 };
 
+/// The length of the longest file; rows 0 and 1 cannot be full.
+pub const LONGEST_FILE: usize = 43_845;
+
 /// What reading leaves: 0 or the refusal, and all lent tables.
 #[derive(Clone, Debug, PartialEq, Eq)]
 pub struct Reading {
@@ -86,13 +89,14 @@ impl Bytes<'_> {
         Ok(map)
     }
 
-    /// The field of one map bit: absent 0; present 1, then 3.
-    fn field(&mut self, map: u8, bit: u8) -> Result<u16, Refusal> {
+    /// The field of one map bit, `absent` if it does not stand: present 1,
+    /// then 3.
+    fn field(&mut self, map: u8, bit: usize, absent: u16) -> Result<u16, Refusal> {
         if map & (1 << bit) == 0 {
-            return Ok(0);
+            return Ok(absent);
         }
         match self.word()? {
-            0 => Err(3),
+            word if word == absent => Err(3),
             word => Ok(word),
         }
     }
@@ -102,7 +106,7 @@ fn read_head(bytes: &mut Bytes) -> Result<Head, Refusal> {
     let map = bytes.map(0b1100_0000)?;
     let mut words = [0; 6];
     for (bit, word) in words.iter_mut().enumerate() {
-        *word = bytes.field(map, bit as u8)?;
+        *word = bytes.field(map, bit, 0)?;
     }
     Ok(Head::from_words(words))
 }
@@ -143,8 +147,8 @@ fn read_rows(
     let mut table = Vec::new();
     for i in 0..usize::from(count) {
         let map = bytes.map(0b0000_1100)?;
-        let a = bytes.field(map, 0)?;
-        let b = bytes.field(map, 1)?;
+        let a = bytes.field(map, 0, 0)?;
+        let b = bytes.field(map, 1, 0)?;
         let row = [u16::from(map >> 4), a, b];
         check_row(i, &row)?;
         table.extend(row);
@@ -155,11 +159,11 @@ fn read_rows(
 fn read_operators(bytes: &mut Bytes, head: &Head) -> Result<Vec<u16>, Refusal> {
     let mut table = Vec::new();
     for _ in 0..head.operator_count {
-        let map = bytes.map(0b1111_1000)?;
-        let precondition = bytes.field(map, 0)?;
-        let effect = bytes.field(map, 1)?;
-        let cost = bytes.field(map, 2)?;
-        let row = [precondition, effect, cost];
+        let map = bytes.map(0b1111_0000)?;
+        let mut row = ABSENT_OPERATOR;
+        for (bit, word) in row.iter_mut().enumerate() {
+            *word = bytes.field(map, bit, *word)?;
+        }
         check_operator(head, &row)?;
         table.extend(row);
     }
@@ -200,7 +204,7 @@ pub fn write(head: &Head, tables: &Tables, output_length: usize) -> Writing {
 /// The file of a task that passes the check.
 pub fn file_of(head: &Head, tables: &Tables) -> Vec<u8> {
     let mut file = Vec::new();
-    write_fields(&mut file, 0, &head.words());
+    write_fields(&mut file, 0, &head.words(), &[0; 6]);
     let initial = &tables.initial[..usize::from(head.variables)];
     for group in initial.chunks(8) {
         let bits = group.iter().enumerate();
@@ -214,26 +218,27 @@ pub fn file_of(head: &Head, tables: &Tables) -> Vec<u8> {
         (&tables.effects, head.effect_count),
     ] {
         for row in table.chunks(ROW).take(usize::from(count)) {
-            write_fields(&mut file, (row[0] as u8) << 4, &row[1..]);
+            write_fields(&mut file, (row[0] as u8) << 4, &row[1..], &[0; 2]);
         }
     }
     let operators = tables.operators.chunks(OPERATOR_ROW);
     for row in operators.take(usize::from(head.operator_count)) {
-        write_fields(&mut file, 0, row);
+        write_fields(&mut file, 0, row, &ABSENT_OPERATOR);
     }
     file
 }
 
-/// A map byte with the given upper bits, then the fields that are not 0.
-fn write_fields(file: &mut Vec<u8>, upper: u8, fields: &[u16]) {
+/// A map byte with the given upper bits, then the fields that are not what
+/// absence means.
+fn write_fields(file: &mut Vec<u8>, upper: u8, fields: &[u16], absent: &[u16]) {
     let mut map = upper;
-    for (bit, &field) in fields.iter().enumerate() {
-        if field != 0 {
+    let mut present = Vec::new();
+    for (bit, (field, absent)) in fields.iter().zip(absent).enumerate() {
+        if field != absent {
             map |= 1 << bit;
+            present.extend(field.to_le_bytes());
         }
     }
     file.push(map);
-    for field in fields.iter().filter(|&&field| field != 0) {
-        file.extend(field.to_le_bytes());
-    }
+    file.extend(present);
 }

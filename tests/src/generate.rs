@@ -130,8 +130,12 @@ pub fn task(random: &mut Random, shape: &Shape) -> Task {
     for i in 0..shape.effects {
         task.set_effect(i, effect_row(random, shape, i));
     }
+    // percents have a source of their own: the other words do not hang on them
+    let mut percents = Random::named(random.clone().number(), "percents");
     for i in 0..operators {
-        task.set_operator(i, operator_row(random, shape));
+        let [precondition, effect, cost] = operator_words(random, shape);
+        let row = [precondition, effect, cost, percent(&mut percents)];
+        task.set_operator(i, row);
     }
     task
 }
@@ -157,7 +161,8 @@ pub fn with_twins_in_goal(random: &mut Random, mut task: Task) -> Task {
 }
 
 /// A task of these counts with the plainest rows: all formulas true, all
-/// effects empty, twin k of variable k. Its counts may break the limits.
+/// effects empty, twin k of variable k, operators that cost nothing. Its
+/// counts may break the limits.
 pub fn plain(head: Head) -> Task {
     let mut tables = Tables::zeros(&head.needs());
     for (k, original) in tables.twins.iter_mut().enumerate() {
@@ -165,6 +170,9 @@ pub fn plain(head: Head) -> Task {
     }
     for row in tables.formulas.chunks_mut(ROW) {
         row[0] = formula::TRUE;
+    }
+    for row in tables.operators.chunks_mut(OPERATOR_ROW) {
+        row.copy_from_slice(&full_price(0, 0, 0));
     }
     Task { head, tables }
 }
@@ -245,13 +253,24 @@ fn atom_variable(random: &mut Random, shape: &Shape) -> u16 {
     }
 }
 
-fn operator_row(random: &mut Random, shape: &Shape) -> [u16; 3] {
+/// Precondition, effect, cost.
+fn operator_words(random: &mut Random, shape: &Shape) -> [u16; 3] {
     let cost = match random.below(4) {
         0 => random.pick(&[0, 1, 65_534, 65_535]),
         _ => random.below(100) as u16,
     };
     let precondition = high(random, shape.formulas);
     [precondition, high(random, shape.effects), cost]
+}
+
+/// A percent that an operator may have: often the full one, else mostly one
+/// at which rounding, the file or the limit turns.
+pub fn percent(random: &mut Random) -> u16 {
+    match random.below(6) {
+        0 | 1 => FULL_PERCENT,
+        2 => random.below(usize::from(MOST_PERCENT) + 1) as u16,
+        _ => random.pick(&[0, 1, 49, 50, 51, 99, 101, 150, 199, 200]),
+    }
 }
 
 /// A short list of operator numbers; now and then one outside the task.

@@ -23,6 +23,7 @@ pub mod harness;
 pub mod lent;
 pub mod long_plans;
 pub mod moves;
+pub mod operator_records;
 pub mod print;
 pub mod random;
 pub mod semantics;

@@ -3,6 +3,7 @@
 //! so that plans have many steps.
 
 use crate::draft::Draft;
+use crate::generate::percent;
 use crate::random::Random;
 use crate::task::{effect, formula, Task};
 
@@ -94,7 +95,8 @@ pub fn task(random: &mut Random, variables: usize, operators: usize, costs: usiz
             bits(random, variables, 50),
         );
         let effect = some_values(random, &mut draft, &literals, mask, after);
-        draft.operator(condition, effect, random.below(costs) as u16);
+        let cost = random.below(costs) as u16;
+        draft.operator_row([condition, effect, cost, percent(random)]);
     }
     let missing = random.pick(&[0, 0, 0, 20]);
     let mask = all & !bits(random, variables, missing);
@@ -139,7 +141,8 @@ pub fn line(random: &mut Random, variables: usize, operators: usize, costs: usiz
             parts.push(draft.under(is[line[place]], gives[line[next]]));
         }
         let effect = draft.all(&parts);
-        draft.operator(condition, effect, random.below(costs) as u16);
+        let cost = random.below(costs) as u16;
+        draft.operator_row([condition, effect, cost, percent(random)]);
     }
     let last = random.between(states / 2, states - 1);
     let other = random.pick(&[last, states - 1]);

@@ -19,17 +19,20 @@ pub fn task_lines(task: &Task) -> String {
     for (twin, &original) in (first_twin..).zip(twins) {
         text += &line("w", &[twin, original]);
     }
-    for (letter, table, count) in [
-        ("f", &task.tables.formulas, task.head.formula_count),
-        ("e", &task.tables.effects, task.head.effect_count),
-        ("o", &task.tables.operators, task.head.operator_count),
-    ] {
-        for i in 0..count {
-            let words = row(table, usize::from(i));
-            text += &line(letter, &[&[i], words].concat());
-        }
-    }
+    let head = &task.head;
+    text += &rows("f", head.formula_count, |i| row(&task.tables.formulas, i));
+    text += &rows("e", head.effect_count, |i| row(&task.tables.effects, i));
+    text += &rows("o", head.operator_count, |i| {
+        operator_row(&task.tables.operators, i)
+    });
     text
+}
+
+/// A line for each row: its number and its words.
+fn rows<'a>(letter: &str, count: u16, words: impl Fn(usize) -> &'a [u16]) -> String {
+    (0..count)
+        .map(|i| line(letter, &[&[i], words(usize::from(i))].concat()))
+        .collect()
 }
 
 fn line(letter: &str, words: &[u16]) -> String {

@@ -7,6 +7,13 @@ use crate::task::*;
 /// Most operator numbers in a run.
 pub const MOST_STEPS: usize = 65_535;
 
+/// The charge of a step: cost x percent / 100, a half upwards (02, K2).
+pub fn charge(cost: u16, percent: u16) -> u64 {
+    let hundredths = u64::from(cost) * u64::from(percent);
+    let (whole, rest) = (hundredths / 100, hundredths % 100);
+    whole + u64::from(rest >= 50)
+}
+
 /// The truth value of every formula in a state, lower rows first.
 pub fn formula_values(task: &Task, state: &[u8]) -> Vec<bool> {
     let mut values: Vec<bool> = Vec::new();
@@ -99,7 +106,7 @@ pub fn plain_run(task: &Task, state: &[u8], sequence: &[u16]) -> PlainRun {
             stop = Some(17);
             break;
         }
-        let [precondition, root, charge] = task.operator(usize::from(operator));
+        let [precondition, root, price, percent] = task.operator(usize::from(operator));
         if !values[usize::from(precondition)] {
             stop = Some(18);
             break;
@@ -107,7 +114,7 @@ pub fn plain_run(task: &Task, state: &[u8], sequence: &[u16]) -> PlainRun {
         state = after(task, usize::from(root), &state, &values);
         values = formula_values(task, &state);
         steps += 1;
-        cost += u128::from(charge);
+        cost += u128::from(charge(price, percent));
     }
     let goal = values[usize::from(task.head.goal)];
     PlainRun {
@@ -155,7 +162,7 @@ impl Outcome {
         Outcome {
             number: 0,
             steps: u32::try_from(run.steps).expect("at most 65,535 steps"),
-            cost: u64::try_from(run.cost).expect("below 2^32"),
+            cost: u64::try_from(run.cost).expect("below 2^33"),
             goal: run.goal,
             stop: run.stop,
             state: run.state,

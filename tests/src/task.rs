@@ -10,8 +10,16 @@ pub const MOST_OPERATORS: usize = 256;
 
 /// Words in a formula or effect row: kind, a, b.
 pub const ROW: usize = 3;
-/// Words in an operator row: precondition, effect, cost.
-pub const OPERATOR_ROW: usize = 3;
+/// Words in an operator row: precondition, effect, cost, percent.
+pub const OPERATOR_ROW: usize = 4;
+
+/// The greatest percent of an operator.
+pub const MOST_PERCENT: u16 = 200;
+/// The percent that charges the cost itself.
+pub const FULL_PERCENT: u16 = 100;
+
+/// What the fields of an operator are if the file does not have them.
+pub const ABSENT_OPERATOR: [u16; OPERATOR_ROW] = [0, 0, 0, FULL_PERCENT];
 
 /// Formula kinds.
 pub mod formula {
@@ -176,7 +184,7 @@ impl Task {
         words(&self.tables.effects, number)
     }
 
-    pub fn operator(&self, number: usize) -> [u16; 3] {
+    pub fn operator(&self, number: usize) -> [u16; OPERATOR_ROW] {
         words(&self.tables.operators, number)
     }
 
@@ -188,8 +196,20 @@ impl Task {
         self.tables.effects[number * ROW..][..ROW].copy_from_slice(&row);
     }
 
-    pub fn set_operator(&mut self, number: usize, row: [u16; 3]) {
+    pub fn set_operator(&mut self, number: usize, row: [u16; OPERATOR_ROW]) {
         self.tables.operators[number * OPERATOR_ROW..][..OPERATOR_ROW].copy_from_slice(&row);
+    }
+
+    pub fn set_percent(&mut self, number: usize, percent: u16) {
+        self.tables.operators[number * OPERATOR_ROW + 3] = percent;
+    }
+
+    /// The same task, every operator at this percent.
+    pub fn at_percent(mut self, percent: u16) -> Task {
+        for i in 0..usize::from(self.head.operator_count) {
+            self.set_percent(i, percent);
+        }
+        self
     }
 
     /// The variables that are no twins: V - W of them.
@@ -198,20 +218,31 @@ impl Task {
     }
 }
 
-fn words(table: &[u16], number: usize) -> [u16; 3] {
-    [
-        table[number * ROW],
-        table[number * ROW + 1],
-        table[number * ROW + 2],
-    ]
+fn words<const WIDTH: usize>(table: &[u16], number: usize) -> [u16; WIDTH] {
+    let row = &table[number * WIDTH..][..WIDTH];
+    row.try_into().expect("as long as the row")
 }
 
-/// The row handed back on request: empty unless it lies wholly inside.
+/// An operator row that charges its cost.
+pub fn full_price(precondition: u16, effect: u16, cost: u16) -> [u16; OPERATOR_ROW] {
+    [precondition, effect, cost, FULL_PERCENT]
+}
+
+/// The formula or effect row handed back on request: empty unless it lies
+/// wholly inside.
 pub fn row(table: &[u16], number: usize) -> &[u16] {
-    let width = ROW as u128;
-    let start = number as u128 * width;
-    if start + width > table.len() as u128 {
+    part(table, number, ROW)
+}
+
+/// The same of an operator row.
+pub fn operator_row(table: &[u16], number: usize) -> &[u16] {
+    part(table, number, OPERATOR_ROW)
+}
+
+fn part(table: &[u16], number: usize, width: usize) -> &[u16] {
+    let start = number as u128 * width as u128;
+    if start + width as u128 > table.len() as u128 {
         return &[];
     }
-    &table[start as usize..][..ROW]
+    &table[start as usize..][..width]
 }

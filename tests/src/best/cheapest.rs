@@ -8,6 +8,7 @@ use std::collections::BinaryHeap;
 
 use super::Rows;
 use crate::cheapest::{Plan, Room, MOST_PLANNED, STATE_WORDS};
+use crate::semantics::charge;
 use crate::task::*;
 
 /// The answers of a call that is not refused.
@@ -81,6 +82,8 @@ fn checked(
 struct Search<'a> {
     rows: &'a Rows<'a>,
     start: u16,
+    /// By operator: what a step adds to cost and steps.
+    prices: Vec<u64>,
     /// Least cost and steps of each state.
     keys: Vec<u64>,
     heap: BinaryHeap<Reverse<(u64, u16)>>,
@@ -104,9 +107,12 @@ impl<'a> Search<'a> {
         let start = bits.fold(0, |code, (v, &bit)| code | u16::from(bit) << v);
         let mut keys = vec![u64::MAX; states];
         keys[usize::from(start)] = 0;
+        let operators = rows.operators.chunks_exact(OPERATOR_ROW);
+        let price = |row: &[u16]| (charge(row[2], row[3]) << COST) + 1;
         Search {
             rows,
             start,
+            prices: operators.map(price).collect(),
             keys,
             heap: BinaryHeap::from([Reverse((0, start))]),
             taken: Vec::new(),
@@ -142,7 +148,8 @@ impl<'a> Search<'a> {
     fn expand(&mut self, state: u16, key: u64) {
         self.effects();
         self.taken.push(state);
-        for row in self.rows.operators.chunks_exact(OPERATOR_ROW) {
+        let operators = self.rows.operators.chunks_exact(OPERATOR_ROW);
+        for (row, price) in operators.zip(&self.prices) {
             if self.values[usize::from(row[0])] == 0 {
                 self.successors.push(NOWHERE);
                 continue;
@@ -150,7 +157,7 @@ impl<'a> Search<'a> {
             let mask = self.masks[usize::from(row[1])];
             let next = state & !((mask >> 16) as u16) | mask as u16;
             self.successors.push(next);
-            let new = key + (u64::from(row[2]) << COST) + 1;
+            let new = key + price;
             if new < self.keys[usize::from(next)] {
                 self.keys[usize::from(next)] = new;
                 self.heap.push(Reverse((new, next)));
@@ -160,20 +167,16 @@ impl<'a> Search<'a> {
 
     /// What leads to a wanted state on a best plan is wanted too.
     fn backwards(&mut self) {
-        let rows = self.rows;
-        let operators = usize::from(rows.head.operator_count);
+        let operators = self.prices.len();
         for (place, &state) in self.taken.iter().enumerate().rev() {
             let key = self.keys[usize::from(state)];
             let successors = &self.successors[place * operators..][..operators];
-            let charges = rows.operators.chunks_exact(OPERATOR_ROW);
-            for (number, (&next, row)) in successors.iter().zip(charges).enumerate() {
-                if next != NOWHERE && self.wanted[usize::from(next)] {
-                    let new = key + (u64::from(row[2]) << COST) + 1;
-                    if new == self.keys[usize::from(next)] {
-                        self.wanted[usize::from(state)] = true;
-                        self.next[usize::from(state)] = (number as u16, next);
-                        break;
-                    }
+            for (number, (&next, price)) in successors.iter().zip(&self.prices).enumerate() {
+                let leads = next != NOWHERE && self.wanted[usize::from(next)];
+                if leads && key + price == self.keys[usize::from(next)] {
+                    self.wanted[usize::from(state)] = true;
+                    self.next[usize::from(state)] = (number as u16, next);
+                    break;
                 }
             }
         }

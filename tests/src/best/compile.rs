@@ -93,7 +93,7 @@ fn fill(form: Form, rows: &Rows, room: &mut Room) -> Result<Head, Over> {
     for row in rows.operators.chunks_exact(OPERATOR_ROW) {
         let precondition = builder.image(row[0], false)?;
         let range = walks.conditions(&mut builder, row[1], &mut all)?;
-        operators.push((precondition, range, row[2]));
+        operators.push((precondition, range, [row[2], row[3]]));
     }
     let goal = builder.image(rows.head.goal, false)?;
     let mut effects = Effects::new(room.effects)?;
@@ -101,9 +101,9 @@ fn fill(form: Form, rows: &Rows, room: &mut Room) -> Result<Head, Over> {
     if table.len() < operators.len() {
         return Err(Over);
     }
-    for (row, (precondition, range, cost)) in table.zip(operators) {
+    for (row, (precondition, range, [cost, percent])) in table.zip(operators) {
         let root = effects.write_rules(&builder, &all[range])?;
-        row.copy_from_slice(&[precondition, root, cost]);
+        row.copy_from_slice(&[precondition, root, cost, percent]);
     }
     let effect_count = effects.count as u16;
     finish(rows, &builder, room, effect_count, goal)

@@ -41,20 +41,27 @@ fn task_lines(text: &mut Vec<u8>, head: &Head, tables: &Tables) {
     for (k, &original) in tables.twins[..w].iter().enumerate() {
         line(text, b'w', &[(v - w + k) as u16, original]);
     }
-    for (letter, table, count) in [
-        (b'f', &tables.formulas, f),
-        (b'e', &tables.effects, e),
-        (b'o', &tables.operators, o),
+    for (letter, table, width, count) in [
+        (b'f', &tables.formulas, ROW, f),
+        (b'e', &tables.effects, ROW, e),
+        (b'o', &tables.operators, OPERATOR_ROW, o),
     ] {
-        for (i, row) in table.chunks_exact(ROW).take(count).enumerate() {
-            line(text, letter, &[i as u16, row[0], row[1], row[2]]);
+        for (i, row) in table.chunks_exact(width).take(count).enumerate() {
+            text.extend([letter, b' ']);
+            number(text, i as u16);
+            words(text, row);
         }
     }
 }
 
-fn line(text: &mut Vec<u8>, letter: u8, words: &[u16]) {
+fn line(text: &mut Vec<u8>, letter: u8, list: &[u16]) {
     text.push(letter);
-    for &word in words {
+    words(text, list);
+}
+
+/// These words, and the line's end.
+fn words(text: &mut Vec<u8>, list: &[u16]) {
+    for &word in list {
         text.push(b' ');
         number(text, word);
     }

@@ -1,6 +1,6 @@
 //! Reading a file straight into lent tables.
 
-use super::rules::{effect_kept, formula_kept, Named};
+use super::rules::{effect_kept, formula_kept, operator_kept, Named};
 use super::Room;
 use crate::check;
 use crate::task::*;
@@ -43,12 +43,12 @@ impl Bytes<'_> {
     }
 
     #[inline]
-    fn field(&mut self, map: u8, bit: u8) -> Result<u16, Refusal> {
+    fn field(&mut self, map: u8, bit: usize, absent: u16) -> Result<u16, Refusal> {
         if map >> bit & 1 == 0 {
-            return Ok(0);
+            return Ok(absent);
         }
         match self.word()? {
-            0 => Err(3),
+            word if word == absent => Err(3),
             word => Ok(word),
         }
     }
@@ -59,7 +59,7 @@ fn fill(file: &[u8], room: &mut Room) -> Result<Head, Refusal> {
     let map = bytes.map(0b1100_0000)?;
     let mut words = [0; 6];
     for (bit, word) in words.iter_mut().enumerate() {
-        *word = bytes.field(map, bit as u8)?;
+        *word = bytes.field(map, bit, 0)?;
     }
     let head = Head::from_words(words);
     check::check_head(&head)?;
@@ -117,8 +117,8 @@ fn read_rows(
 ) -> Result<(), Refusal> {
     for (i, row) in table.chunks_exact_mut(ROW).enumerate() {
         let map = bytes.map(0b0000_1100)?;
-        let a = bytes.field(map, 0)?;
-        let b = bytes.field(map, 1)?;
+        let a = bytes.field(map, 0, 0)?;
+        let b = bytes.field(map, 1, 0)?;
         let kind = u16::from(map >> 4);
         if !kept(i, kind, a, b) {
             return Err(number);
@@ -137,16 +137,11 @@ fn read_operators(
     effects: usize,
 ) -> Result<(), Refusal> {
     for row in table.chunks_exact_mut(OPERATOR_ROW) {
-        let map = bytes.map(0b1111_1000)?;
-        let precondition = bytes.field(map, 0)?;
-        let effect = bytes.field(map, 1)?;
-        let cost = bytes.field(map, 2)?;
-        if usize::from(precondition) >= formulas || usize::from(effect) >= effects {
-            return Err(12);
+        let map = bytes.map(0b1111_0000)?;
+        for (bit, (word, &absent)) in row.iter_mut().zip(&ABSENT_OPERATOR).enumerate() {
+            *word = bytes.field(map, bit, absent)?;
         }
-        row[0] = precondition;
-        row[1] = effect;
-        row[2] = cost;
+        operator_kept(formulas, effects, row)?;
     }
     Ok(())
 }

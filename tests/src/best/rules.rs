@@ -44,9 +44,19 @@ pub fn check_rows(rows: &Rows) -> Result<(), Refusal> {
     if !effects.all(|(i, row)| effect_kept(v, f, i, row[0], row[1], row[2])) {
         return Err(11);
     }
-    let mut operators = rows.operators.chunks_exact(OPERATOR_ROW);
-    if !operators.all(|row| usize::from(row[0]) < f && usize::from(row[1]) < e) {
+    for row in rows.operators.chunks_exact(OPERATOR_ROW) {
+        operator_kept(f, e, row)?;
+    }
+    Ok(())
+}
+
+#[inline]
+pub fn operator_kept(f: usize, e: usize, row: &[u16]) -> Result<(), Refusal> {
+    if usize::from(row[0]) >= f || usize::from(row[1]) >= e {
         return Err(12);
+    }
+    if row[3] > MOST_PERCENT {
+        return Err(24);
     }
     Ok(())
 }

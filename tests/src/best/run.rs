@@ -2,7 +2,7 @@
 //! then clears, then sets.
 
 use super::Rows;
-use crate::semantics::MOST_STEPS;
+use crate::semantics::{charge, MOST_STEPS};
 use crate::task::*;
 
 /// The answers of a run that is not refused.
@@ -61,7 +61,7 @@ fn checked_run(
         }
         carry_out(rows.effects, usize::from(operator[1]), state, values, marks);
         steps += 1;
-        cost += u64::from(operator[2]);
+        cost += charge(operator[2], operator[3]);
         evaluate(rows.formulas, state, values);
     }
     Ok(Ran {

@@ -36,14 +36,14 @@ impl Output<'_> {
     }
 
     #[inline]
-    fn fields(&mut self, upper: u8, fields: &[u16]) -> Result<(), Refusal> {
+    fn fields(&mut self, upper: u8, fields: &[u16], absent: &[u16]) -> Result<(), Refusal> {
         let mut map = upper;
-        for (bit, &field) in fields.iter().enumerate() {
-            map |= u8::from(field != 0) << bit;
+        for (bit, (field, absent)) in fields.iter().zip(absent).enumerate() {
+            map |= u8::from(field != absent) << bit;
         }
         self.byte(map)?;
-        for &field in fields {
-            if field != 0 {
+        for (&field, &absent) in fields.iter().zip(absent) {
+            if field != absent {
                 self.word(field)?;
             }
         }
@@ -53,7 +53,7 @@ impl Output<'_> {
 
 fn fill(rows: &Rows, out: &mut [u8]) -> Result<usize, Refusal> {
     let mut output = Output { out, at: 0 };
-    output.fields(0, &rows.head.words())?;
+    output.fields(0, &rows.head.words(), &[0; 6])?;
     for group in rows.initial.chunks(8) {
         let mut byte = 0;
         for (bit, value) in group.iter().enumerate() {
@@ -66,11 +66,11 @@ fn fill(rows: &Rows, out: &mut [u8]) -> Result<usize, Refusal> {
     }
     for table in [rows.formulas, rows.effects] {
         for row in table.chunks_exact(ROW) {
-            output.fields((row[0] as u8) << 4, &row[1..])?;
+            output.fields((row[0] as u8) << 4, &row[1..], &[0; 2])?;
         }
     }
     for row in rows.operators.chunks_exact(OPERATOR_ROW) {
-        output.fields(0, row)?;
+        output.fields(0, row, &ABSENT_OPERATOR)?;
     }
     Ok(output.at)
 }

@@ -1,6 +1,7 @@
 //! Reading and writing.
 
 use saqwillo_tests::best::{read, write, Room, Rows};
+use saqwillo_tests::entries::MOST_FILE_BYTES;
 use saqwillo_tests::examples;
 use saqwillo_tests::file::{file_of, LARGEST};
 use saqwillo_tests::task::*;
@@ -25,7 +26,12 @@ pub fn compare(report: Report) {
     }
     let file = file_of(&small.head, &small.tables);
     reading(report, "read small file, all lent", &file, &LARGEST);
-    writing(report, "write small file, all lent", &small, 43_341);
+    writing(
+        report,
+        "write small file, all lent",
+        &small,
+        MOST_FILE_BYTES,
+    );
 }
 
 fn reading(report: Report, name: &str, file: &[u8], lent: &Lengths) {

@@ -34,9 +34,9 @@ pub fn tests() -> Vec<Test> {
 const MORE: Lengths = Lengths {
     initial: 2000,
     twins: 2000,
-    formulas: 3 * 9000,
-    effects: 3 * 400_000,
-    operators: 3 * 300,
+    formulas: ROW * 9000,
+    effects: ROW * 400_000,
+    operators: OPERATOR_ROW * 300,
 };
 
 /// A task of 512 variables whose finished task has exactly so many effect

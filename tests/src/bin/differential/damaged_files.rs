@@ -4,7 +4,7 @@ use saqwillo_tests::damage;
 use saqwillo_tests::file::{file_of, LARGEST};
 use saqwillo_tests::generate::{self, Shape};
 use saqwillo_tests::harness::{same, Test, Trial, Verdict};
-use saqwillo_tests::task::{Lengths, Task};
+use saqwillo_tests::task::{Lengths, Task, OPERATOR_ROW, ROW};
 
 use crate::reading::{agree, agree_and_return, enough, small_task};
 
@@ -96,18 +96,19 @@ fn random_bytes(trial: &mut Trial) -> Verdict {
             }
         }
         for _ in 0..random.below(30) {
-            file.push(match random.below(4) {
+            file.push(match random.below(5) {
                 0 => random.byte(),
                 1 => (random.byte() & 0x73) | 0x10,
+                2 => random.pick(&[0x08, 0x0c, 99, 100, 200, 201]),
                 _ => random.below(3) as u8,
             });
         }
         let lent = Lengths {
             initial: 4,
             twins: 4,
-            formulas: 12,
-            effects: 12,
-            operators: 12,
+            formulas: 4 * ROW,
+            effects: 4 * ROW,
+            operators: 4 * OPERATOR_ROW,
         };
         agree_and_return(trial, &file, &lent)?;
     }

@@ -3,7 +3,7 @@
 use saqwillo_tests::damage;
 use saqwillo_tests::generate;
 use saqwillo_tests::harness::{Test, Trial, Verdict};
-use saqwillo_tests::task::{Head, Task};
+use saqwillo_tests::task::{full_price, Head, Task};
 
 use crate::tables::{agree, expect};
 
@@ -18,6 +18,7 @@ pub fn tests() -> Vec<Test> {
         test("effect rows at the edges", effect_rows),
         test("operator rows at the edges", operator_rows),
         test("two bad rows", two_bad_rows),
+        test("12 and 24 row by row", references_and_percents),
         test("initial bytes", initial_bytes),
         test("all short lists of originals", short_twin_lists),
         test("twins named before", twins_named_before),
@@ -77,17 +78,37 @@ fn effect_rows(trial: &mut Trial) -> Verdict {
     Ok(())
 }
 
+/// Costs and percents, of which 201 and more are refused.
+const PRICES: [(u16, u16); 12] = [
+    (0, 100),
+    (1, 100),
+    (65_535, 100),
+    (65_535, 0),
+    (0, 50),
+    (1, 99),
+    (1, 101),
+    (201, 200),
+    (0, 201),
+    (1, 256),
+    (65_535, 32_768),
+    (200, 65_535),
+];
+
 fn operator_rows(trial: &mut Trial) -> Verdict {
     for (f, e) in [(1, 1), (3, 5), (5, 3), (4096, 4096), (1, 0)] {
         for number in [0, 1, 4] {
             let mut task = plain([2, 1, f, e, number + 1, 0]);
             let edges = edge_words(number, &[f, e, 2]);
-            for cost in [0, 1, 65_535] {
+            for (cost, percent) in PRICES {
                 every_pair(trial, &edges, &mut |trial, precondition, effect| {
-                    let row = [precondition, effect, cost];
+                    let row = [precondition, effect, cost, percent];
                     task.set_operator(usize::from(number), row);
                     let known = e > 0 && precondition < f && effect < e;
-                    let expected = if known { 0 } else { 12 };
+                    let expected = match (known, percent <= 200) {
+                        (false, _) => 12,
+                        (true, false) => 24,
+                        (true, true) => 0,
+                    };
                     expect(trial, &task, expected, "operator row")
                 })?;
             }
@@ -127,9 +148,32 @@ fn two_bad_rows(trial: &mut Trial) -> Verdict {
             task.set_effect(other, [1, 7, 0]);
             expect(trial, &task, 11, "two bad effects")?;
             let mut task = whole.clone();
-            task.set_operator(one % 3, [6, 0, 0]);
-            task.set_operator(other % 3, [0, 5, 0]);
+            task.set_operator(one % 3, full_price(6, 0, 0));
+            task.set_operator(other % 3, full_price(0, 5, 0));
             expect(trial, &task, 12, "two bad operators")?;
+        }
+    }
+    Ok(())
+}
+
+/// 24 comes after 12 of the same row, and before all of the next.
+fn references_and_percents(trial: &mut Trial) -> Verdict {
+    for count in [1, 2, 3, 256] {
+        let places = [0, 1, count / 2, count - 1];
+        for one in places {
+            for other in places {
+                if one.max(other) >= count {
+                    continue;
+                }
+                let mut task = plain([2, 1, 3, 2, count as u16, 0]);
+                for wrong in [[3, 0], [0, 2], [65_535, 65_535]] {
+                    let [precondition, effect] = wrong;
+                    task.set_operator(one, full_price(precondition, effect, 0));
+                    task.set_percent(other, 201);
+                    let expected = if one <= other { 12 } else { 24 };
+                    expect(trial, &task, expected, "12 and 24")?;
+                }
+            }
         }
     }
     Ok(())

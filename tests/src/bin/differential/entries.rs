@@ -62,11 +62,14 @@ fn all_examples() -> Vec<Task> {
         examples::flat_effect(),
         examples::effect_normal_form(),
         examples::journey(),
+        examples::percents(),
         examples::set_and_clear(),
         examples::set_under_other(),
         examples::toggle(),
         examples::formula_over_empty(),
         examples::costly(),
+        examples::priced(1, 50),
+        examples::priced(65_535, 200),
         damage::base(),
     ]
 }
@@ -308,7 +311,7 @@ fn where_small_tables_end(trial: &mut Trial) -> Verdict {
 }
 
 fn long_sequences(trial: &mut Trial) -> Verdict {
-    let costly = file(&examples::costly());
+    let costly = file(&examples::costly().at_percent(200));
     for bytes in [
         131_067, 131_068, 131_069, 131_070, 131_071, 131_072, 131_073, 262_144,
     ] {
@@ -404,7 +407,7 @@ fn plans_of_moves(trial: &mut Trial) -> Verdict {
 fn longest_plans(trial: &mut Trial) -> Verdict {
     for operators in [1, 2, 256] {
         let task = long_plans::counter(10, operators, |_| 65_535);
-        let file = file(&task);
+        let file = file(&task.at_percent(200));
         for length in [0, 2044, 2045, 2046, 2047, 5000] {
             trial.case();
             same_plan(&file, length, 12, 0xff)?;

@@ -30,6 +30,9 @@ struct Fault {
     ends: bool,
 }
 
+/// The first part that is an operator row.
+const OPERATORS: usize = 16;
+
 /// The file of `damage::base` in parts: head, initial state, twins, rows.
 fn parts() -> Vec<Vec<u8>> {
     let task = damage::base();
@@ -37,7 +40,7 @@ fn parts() -> Vec<Vec<u8>> {
     let mut lengths = vec![13, 1, 2, 2, 2];
     let mut at = 20;
     while at < file.len() {
-        let length = 1 + 2 * (file[at] & 7).count_ones() as usize;
+        let length = 1 + 2 * (file[at] & 0x0f).count_ones() as usize;
         lengths.push(length);
         at += length;
     }
@@ -67,7 +70,16 @@ fn unused_bits_and_wrong_parts(part: usize, bytes: &[u8]) -> (u8, Vec<(u16, Vec<
         2..=4 => (0x00, vec![(9, vec![4, 0])]),
         5..=10 => (0x0c, vec![(10, vec![0x80]), (10, vec![0x21, 7, 0])]),
         11..=15 => (0x0c, vec![(11, vec![0x50]), (11, vec![0x11, 7, 0])]),
-        _ => (0xf8, vec![(12, vec![0x01, 6, 0]), (12, vec![0x02, 5, 0])]),
+        OPERATORS.. => (
+            0xf0,
+            vec![
+                (12, vec![0x01, 6, 0]),
+                (12, vec![0x02, 5, 0]),
+                (12, vec![0x09, 6, 0, 201, 0]),
+                (24, vec![0x08, 201, 0]),
+                (24, vec![0x0c, 1, 0, 0, 1]),
+            ],
+        ),
     }
 }
 
@@ -92,9 +104,13 @@ fn faults(part: usize, bytes: &[u8]) -> Vec<Fault> {
         1..=4 => 0,
         _ => bytes.len() / 2,
     };
+    // absent means 0, and 100 of a percent, which is the last where it stands
+    let with_percent = part >= OPERATORS && bytes[0] & 0x08 != 0;
     for field in 0..fields {
+        let percent = with_percent && field + 1 == fields;
+        let absent = if percent { [100, 0] } else { [0, 0] };
         let mut changed = bytes.to_vec();
-        changed[1 + 2 * field..][..2].fill(0);
+        changed[1 + 2 * field..][..2].copy_from_slice(&absent);
         all.push(fault(3, &changed, false));
     }
     for (number, bytes) in wrong {
@@ -176,7 +192,9 @@ fn one_row(trial: &mut Trial) -> Verdict {
         ("effect kind 5, a cut", &effect, &[0x51, 0x01], 1),
         ("effect under formula 2", &effect, &[0x41, 0x02, 0x00], 11),
         ("effect both itself", &effect, &[0x30], 11),
-        ("operator's bit 3", &operator, &[0x0f], 2),
+        ("operator's bit 4", &operator, &[0x1f], 2),
+        ("operator's bit 5", &operator, &[0x20], 2),
+        ("operator's bit 6", &operator, &[0x48], 2),
         ("operator's bit 7", &operator, &[0x80], 2),
         (
             "precondition 2, effect 0",
@@ -198,6 +216,59 @@ fn one_row(trial: &mut Trial) -> Verdict {
             3,
         ),
         ("effect 1", &operator, &[0x02, 0x01, 0x00, 0xff], 12),
+        ("no percent", &operator, &[0x08], 1),
+        ("half a percent", &operator, &[0x08, 201], 1),
+        ("percent 100", &operator, &[0x08, 100, 0], 3),
+        (
+            "percent 100, bytes follow",
+            &operator,
+            &[0x08, 100, 0, 0xff],
+            3,
+        ),
+        ("percent 0", &operator, &[0x08, 0, 0], 0),
+        ("percent 1", &operator, &[0x08, 1, 0], 0),
+        ("percent 99", &operator, &[0x08, 99, 0], 0),
+        ("percent 101", &operator, &[0x08, 101, 0], 0),
+        ("percent 200", &operator, &[0x08, 200, 0], 0),
+        ("percent 201", &operator, &[0x08, 201, 0], 24),
+        ("percent 256", &operator, &[0x08, 0, 1], 24),
+        ("percent 356", &operator, &[0x08, 100, 1], 24),
+        ("percent 65,535", &operator, &[0x08, 255, 255], 24),
+        (
+            "percent 201, bytes follow",
+            &operator,
+            &[0x08, 201, 0, 0],
+            24,
+        ),
+        ("percent 0, bytes follow", &operator, &[0x08, 0, 0, 0], 4),
+        ("cost 0, percent cut", &operator, &[0x0c, 0, 0, 201], 3),
+        ("cost 100, percent 0", &operator, &[0x0c, 100, 0, 0, 0], 0),
+        ("effect 1, percent cut", &operator, &[0x0a, 1, 0, 100], 1),
+        ("effect 1, percent 100", &operator, &[0x0a, 1, 0, 100, 0], 3),
+        (
+            "effect 1, percent 201",
+            &operator,
+            &[0x0a, 1, 0, 201, 0],
+            12,
+        ),
+        (
+            "precondition 1, percent 201",
+            &operator,
+            &[0x09, 1, 0, 201, 0],
+            24,
+        ),
+        (
+            "precondition 2, percent 100",
+            &operator,
+            &[0x09, 2, 0, 100, 0],
+            3,
+        ),
+        (
+            "precondition 2, percent 0",
+            &operator,
+            &[0x09, 2, 0, 0, 0],
+            12,
+        ),
         ("nothing wrong, bytes follow", &operator, &[0x00, 0xff], 4),
         ("nothing wrong", &operator, &[0x04, 0xff, 0xff], 0),
     ] {

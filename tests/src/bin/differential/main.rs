@@ -24,6 +24,8 @@ mod deep_rows;
 mod demand_3;
 #[cfg(feature = "reading")]
 mod file_order;
+#[cfg(feature = "operator_records")]
+mod operator_records;
 #[cfg(feature = "planning")]
 mod planning;
 #[cfg(feature = "reading")]
@@ -68,5 +70,7 @@ fn main() {
     tests.extend(demand_3::tests());
     #[cfg(feature = "planning")]
     tests.extend(planning::tests());
+    #[cfg(feature = "operator_records")]
+    tests.extend(operator_records::tests());
     std::process::exit(saqwillo_tests::harness::run(&tests));
 }

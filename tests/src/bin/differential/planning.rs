@@ -31,6 +31,7 @@ pub fn tests() -> Vec<Test> {
         test("scratch lengths", scratch_lengths),
         test("order of refusals", order_of_refusals),
         test("the largest costs", largest_costs),
+        test("charges decide", charges_decide),
     ]
 }
 
@@ -264,13 +265,43 @@ fn order_of_refusals(trial: &mut Trial) -> Verdict {
     Ok(())
 }
 
-/// Nothing wraps: 1,023 steps of 65,535, beside a way that costs one less.
+/// Nothing wraps: 1,023 steps of 65,535, beside a way that costs one less; at
+/// the full percent, and at the greatest.
 fn largest_costs(trial: &mut Trial) -> Verdict {
     for cost in [65_535, 65_534] {
-        let task = long_plans::counter(10, 3, |o| if o == 2 { cost } else { 65_535 });
-        let room = Room::of(&task, 1023);
+        for (percent, times) in [(100, 1), (200, 2)] {
+            let task = long_plans::counter(10, 3, |o| if o == 2 { cost } else { 65_535 });
+            let task = task.at_percent(percent);
+            let room = Room::of(&task, 1023);
+            let left = agree(trial, &task, &room)?;
+            same("cost", left.cost, 1023 * times * u64::from(cost))?;
+        }
+    }
+    Ok(())
+}
+
+/// The charge is compared and not the cost: a counter with two operators, of
+/// which one is cheaper before the percent and the other after it.
+fn charges_decide(trial: &mut Trial) -> Verdict {
+    for (prices, number, charge) in [
+        ([(1, 100), (9, 0)], 1, 0),
+        ([(1, 50), (1, 49)], 1, 0),
+        ([(1, 51), (1, 50)], 0, 1),
+        ([(3, 50), (2, 100)], 0, 2),
+        ([(2, 150), (2, 149)], 0, 3),
+        ([(3, 100), (1, 200)], 1, 2),
+        ([(65_535, 101), (65_535, 100)], 1, 65_535),
+        ([(65_535, 50), (32_769, 100)], 0, 32_768),
+        ([(65_535, 200), (65_535, 199)], 1, 130_415),
+    ] {
+        let mut task = long_plans::counter(4, 2, |o| prices[usize::from(o)].0);
+        for (o, (_, percent)) in prices.into_iter().enumerate() {
+            task.set_percent(o, percent);
+        }
+        let room = Room::of(&task, 15);
         let left = agree(trial, &task, &room)?;
-        same("cost", left.cost, 1023 * u64::from(cost))?;
+        same("plan", &left.plan, &vec![number; 15])?;
+        same("charge", left.cost, 15 * charge)?;
     }
     Ok(())
 }

@@ -1,7 +1,8 @@
 //! Group `reading`: valid files of every size, and both round trips.
 
+use saqwillo_tests::entries::MOST_FILE_BYTES;
 use saqwillo_tests::examples;
-use saqwillo_tests::file::{file_of, read, Reading, Writing, LARGEST};
+use saqwillo_tests::file::{file_of, read, Reading, Writing, LARGEST, LONGEST_FILE};
 use saqwillo_tests::generate::{self, Shape};
 use saqwillo_tests::harness::{list, same, Test, Trial, Verdict};
 use saqwillo_tests::lent::Lent;
@@ -23,6 +24,7 @@ pub fn tests() -> Vec<Test> {
         test("every count", every_count),
         test("at the limits", at_the_limits),
         test("the longest file", longest_file),
+        test("every percent", every_percent),
         test("lent lengths", lent_lengths),
         test("heads of other lengths", other_heads),
     ]
@@ -72,7 +74,7 @@ fn round_trips(trial: &mut Trial, task: &Task, lent: &Lengths) -> Verdict {
     same("written", &written.output, &file)?;
     let number = agree_and_return(trial, &file, lent)?;
     same("number", number, 0)?;
-    same("length", file.len() <= 43_341, true)
+    same("length", file.len() <= LONGEST_FILE, true)
 }
 
 /// Lent lengths that are enough, now and then by much.
@@ -103,7 +105,12 @@ fn smallest_files(trial: &mut Trial) -> Verdict {
             same("number", agree(trial, file, &lent)?.number, expected)?;
         }
     }
-    for task in [examples::whole(), examples::running(), examples::bicycle()] {
+    for task in [
+        examples::whole(),
+        examples::running(),
+        examples::bicycle(),
+        examples::percents(),
+    ] {
         round_trips(trial, &task, &task.head.needs())?;
     }
     Ok(())
@@ -188,18 +195,40 @@ fn longest_file(trial: &mut Trial) -> Verdict {
         task.set_effect(i, if i < 2 { [1, 511, 0] } else { [3, below, 1] });
     }
     for i in 0..256 {
-        task.set_operator(i, [4095, 4095, 65_535]);
+        task.set_operator(i, [4095, 4095, 65_535, 200]);
     }
     round_trips(trial, &task, &LARGEST)?;
     let mut file = file_of(&task.head, &task.tables);
-    same("length", file.len(), 43_333)?;
+    same("length", file.len(), LONGEST_FILE)?;
     for cut in 1..300 {
         let number = agree(trial, &file[..file.len() - 67 * cut], &LARGEST)?.number;
         same("cut", number, 1)?;
     }
-    for length in [43_334, 43_341, 43_342, 65_535, 65_536, 200_000] {
+    let bound = MOST_FILE_BYTES;
+    for length in [LONGEST_FILE + 1, bound, bound + 1, 65_535, 65_536, 200_000] {
         file.resize(length, 0xff);
         same("longer", agree(trial, &file, &LARGEST)?.number, 4)?;
+    }
+    Ok(())
+}
+
+/// Present in the file: 100 gives 3, above 200 gives 24.
+fn every_percent(trial: &mut Trial) -> Verdict {
+    let priced = examples::priced(7, FULL_PERCENT);
+    let lent = priced.head.needs();
+    let mut file = file_of(&priced.head, &priced.tables);
+    let map = file.len() - 3;
+    same("absent", file[map], 0x04)?;
+    file[map] = 0x0c;
+    for percent in 0..=65_535u16 {
+        let file = [&file[..], &percent.to_le_bytes()].concat();
+        let expected = match percent {
+            FULL_PERCENT => 3,
+            0..=MOST_PERCENT => 0,
+            _ => 24,
+        };
+        let number = agree_and_return(trial, &file, &lent)?;
+        same(&format!("{percent}"), number, expected)?;
     }
     Ok(())
 }

@@ -26,6 +26,7 @@ pub fn tests() -> Vec<Test> {
         test("the goal where a run stops", goal_where_stopped),
         test("long runs", long_runs),
         test("the longest run", longest_run),
+        test("charges", charges),
         test("too long a sequence", too_long),
         test("at the limits", at_the_limits),
         test("scratch lengths and states", scratch_and_states),
@@ -183,8 +184,31 @@ fn longest_run(trial: &mut Trial) -> Verdict {
         let wanted = vec![steps, 65_535 * steps, 1, 17, steps, 0];
         same("stopped", left.result, wanted)?;
     }
+    let doubled = agree(trial, (&task.at_percent(200), &[], scratch, &[0; 65_535]))?;
+    let wanted = vec![65_535, 8_589_672_450, 1, 0, 0, 1];
+    same("at 200 percent", doubled.result, wanted)?;
     let toggled = agree(trial, (&toggle(true), &[0], 99, &[0; 65_535]))?;
     same("odd steps", toggled.state, vec![1])
+}
+
+/// Each step is rounded by itself.
+fn charges(trial: &mut Trial) -> Verdict {
+    for (cost, percent, charge) in examples::CHARGES {
+        let task = examples::priced(cost, percent);
+        for steps in 0..5 {
+            let sequence = vec![0; steps];
+            let left = agree(trial, (&task, &[], scratch_of(&task), &sequence))?;
+            same("charge", left.result[1], steps as u64 * charge)?;
+        }
+    }
+    for percent in 0..=MOST_PERCENT {
+        for _ in 0..50 {
+            let cost = trial.random.word();
+            let task = examples::priced(cost, percent);
+            agree(trial, (&task, &[], scratch_of(&task), &[0, 0, 0]))?;
+        }
+    }
+    Ok(())
 }
 
 /// 19, even if the first number would stop; no length wraps.

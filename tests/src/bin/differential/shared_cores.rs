@@ -83,7 +83,7 @@ fn random_core(random: &mut Random, variables: usize, effects: usize) -> SharedC
 /// have rules.
 fn let_some_through(random: &mut Random, task: &mut Task) {
     for i in 0..usize::from(task.head.operator_count) {
-        let [_, root, _] = task.operator(i);
+        let [_, root, ..] = task.operator(i);
         let [kind, _, inner] = task.effect(usize::from(root));
         if random.chance(10) {
             let condition = random.below(usize::from(task.head.formula_count)) as u16;

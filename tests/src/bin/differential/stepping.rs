@@ -24,6 +24,7 @@ pub fn tests() -> Vec<Test> {
         test("every state", every_state),
         test("all at once, the set wins", all_at_once),
         test("deep and shared rows", deep_and_shared),
+        test("charges", charges),
         test("scratch lengths", scratch_lengths),
         test("states", states),
         test("order of refusals", order_of_refusals),
@@ -179,6 +180,16 @@ fn deep_and_shared(trial: &mut Trial) -> Verdict {
             };
             agree(trial, (&task, &state, scratch_of(&task), operator as u16))?;
         }
+    }
+    Ok(())
+}
+
+fn charges(trial: &mut Trial) -> Verdict {
+    for (cost, percent, charge) in examples::CHARGES {
+        let task = examples::priced(cost, percent);
+        let call = (&task, &[][..], scratch_of(&task), 0);
+        agree(trial, call)?;
+        same("charge", expected(call).result[1], charge)?;
     }
     Ok(())
 }

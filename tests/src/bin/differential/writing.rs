@@ -1,6 +1,7 @@
 //! Group `writing`: every output length, and the tables' refusals before 20.
 
 use saqwillo_tests::damage;
+use saqwillo_tests::entries::MOST_FILE_BYTES;
 use saqwillo_tests::file::{file_of, write};
 use saqwillo_tests::generate::{self, Shape};
 use saqwillo_tests::harness::{dump_task, same, Test, Trial, Verdict};
@@ -107,7 +108,7 @@ fn at_the_limits(trial: &mut Trial) -> Verdict {
         let shape = Shape::largest(&mut trial.random);
         let task = generate::task(&mut trial.random, &shape);
         let needed = file_of(&task.head, &task.tables).len();
-        for length in [needed - 1, needed, needed + 1, 43_341] {
+        for length in [needed - 1, needed, needed + 1, MOST_FILE_BYTES] {
             agree(trial, &task, length)?;
         }
     }

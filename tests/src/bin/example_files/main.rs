@@ -18,6 +18,7 @@ fn main() -> std::io::Result<()> {
         ("flat_effect", examples::flat_effect()),
         ("effect_normal_form", examples::effect_normal_form()),
         ("journey", examples::journey()),
+        ("percents", examples::percents()),
     ] {
         let file = file_of(&task.head, &task.tables);
         std::fs::write(folder.join(name).with_extension("out"), program(&file))?;

@@ -9,6 +9,7 @@ use std::process::{Command, Stdio};
 
 use saqwillo_tests::damage;
 use saqwillo_tests::deep::{deep_task, EFFECTS, FORMULAS};
+use saqwillo_tests::entries::MOST_FILE_BYTES;
 use saqwillo_tests::examples;
 use saqwillo_tests::file::file_of;
 use saqwillo_tests::generate::{self, Shape};
@@ -131,7 +132,16 @@ fn empty_input(trial: &mut Trial) -> Verdict {
 fn long_inputs(trial: &mut Trial) -> Verdict {
     let whole = examples::whole();
     let whole = file_of(&whole.head, &whole.tables);
-    for length in [43_340, 43_341, 43_342, 65_535, 65_536, 65_537, 1_000_000] {
+    let bound = MOST_FILE_BYTES;
+    for length in [
+        bound - 1,
+        bound,
+        bound + 1,
+        65_535,
+        65_536,
+        65_537,
+        1_000_000,
+    ] {
         for start in [&whole[..], &whole[..41], &[0xff], &[0x04, 0, 0], &[]] {
             let mut input = start.to_vec();
             input.resize(length, 0);
@@ -142,7 +152,7 @@ fn long_inputs(trial: &mut Trial) -> Verdict {
     let task = generate::task(&mut trial.random, &shape);
     let mut file = file_of(&task.head, &task.tables);
     agree(trial, &file, 70_000)?;
-    for length in [43_342, 65_536, 65_537, 100_000] {
+    for length in [bound + 1, 65_536, 65_537, 100_000] {
         file.resize(length, 0);
         agree(trial, &file, 70_000)?;
     }

@@ -21,6 +21,7 @@ pub fn tests() -> Vec<Test> {
     vec![
         test("quick search against all lists", search_against_lists),
         test("ties", ties),
+        test("charges decide", charges_decide),
         test("examples", worked_examples),
         test("order of refusals", order_of_refusals),
     ]
@@ -92,39 +93,67 @@ fn search_against_lists(trial: &mut Trial) -> Verdict {
     same(&format!("{none} none, {seen:?}"), enough, true)
 }
 
-/// Two states in a row; operators that tie in cost, in cost and steps.
+/// Cost and percent.
+type Price = (u16, u16);
+
+/// Two states in a row: an operator to the first, one on from there, and two
+/// straight to the second; both forms must find this plan.
+fn two_states(trial: &mut Trial, prices: [Price; 4], numbers: &[u16], cost: u64) -> Verdict {
+    trial.case();
+    let mut draft = Draft::new(&[0, 0]);
+    let (yes, v0, v1) = (draft.yes(), draft.variable(0), draft.variable(1));
+    let (first, second) = (draft.set(0), draft.set(1));
+    let rows = [(yes, first), (v0, second), (yes, second), (yes, second)];
+    for ((precondition, effect), (cost, percent)) in rows.into_iter().zip(prices) {
+        draft.operator_row([precondition, effect, cost, percent]);
+    }
+    let task = draft.finish(v1);
+    let room = Room::of(&task, 3);
+    let plan = Plan {
+        numbers: numbers.to_vec(),
+        cost,
+    };
+    let wanted = planned(&task, &room, |_| Some(plan.clone()));
+    let tried = planned(&task, &room, |task| by_trying(task, 4));
+    same("quick form", quickly(&task, &room), wanted.clone())?;
+    same("all lists", tried, wanted)
+}
+
+/// Operators that tie in cost, in cost and steps.
 fn ties(trial: &mut Trial) -> Verdict {
     for (costs, numbers, cost) in [
         // all the same: one step before two, the lowest number first
-        ([0, 0, 0, 0], vec![2], 0),
+        ([0, 0, 0, 0], &[2][..], 0),
         // two steps cost less than one
-        ([1, 1, 3, 3], vec![0, 1], 2),
+        ([1, 1, 3, 3], &[0, 1], 2),
         // two steps cost the same as one
-        ([1, 2, 3, 3], vec![2], 3),
-        ([1, 2, 4, 3], vec![3], 3),
+        ([1, 2, 3, 3], &[2], 3),
+        ([1, 2, 4, 3], &[3], 3),
     ] {
-        trial.case();
-        let mut draft = Draft::new(&[0, 0]);
-        let (yes, v0, v1) = (draft.yes(), draft.variable(0), draft.variable(1));
-        let (first, second) = (draft.set(0), draft.set(1));
-        draft.operator(yes, first, costs[0]);
-        draft.operator(v0, second, costs[1]);
-        draft.operator(yes, second, costs[2]);
-        draft.operator(yes, second, costs[3]);
-        let task = draft.finish(v1);
-        let room = Room::of(&task, 3);
-        let wanted = planned(&task, &room, |_| {
-            Some(Plan {
-                numbers: numbers.clone(),
-                cost,
-            })
-        });
-        same("ties", quickly(&task, &room), wanted.clone())?;
-        same(
-            "ties",
-            planned(&task, &room, |task| by_trying(task, 4)),
-            wanted,
-        )?;
+        let prices = costs.map(|cost| (cost, FULL_PERCENT));
+        two_states(trial, prices, numbers, cost)?;
+    }
+    Ok(())
+}
+
+/// The charge is compared, rounded step by step, and not the cost.
+fn charges_decide(trial: &mut Trial) -> Verdict {
+    for (prices, numbers, cost) in [
+        // free of charge, whatever the cost
+        ([(1, 100), (1, 100), (9, 0), (65_535, 0)], &[2][..], 0),
+        ([(9, 0), (9, 0), (1, 49), (1, 50)], &[2], 0),
+        ([(9, 0), (9, 0), (1, 50), (1, 51)], &[0, 1], 0),
+        // a half upwards: two halves are charged 2
+        ([(1, 50), (1, 50), (2, 100), (3, 50)], &[2], 2),
+        ([(1, 50), (1, 50), (3, 100), (5, 50)], &[0, 1], 2),
+        // the charges tie: the lowest number
+        ([(5, 100), (5, 100), (3, 50), (2, 100)], &[2], 2),
+        // above 100
+        ([(1, 100), (1, 100), (1, 200), (1, 150)], &[2], 2),
+        ([(1, 100), (1, 100), (2, 150), (2, 149)], &[0, 1], 2),
+        ([(1, 200), (1, 200), (65_535, 200), (4, 100)], &[3], 4),
+    ] {
+        two_states(trial, prices, numbers, cost)?;
     }
     Ok(())
 }
@@ -139,6 +168,7 @@ fn worked_examples(trial: &mut Trial) -> Verdict {
         (examples::flat_effect(), vec![], 0),
         (examples::effect_normal_form(), vec![0], 1),
         (examples::journey(), vec![2, 4], 4),
+        (examples::percents(), vec![1, 4], 2),
     ] {
         trial.case();
         let plan = Some(Plan { numbers, cost });

@@ -36,7 +36,7 @@ pub type Rule = (u16, u16, u16);
 /// The rules of a compiled operator in order; an error if it is not flat.
 pub fn rules(task: &Task, operator: usize) -> Result<Vec<Rule>, String> {
     let wrong = |row: [u16; 3]| Err(format!("  not flat at effect {row:?}\n{}", dump_task(task)));
-    let [_, mut top, _] = task.operator(operator);
+    let [_, mut top, ..] = task.operator(operator);
     let mut found = Vec::new();
     while top != 0 {
         let row = task.effect(usize::from(top));
@@ -105,7 +105,9 @@ fn positive_and_flat(trial: &mut Trial) -> Verdict {
         same(&dump_task(&task), positive, true)?;
         for i in 0..usize::from(compiled.head.operator_count) {
             rules(&compiled, i)?;
-            same("cost", compiled.operator(i)[2], task.operator(i)[2])?;
+            let [.., cost, percent] = task.operator(i);
+            let [.., kept, kept_percent] = compiled.operator(i);
+            same("cost, percent", (kept, kept_percent), (cost, percent))?;
         }
         let initial = corresponding(&compiled, &task.tables.initial);
         same("initial", &compiled.tables.initial, &initial)?;

@@ -80,6 +80,22 @@ fn checks(trial: &mut Trial) -> Verdict {
     task.set_formula(3, [formula::NOT, 2, 0]);
     look("not 2 in row 3", &task, 0)?;
     look("base of the damages", &damage::base(), 0)?;
+    for (what, rows, expected) in [
+        ("percent 0", [[0, 0, 0, 0], [0, 0, 0, 100]], 0),
+        ("percent 200", [[0, 0, 9, 200], [0, 0, 0, 100]], 0),
+        ("percent 201", [[0, 0, 0, 100], [0, 0, 0, 201]], 24),
+        ("12 first in a row", [[1, 0, 0, 201], [0, 0, 0, 100]], 12),
+        ("24 in an earlier row", [[0, 0, 0, 201], [1, 0, 0, 100]], 24),
+        (
+            "12 in an earlier row",
+            [[0, 1, 0, 0], [0, 0, 0, 65_535]],
+            12,
+        ),
+    ] {
+        let mut task = counts([0, 0, 1, 1, 2, 0]);
+        task.tables.operators = rows.concat();
+        look(what, &task, expected)?;
+    }
     for damage in damage::damages() {
         let mut task = damage::base();
         (damage.inflict)(&mut task);
@@ -136,6 +152,8 @@ fn longest_run(trial: &mut Trial) -> Verdict {
     let outcome = run(&task, &[], 2, &sequence);
     let found = (outcome.number, outcome.steps, outcome.cost);
     same("65,535 steps", found, (0, 65_535, 4_294_836_225))?;
+    let doubled = run(&task.clone().at_percent(200), &[], 2, &sequence);
+    same("at 200 percent", doubled.cost, 8_589_672_450)?;
     sequence.push(0);
     same("65,536 steps", run(&task, &[], 2, &sequence).number, 19)?;
     sequence[0] = 1;
@@ -229,6 +247,7 @@ fn refusals_printed(trial: &mut Trial) -> Verdict {
         (&[0x00], "r 6\n"),
         (&[0x24, 0x01, 0x00, 0x01, 0x00], "r 7\n"),
         (&[0x04, 0x01, 0x00, 0x80], "r 10\n"),
+        (&[0x1c, 1, 0, 1, 0, 1, 0, 0x10, 0, 0x08, 201, 0], "r 24\n"),
     ] {
         trial.case();
         same("printed", program(input).as_str(), expected)?;

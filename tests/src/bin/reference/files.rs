@@ -1,7 +1,7 @@
 //! Group `files`: reading and writing undo each other; refusals in order.
 
 use saqwillo_tests::damage;
-use saqwillo_tests::file::{file_of, read, read_task, write, LARGEST};
+use saqwillo_tests::file::{file_of, read, read_task, write, LARGEST, LONGEST_FILE};
 use saqwillo_tests::generate::{self, Shape};
 use saqwillo_tests::harness::{dump_task, Test, Trial, Verdict};
 use saqwillo_tests::task::*;
@@ -20,6 +20,8 @@ pub fn tests() -> Vec<Test> {
         test("every beginning", every_beginning),
         test("damaged files", damaged_files),
         test("order of refusals", order_of_refusals),
+        test("percents", percents),
+        test("around percents", around_percents),
         test("lent lengths", lent_lengths),
         test("longest file", longest_file),
     ]
@@ -127,6 +129,63 @@ fn order_of_refusals(trial: &mut Trial) -> Verdict {
     Ok(())
 }
 
+/// A head, a formula and an effect; two operators are to follow.
+const BEFORE_OPERATORS: [u8; 9] = [0x1c, 1, 0, 1, 0, 2, 0, 0x10, 0x00];
+
+/// Map bit 3 of the first operator: the percent that is read, or the number.
+fn percents(trial: &mut Trial) -> Verdict {
+    for (what, row, expected) in [
+        ("absent", &[0x00][..], Ok(100)),
+        ("absent beside a cost", &[0x04, 100, 0], Ok(100)),
+        ("0", &[0x08, 0, 0], Ok(0)),
+        ("99", &[0x08, 99, 0], Ok(99)),
+        ("101", &[0x08, 101, 0], Ok(101)),
+        ("200", &[0x08, 200, 0], Ok(200)),
+        ("beside a cost", &[0x0c, 255, 255, 50, 0], Ok(50)),
+        ("100", &[0x08, 100, 0], Err(3)),
+        ("201", &[0x08, 201, 0], Err(24)),
+        ("356", &[0x08, 100, 1], Err(24)),
+        ("bit 4", &[0x18, 100, 0], Err(2)),
+        ("cost 0 before it", &[0x0c, 0, 0, 100, 0], Err(3)),
+        ("precondition F, 100", &[0x09, 1, 0, 100, 0], Err(3)),
+        ("precondition F, 201", &[0x09, 1, 0, 201, 0], Err(12)),
+        ("effect E, 0", &[0x0a, 1, 0, 0, 0], Err(12)),
+    ] {
+        trial.case();
+        let file = [&BEFORE_OPERATORS, row, &[0x00]].concat();
+        let task = read_task(&file, &LARGEST);
+        let found = task.clone().map(|task| task.operator(0)[3]);
+        same(what, found, expected)?;
+        if let Ok(task) = task {
+            same("written", file_of(&task.head, &task.tables), file)?;
+        }
+    }
+    Ok(())
+}
+
+/// The file ends in the percent, or goes on: the order of refusals.
+fn around_percents(trial: &mut Trial) -> Verdict {
+    for (what, rows, expected) in [
+        ("no percent", &[0x08][..], 1),
+        ("half a percent", &[0x08, 201], 1),
+        ("precondition F, half a percent", &[0x09, 1, 0, 100], 1),
+        ("bit 5, no percent", &[0x28], 2),
+        ("cost 0, half a percent", &[0x0c, 0, 0, 201], 3),
+        ("24, the next row's 12", &[0x08, 201, 0, 0x01, 1, 0], 24),
+        ("24, the next row's 2", &[0x08, 201, 0, 0x10], 24),
+        ("24, the next row's 1", &[0x08, 201, 0], 24),
+        ("12, the next row's 24", &[0x01, 1, 0, 0x08, 201, 0], 12),
+        ("24 in the second row", &[0x00, 0x08, 201, 0], 24),
+        ("24, bytes follow", &[0x00, 0x08, 201, 0, 0xff], 24),
+        ("0, bytes follow", &[0x00, 0x08, 0, 0, 0xff], 4),
+    ] {
+        trial.case();
+        let file = [&BEFORE_OPERATORS, rows].concat();
+        same(what, read_task(&file, &LARGEST), Err(expected))?;
+    }
+    Ok(())
+}
+
 /// Lent tables just long enough, one short, one long.
 fn lent_lengths(trial: &mut Trial) -> Verdict {
     for _ in 0..500 {
@@ -174,9 +233,9 @@ fn longest_file(trial: &mut Trial) -> Verdict {
         task.set_effect(i, if i < 2 { [1, 1, 0] } else { row });
     }
     for i in 0..256 {
-        task.set_operator(i, [1, 1, 1]);
+        task.set_operator(i, [1, 1, 1, 1]);
     }
     let file = file_of(&task.head, &task.tables);
-    same("length", file.len(), 43_333)?;
+    same("length", file.len(), LONGEST_FILE)?;
     same("task", read_task(&file, &LARGEST), Ok(task))
 }

@@ -7,6 +7,7 @@ mod cheapest;
 mod compiling;
 mod examples;
 mod files;
+mod operator_records;
 mod runs;
 
 use saqwillo_tests::harness::{self, same};
@@ -19,5 +20,6 @@ fn main() {
     tests.extend(compiling::tests());
     tests.extend(best::tests());
     tests.extend(cheapest::tests());
+    tests.extend(operator_records::tests());
     std::process::exit(harness::run(&tests));
 }

@@ -1,8 +1,9 @@
 //! Group `runs`: steps by 002's definition, the order of refusals, buffers.
 
+use saqwillo_tests::examples;
 use saqwillo_tests::generate::{self, Shape};
 use saqwillo_tests::harness::{dump_task, Test, Trial, Verdict};
-use saqwillo_tests::semantics::{effcond, formula_values, plain_run, run, step};
+use saqwillo_tests::semantics::{charge, effcond, formula_values, plain_run, run, step};
 use saqwillo_tests::task::*;
 
 use crate::same;
@@ -16,6 +17,7 @@ pub fn tests() -> Vec<Test> {
     vec![
         test("steps by the definition", steps_by_definition),
         test("a run is its steps", run_is_its_steps),
+        test("charges", charges),
         test("order of refusals", order_of_refusals),
     ]
 }
@@ -37,7 +39,7 @@ fn steps_by_definition(trial: &mut Trial) -> Verdict {
         let values = formula_values(&task, &state);
         for operator in 0..task.head.operator_count {
             trial.case();
-            let [precondition, root, cost] = task.operator(usize::from(operator));
+            let [precondition, root, cost, percent] = task.operator(usize::from(operator));
             let outcome = step(&task, &state, scratch_of(&task), operator);
             if !values[usize::from(precondition)] {
                 let found = (outcome.number, outcome.steps, outcome.cost, outcome.goal);
@@ -57,7 +59,7 @@ fn steps_by_definition(trial: &mut Trial) -> Verdict {
                 .collect();
             let goal = formula_values(&task, &next)[usize::from(task.head.goal)];
             let found = (outcome.steps, outcome.cost, outcome.goal, outcome.state);
-            let expected = (1, u64::from(cost), goal, next);
+            let expected = (1, charge(cost, percent), goal, next);
             same(&dump_task(&task), found, expected)?;
         }
     }
@@ -88,6 +90,28 @@ fn run_is_its_steps(trial: &mut Trial) -> Verdict {
         same(&dump_task(&task), found, (steps, cost, stop))?;
         same("goal", outcome.goal, plain_run(&task, &state, &[]).goal)?;
         same("state", outcome.state, state)?;
+    }
+    Ok(())
+}
+
+/// A charge is at most half a unit above cost x percent / 100, and less than
+/// half a unit below; those by hand, alone and in runs.
+fn charges(trial: &mut Trial) -> Verdict {
+    for cost in 0..=65_535 {
+        trial.case();
+        for percent in 0..=MOST_PERCENT {
+            let hundredths = 100 * charge(cost, percent);
+            let exact = u64::from(cost) * u64::from(percent);
+            let nearest = hundredths <= exact + 50 && exact < hundredths + 50;
+            same(&format!("{cost} at {percent}"), nearest, true)?;
+        }
+    }
+    for (cost, percent, wanted) in examples::CHARGES {
+        trial.case();
+        same("by hand", charge(cost, percent), wanted)?;
+        let task = examples::priced(cost, percent);
+        same("step", step(&task, &[], 2, 0).cost, wanted)?;
+        same("run", run(&task, &[], 2, &[0; 7]).cost, 7 * wanted)?;
     }
     Ok(())
 }

@@ -42,8 +42,9 @@ impl Point {
         let mut task = generate::task(&mut random, &self.shape);
         for i in 0..self.shape.operators {
             let back = 1 + i % self.near_the_top.min(self.shape.effects);
-            let [precondition, _, cost] = task.operator(i);
-            task.set_operator(i, [precondition, (self.shape.effects - back) as u16, cost]);
+            let [precondition, _, cost, percent] = task.operator(i);
+            let root = (self.shape.effects - back) as u16;
+            task.set_operator(i, [precondition, root, cost, percent]);
         }
         task
     }

@@ -3,6 +3,8 @@
 
 #[cfg(feature = "compiling")]
 pub mod compiling;
+#[cfg(feature = "operator_records")]
+pub mod operator_records;
 #[cfg(feature = "planning")]
 pub mod planning;
 #[cfg(feature = "reading")]
@@ -97,4 +99,23 @@ pub fn row_length(table: &[u16], number: usize) -> usize {
 pub fn row_word(table: &[u16], number: usize, at: usize) -> u16 {
     // Pointer and length come from one slice.
     unsafe { test_row_word(table.as_ptr(), table.len(), number, at) }
+}
+
+#[link(name = "test_calls", kind = "static")]
+extern "C" {
+    fn test_operator_row_length(table: *const u16, table_len: usize, number: usize) -> usize;
+    fn test_operator_row_word(table: *const u16, table_len: usize, number: usize, at: usize)
+        -> u16;
+}
+
+/// The length of the part that the library hands back as an operator row.
+pub fn operator_row_length(table: &[u16], number: usize) -> usize {
+    // Pointer and length come from one slice.
+    unsafe { test_operator_row_length(table.as_ptr(), table.len(), number) }
+}
+
+/// A word of that part, 0 outside it.
+pub fn operator_row_word(table: &[u16], number: usize, at: usize) -> u16 {
+    // Pointer and length come from one slice.
+    unsafe { test_operator_row_word(table.as_ptr(), table.len(), number, at) }
 }
