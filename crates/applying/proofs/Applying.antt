@@ -10,19 +10,19 @@ use lib.ListN.{length, get_or}
 use lib.Dec.{leb, eqb}
 use borrow.Author.Tests.{ne_eqb, eq-eqb, eqb-true, le-leb, lt-leb, leb-true}
 use Rattle.task.specs.Bounded.{upto}
-use Rattle.task.specs.Table.{Row, row_at, under-kind, effect-kind}
+use Rattle.task.specs.Table.{Row, row_at, under_kind, effect_kind}
 use Rattle.task.specs.Rules.{no_row}
 use Rattle.task.specs.Semantics.{holds, apply}
-use Rattle.task.specs.Tree.{formula-of, effect_of}
+use Rattle.task.specs.Tree.{formula_of, effect_of}
 use Rattle.task.proofs.Bounded.{and_left, and_right, and_both, length-upto, getD-upto}
-use Rattle.task.proofs.KindNumbers.{by-effect-kind}
+use Rattle.task.proofs.KindNumbers.{by_effect_kind}
 use Rattle.task.specs.Inner.Rows.{EffectsDown}
-use Rattle.task.proofs.Values.{told-bit}
+use Rattle.task.proofs.Values.{told_bit}
 use Rattle.task.specs.Inner.Values.{bit, told, Values}
 use Rattle.task.proofs.Marks as Marks
-use Rattle.task.proofs.Changes.{kind-acts, row-changes, changes, changes-apply}
+use Rattle.task.proofs.Changes.{kind_acts, row_changes, changes, changes-apply}
 use Rattle.evaluating.specs.Inner.Values.{rows_of}
-use Rattle.applying.specs.Inner.Marks.{on, marked, acts, changed, HandsTo, to-left, to-right, to_inner, Reached, at-root, handed, Markable, Marked}
+use Rattle.applying.specs.Inner.Marks.{on, marked, acts, changed, HandsTo, to_left, to_right, to_inner, Reached, at_root, handed, Markable, Marked}
 use Rattle.applying.proofs.Marking.{reached-below, inner_below}
 
 on_bit : (b : Bool) → not (eqb (bit b) 0) ≡ b
@@ -35,13 +35,13 @@ number_of : Bool → ℕ
 number_of true = 1
 number_of false = 2
 
-kind-acts-number : (p : Bool) (n : ℕ) → kind-acts p (effect-kind n) ≡ eqb n (number_of p)
-unfolding kind-acts number_of
-kind-acts-number true n =
-    by-effect-kind (λ k. kind-acts true k ≡ eqb n 1) n (λ e. rw e) (λ e. rw e) (λ e. rw e) (λ e. rw e) (λ e. rw e)
+kind_acts_number : (p : Bool) (n : ℕ) → kind_acts p (effect_kind n) ≡ eqb n (number_of p)
+unfolding kind_acts number_of
+kind_acts_number true n =
+    by_effect_kind (λ k. kind_acts true k ≡ eqb n 1) n (λ e. rw e) (λ e. rw e) (λ e. rw e) (λ e. rw e) (λ e. rw e)
     (λ h. sym (ne_eqb n 1 (omega arith)))
-kind-acts-number false n =
-    by-effect-kind (λ k. kind-acts false k ≡ eqb n 2) n (λ e. rw e) (λ e. rw e) (λ e. rw e) (λ e. rw e) (λ e. rw e)
+kind_acts_number false n =
+    by_effect_kind (λ k. kind_acts false k ≡ eqb n 2) n (λ e. rw e) (λ e. rw e) (λ e. rw e) (λ e. rw e) (λ e. rw e)
     (λ h. sym (ne_eqb n 2 (omega arith)))
 
 module _
@@ -54,9 +54,9 @@ module _
   row_same : (i : ℕ) → i ≤ root → get_or (rows_of e words) i no_row ≡ row_at words i
   row_same i h = getD-upto e (row_at words) i no_row (omega arith)
 
-  holding-same : (a : ℕ) → a < at → on before a ≡ holds s (formula-of formulas a)
+  holding-same : (a : ℕ) → a < at → on before a ≡ holds s (formula_of formulas a)
   unfolding on
-  holding-same a h = rw (known.at a h) (on_bit (holds s (formula-of formulas a)))
+  holding-same a h = rw (known.at a h) (on_bit (holds s (formula_of formulas a)))
 
   -- the rows that are reached are the rows that the law of effect conditions marks
   hands-law :
@@ -65,32 +65,32 @@ module _
       → Marks.Marked s formulas (rows_of e words) root i
       → HandsTo words (on before) i j
       → Marks.Marked s formulas (rows_of e words) root j
-  hands-law i j h m (to-left q) = rw (← row_same i h) (Marks.left i m (rw (row_same i h) q))
-  hands-law i j h m (to-right q) = rw (← row_same i h) (Marks.right i m (rw (row_same i h) q))
+  hands-law i j h m (to_left q) = rw (← row_same i h) (Marks.left i m (rw (row_same i h) q))
+  hands-law i j h m (to_right q) = rw (← row_same i h) (Marks.right i m (rw (row_same i h) q))
   hands-law i j h m (to_inner q t) =
       rw (← row_same i h)
       (Marks.inner i m (rw (row_same i h) q)
       (rw (row_same i h) (sym (holding-same (row_at words i).a (inner_below words v at i (able.rule i h) q)) ∙ t)))
 
   to-law : (j : ℕ) → Reached words (on before) root j → Marks.Marked s formulas (rows_of e words) root j
-  to-law j at-root = Marks.at-root
+  to-law j at_root = Marks.at_root
   to-law j (handed i k r t) = hands-law i j (reached-below words v at root before able (on before) i r) (to-law i r) t
 
   below : (j : ℕ) → Marks.Marked s formulas (rows_of e words) root j → j ≤ root
   below = Marks.marked-below s formulas (rows_of e words) root v at down (rw (length-upto e (row_at words)) in_table)
 
   from-law : (j : ℕ) → Marks.Marked s formulas (rows_of e words) root j → Reached words (on before) root j
-  from-law j Marks.at-root = at-root
+  from-law j Marks.at_root = at_root
   from-law j (Marks.left i m q) =
       let same = row_same i (below i m) in
-      rw same (handed i (row_at words i).a (from-law i m) (to-left (rw same at q)))
+      rw same (handed i (row_at words i).a (from-law i m) (to_left (rw same at q)))
   from-law j (Marks.right i m q) =
       let same = row_same i (below i m) in
-      rw same (handed i (row_at words i).b (from-law i m) (to-right (rw same at q)))
+      rw same (handed i (row_at words i).b (from-law i m) (to_right (rw same at q)))
   from-law j (Marks.inner i m q t) =
       let same = row_same i (below i m) in
-      let kind : effect-kind (row_at words i).kind ≡ under-kind = rw same at q in
-      let holding : holds s (formula-of formulas (row_at words i).a) ≡ true = rw same at t in
+      let kind : effect_kind (row_at words i).kind ≡ under_kind = rw same at q in
+      let holding : holds s (formula_of formulas (row_at words i).a) ≡ true = rw same at t in
       rw same
       (handed i (row_at words i).b (from-law i m)
       (to_inner kind (holding-same (row_at words i).a (inner_below words v at i (able.rule i (below i m)) kind) ∙ holding)))
@@ -104,7 +104,7 @@ module _
 
   mark-told : (j : ℕ) → j < e → told marks j ≡ mark_of j
   unfolding marks
-  mark-told j h = rw (getD-upto e (λ (i : ℕ). bit (mark_of i)) j 0 h) (told-bit (mark_of j))
+  mark-told j h = rw (getD-upto e (λ (i : ℕ). bit (mark_of i)) j 0 h) (told_bit (mark_of j))
 
   agrees : (j : ℕ) → j < length (rows_of e words) → get_or marks j 0 ≡ 1 ↔ Marks.Marked s formulas (rows_of e words) root j
   unfolding mark_of
@@ -124,18 +124,18 @@ module _
   acts-agrees :
       (p : Bool) (n : ℕ)
       → n ≤ root
-      → (told marks n && kind-acts p (effect-kind (row_at words n).kind)) ≡ acts words (number_of p) after at n
+      → (told marks n && kind_acts p (effect_kind (row_at words n).kind)) ≡ acts words (number_of p) after at n
   unfolding acts mark_of
   acts-agrees p n h =
       let mark : told marks n ≡ marked after at n = mark-told n (omega arith) ∙ rw (le-leb n root h) in
-      ap₂ ◌&&◌ mark (kind-acts-number p (row_at words n).kind)
+      ap₂ ◌&&◌ mark (kind_acts_number p (row_at words n).kind)
 
   -- up to the root the passes are the same, and above it nothing is marked
   low_rows :
       (p : Bool) (n : ℕ) (t : List ℕ)
       → n ≤ root + 1
       → changes p marks (rows_of e words) n t ≡ changed words (number_of p) (bit p) after at n t
-  unfolding changes row-changes changed
+  unfolding changes row_changes changed
   low_rows p zero t h = refl
   low_rows p (suc n) t h =
       rw (row_same n (omega arith), low_rows p n t (omega arith), acts-agrees p n (omega arith))
@@ -144,12 +144,12 @@ module _
       (p : Bool) (d : ℕ) (t : List ℕ)
       → root + 1 + d ≤ e
       → changes p marks (rows_of e words) (root + 1 + d) t ≡ changes p marks (rows_of e words) (root + 1) t
-  unfolding changes row-changes mark_of
+  unfolding changes row_changes mark_of
   high-rows p zero t h = rw add-zero
   high-rows p (suc d) t h =
       let off : told marks (root + 1 + d) ≡ false =
       mark-told (root + 1 + d) (omega arith) ∙ rw (lt-leb (root + 1 + d) root (omega arith)) in
-      rw (add-suc (root + 1) d, changes, row-changes, off) (high-rows p d t (omega arith))
+      rw (add-suc (root + 1) d, changes, row_changes, off) (high-rows p d t (omega arith))
 
   all-rows :
       (p : Bool) (t : List ℕ)

@@ -11,9 +11,9 @@ use lib.ListN.{length, get_or, set, length-set}
 use lib.Seq.{get_or-set_same, get_or-set_other}
 use lib.Dec.{eqb}
 use borrow.Author.Tests.{eq-eqb, ne_eqb}
-use Rattle.task.specs.Table.{row_at, both-kind, under-kind, effect-kind}
-use Rattle.task.proofs.KindNumbers.{HasEffectNumber, effect-number}
-use Rattle.applying.specs.Inner.Marks.{on, marked, HandsTo, to-left, to-right, to_inner, Markable, HandedOn}
+use Rattle.task.specs.Table.{row_at, both_kind, under_kind, effect_kind}
+use Rattle.task.proofs.KindNumbers.{HasEffectNumber, effect_number}
+use Rattle.applying.specs.Inner.Marks.{on, marked, HandsTo, to_left, to_right, to_inner, Markable, HandedOn}
 
 pub on_same : (s t : List ℕ) (i : ℕ) → get_or t i 0 ≡ get_or s i 0 → on t i ≡ on s i
 unfolding on
@@ -55,37 +55,37 @@ add at j s h =
         go (yes q) = same q
         go (no d) = other d
 
-pub not-zero-on : (s : List ℕ) (i : ℕ) → (get_or s i 0 ≡ 0 → ⊥) → on s i ≡ true
+pub not_zero_on : (s : List ℕ) (i : ℕ) → (get_or s i 0 ≡ 0 → ⊥) → on s i ≡ true
 unfolding on
-not-zero-on s i d = rw (ne_eqb (get_or s i 0) 0 d)
+not_zero_on s i d = rw (ne_eqb (get_or s i 0) 0 d)
 
-pub zero-off : (s : List ℕ) (i : ℕ) → get_or s i 0 ≡ 0 → on s i ≡ false
+pub zero_off : (s : List ℕ) (i : ℕ) → get_or s i 0 ≡ 0 → on s i ≡ false
 unfolding on
-zero-off s i z = rw (eq-eqb (get_or s i 0) 0 z)
+zero_off s i z = rw (eq-eqb (get_or s i 0) 0 z)
 
 -- the numbers of the two kinds that hand on
-both-number : (n : ℕ) → effect-kind n ≡ both-kind → n ≡ 3
-both-number n e = subst (HasEffectNumber n) e (effect-number n)
+both_number : (n : ℕ) → effect_kind n ≡ both_kind → n ≡ 3
+both_number n e = subst (HasEffectNumber n) e (effect_number n)
 
-under-number : (n : ℕ) → effect-kind n ≡ under-kind → n ≡ 4
-under-number n e = subst (HasEffectNumber n) e (effect-number n)
+under_number : (n : ℕ) → effect_kind n ≡ under_kind → n ≡ 4
+under_number n e = subst (HasEffectNumber n) e (effect_number n)
 
-both-kind-of : {n : ℕ} → n ≡ 3 → effect-kind n ≡ both-kind
-unfolding effect-kind
-both-kind-of e = rw e
+both_kind_of : {n : ℕ} → n ≡ 3 → effect_kind n ≡ both_kind
+unfolding effect_kind
+both_kind_of e = rw e
 
-under-kind-of : {n : ℕ} → n ≡ 4 → effect-kind n ≡ under-kind
-unfolding effect-kind
-under-kind-of e = rw e
+under_kind_of : {n : ℕ} → n ≡ 4 → effect_kind n ≡ under_kind
+unfolding effect_kind
+under_kind_of e = rw e
 
 -- by the number of row k's kind: what is asked of it, and what handing on leaves
 module _ {words : List ℕ} {v at k : ℕ} {s : List ℕ} (m : Markable words v at k s) where
   pub both-refs : (row_at words k).kind ≡ 3 → ((row_at words k).a < k) × ((row_at words k).b < k)
-  unfolding effect-kind
+  unfolding effect_kind
   both-refs e = rw e at (m.rule k (omega arith))
 
   pub under-refs : (row_at words k).kind ≡ 4 → ((row_at words k).a < at) × ((row_at words k).b < k)
-  unfolding effect-kind
+  unfolding effect_kind
   under-refs e = rw e at (m.rule k (omega arith))
 
   pub handed-both :
@@ -99,14 +99,14 @@ module _ {words : List ℕ} {v at k : ℕ} {s : List ℕ} (m : Markable words v 
         hands = reaches;
         new =
             λ j q.
-            ⊎_elim (λ p. ⊎_elim inl (λ z. inr (rw z (to-left kind))) (first.new j p)) (λ z. inr (rw z (to-right kind)))
+            ⊎_elim (λ p. ⊎_elim inl (λ z. inr (rw z (to_left kind))) (first.new j p)) (λ z. inr (rw z (to_right kind)))
             (second.new j q);
         bits = λ j l. second.bits j (first.bits j l);
         behind = λ j l. second.behind j (omega (arith, refs)) ∙ first.behind j (omega (arith, refs));
       }
     where
-      kind : effect-kind (row_at words k).kind ≡ both-kind
-      kind = both-kind-of e
+      kind : effect_kind (row_at words k).kind ≡ both_kind
+      kind = both_kind_of e
 
       refs : ((row_at words k).a < k) × ((row_at words k).b < k)
       refs = both-refs e
@@ -121,9 +121,9 @@ module _ {words : List ℕ} {v at k : ℕ} {s : List ℕ} (m : Markable words v 
           (j : ℕ)
           → HandsTo words (on s) k j
           → marked (set (set s (at + (row_at words k).a) 1) (at + (row_at words k).b) 1) at j ≡ true
-      reaches j (to-left q) = second.more (row_at words k).a first.here
-      reaches j (to-right q) = second.here
-      reaches j (to_inner q h) = absurd (omega (arith, under-number (row_at words k).kind q))
+      reaches j (to_left q) = second.more (row_at words k).a first.here
+      reaches j (to_right q) = second.here
+      reaches j (to_inner q h) = absurd (omega (arith, under_number (row_at words k).kind q))
 
   pub handed-under :
       (row_at words k).kind ≡ 4
@@ -135,13 +135,13 @@ module _ {words : List ℕ} {v at k : ℕ} {s : List ℕ} (m : Markable words v 
         values = one.values;
         more = one.more;
         hands = reaches;
-        new = λ j q. ⊎_elim inl (λ z. inr (rw z (to_inner kind (not-zero-on s (row_at words k).a holding)))) (one.new j q);
+        new = λ j q. ⊎_elim inl (λ z. inr (rw z (to_inner kind (not_zero_on s (row_at words k).a holding)))) (one.new j q);
         bits = one.bits;
         behind = λ j l. one.behind j (omega (arith, refs));
       }
     where
-      kind : effect-kind (row_at words k).kind ≡ under-kind
-      kind = under-kind-of e
+      kind : effect_kind (row_at words k).kind ≡ under_kind
+      kind = under_kind_of e
 
       refs : ((row_at words k).a < at) × ((row_at words k).b < k)
       refs = under-refs e
@@ -150,8 +150,8 @@ module _ {words : List ℕ} {v at k : ℕ} {s : List ℕ} (m : Markable words v 
       one = add at (row_at words k).b s (omega (arith, m.marks, refs))
 
       reaches : (j : ℕ) → HandsTo words (on s) k j → marked (set s (at + (row_at words k).b) 1) at j ≡ true
-      reaches j (to-left q) = absurd (omega (arith, both-number (row_at words k).kind q))
-      reaches j (to-right q) = absurd (omega (arith, both-number (row_at words k).kind q))
+      reaches j (to_left q) = absurd (omega (arith, both_number (row_at words k).kind q))
+      reaches j (to_right q) = absurd (omega (arith, both_number (row_at words k).kind q))
       reaches j (to_inner q h) = one.here
 
   -- nothing is handed on
@@ -171,14 +171,14 @@ module _ {words : List ℕ} {v at k : ℕ} {s : List ℕ} (m : Markable words v 
   handed-shut e z = idle none
     where
       none : (j : ℕ) → HandsTo words (on s) k j → ⊥
-      none j (to-left q) = omega (arith, both-number (row_at words k).kind q)
-      none j (to-right q) = omega (arith, both-number (row_at words k).kind q)
-      none j (to_inner q h) = false≢true (sym (zero-off s (row_at words k).a z) ∙ h)
+      none j (to_left q) = omega (arith, both_number (row_at words k).kind q)
+      none j (to_right q) = omega (arith, both_number (row_at words k).kind q)
+      none j (to_inner q h) = false≢true (sym (zero_off s (row_at words k).a z) ∙ h)
 
   pub handed-none : ((row_at words k).kind ≡ 3 → ⊥) → ((row_at words k).kind ≡ 4 → ⊥) → HandedOn words at k s s
   handed-none d e = idle none
     where
       none : (j : ℕ) → HandsTo words (on s) k j → ⊥
-      none j (to-left q) = d (both-number (row_at words k).kind q)
-      none j (to-right q) = d (both-number (row_at words k).kind q)
-      none j (to_inner q h) = e (under-number (row_at words k).kind q)
+      none j (to_left q) = d (both_number (row_at words k).kind q)
+      none j (to_right q) = d (both_number (row_at words k).kind q)
+      none j (to_inner q h) = e (under_number (row_at words k).kind q)

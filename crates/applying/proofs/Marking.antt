@@ -9,10 +9,10 @@ use mathlib.Core.List.{List, ◌++◌}
 use lib.ListN.{length, get_or, set, take, drop, replicate, length-set, length-drop, length-replicate, get_or-replicate, get_or-append}
 use lib.Seq.{get_or-set_same, get_or-set_other, get_or-take, get_or-drop, get_or-append-add, length-take-le, ext_get_or}
 use borrow.Rule.Slice.PartMut.{mid_of, put_mid, same_len_mid}
-use Rattle.task.specs.Table.{row_at, EffectKind, both-kind, under-kind, effect-kind}
+use Rattle.task.specs.Table.{row_at, EffectKind, both_kind, under_kind, effect_kind}
 use Rattle.task.specs.Rules.{EffectRule}
-use Rattle.applying.specs.Inner.Marks.{on, marked, HandsTo, to-left, to-right, to_inner, Reached, at-root, handed, Markable, Marked, HandedOn, Begun}
-use Rattle.applying.proofs.Handing.{on_same, not-zero-on, zero-off}
+use Rattle.applying.specs.Inner.Marks.{on, marked, HandsTo, to_left, to_right, to_inner, Reached, at_root, handed, Markable, Marked, HandedOn, Begun}
+use Rattle.applying.proofs.Handing.{on_same, not_zero_on, zero_off}
 
 module _ (at root : ℕ) (s ys : List ℕ) (room : at + root < length s) where
   mid-length : length (mid_of at (at + root - at) s) ≡ root
@@ -30,12 +30,12 @@ module _ (at root : ℕ) (s ys : List ℕ) (room : at + root < length s) where
             get_or-set_other whole (at + root) i 1 0 (omega arith)
             ∙ get_or-append (take at s) rest 0 i (omega (arith, front))
             ∙ get_or-take at s i 0 l;
-        root-marked =
-            not-zero-on (set whole (at + root) 1) (at + root)
+        root_marked =
+            not_zero_on (set whole (at + root) 1) (at + root)
             (λ z. let one : ◌≡◌ {A = ℕ} 1 0 = sym (get_or-set_same whole (at + root) 1 0 (omega (arith, long))) ∙ z in omega arith);
         only =
             λ k l.
-            zero-off (set whole (at + root) 1) (at + k)
+            zero_off (set whole (at + root) 1) (at + k)
             (get_or-set_other whole (at + root) (at + k) 1 0 (omega arith) ∙ inside k l);
         bits = λ k l. bit_at k l (dec_lt k root);
         behind = λ k l. get_or-set_other whole (at + root) (at + k) 1 0 (omega arith) ∙ past k (omega arith);
@@ -82,33 +82,33 @@ module _ (at root : ℕ) (s ys : List ℕ) (room : at + root < length s) where
           ∙ ap (λ (n : ℕ). get_or s n 0) place
 
 -- the rows that a row hands on to are lower, and with other truth values that agree below the bound they are the same
-module _ (words : List ℕ) (v at k : ℕ) (rule : EffectRule v at k (effect-kind (row_at words k).kind) (row_at words k).a (row_at words k).b) where
-  rule-as : (kind : EffectKind) → effect-kind (row_at words k).kind ≡ kind → EffectRule v at k kind (row_at words k).a (row_at words k).b
+module _ (words : List ℕ) (v at k : ℕ) (rule : EffectRule v at k (effect_kind (row_at words k).kind) (row_at words k).a (row_at words k).b) where
+  rule-as : (kind : EffectKind) → effect_kind (row_at words k).kind ≡ kind → EffectRule v at k kind (row_at words k).a (row_at words k).b
   rule-as kind e = subst (λ (x : EffectKind). EffectRule v at k x (row_at words k).a (row_at words k).b) e rule
 
-  pub inner_below : effect-kind (row_at words k).kind ≡ under-kind → (row_at words k).a < at
-  inner_below e = (rule-as under-kind e).0
+  pub inner_below : effect_kind (row_at words k).kind ≡ under_kind → (row_at words k).a < at
+  inner_below e = (rule-as under_kind e).0
 
   hands-below : (h : ℕ → Bool) (j : ℕ) → HandsTo words h k j → j < k
-  hands-below h j (to-left e) = (rule-as both-kind e).0
-  hands-below h j (to-right e) = (rule-as both-kind e).1
-  hands-below h j (to_inner e t) = (rule-as under-kind e).1
+  hands-below h j (to_left e) = (rule-as both_kind e).0
+  hands-below h j (to_right e) = (rule-as both_kind e).1
+  hands-below h j (to_inner e t) = (rule-as under_kind e).1
 
   hands-same : (h g : ℕ → Bool) → ((i : ℕ) → i < at → h i ≡ g i) → (j : ℕ) → HandsTo words h k j → HandsTo words g k j
-  hands-same h g same j (to-left e) = to-left e
-  hands-same h g same j (to-right e) = to-right e
+  hands-same h g same j (to_left e) = to_left e
+  hands-same h g same j (to_right e) = to_right e
   hands-same h g same j (to_inner e t) = to_inner e (sym (same (row_at words k).a (inner_below e)) ∙ t)
 
 -- what is reached is no higher than the root
 module _ (words : List ℕ) (v at root : ℕ) (s : List ℕ) (m : Markable words v at root s) where
   pub reached-below : (h : ℕ → Bool) (k : ℕ) → Reached words h root k → k ≤ root
-  reached-below h k at-root = omega arith
+  reached-below h k at_root = omega arith
   reached-below h k (handed i j r t) =
       let l : i ≤ root = reached-below h i r in
       omega (arith, hands-below words v at i (m.rule i l) h k t)
 
   reached-same : (h g : ℕ → Bool) → ((i : ℕ) → i < at → h i ≡ g i) → (k : ℕ) → Reached words h root k → Reached words g root k
-  reached-same h g same k at-root = at-root
+  reached-same h g same k at_root = at_root
   reached-same h g same k (handed i j r t) =
       handed i j (reached-same h g same i r) (hands-same words v at i (m.rule i (reached-below h i r)) h g same k t)
 
@@ -116,7 +116,7 @@ module _ (words : List ℕ) (v at root : ℕ) (s : List ℕ) (m : Markable words
 pub record Going (words : List ℕ) (at root : ℕ) (before : List ℕ) (left : ℕ) (after : List ℕ) : Type 0 where
   pub same : length after ≡ length before
   pub values : (i : ℕ) → i < at → get_or after i 0 ≡ get_or before i 0
-  pub root-marked : marked after at root ≡ true
+  pub root_marked : marked after at root ≡ true
   pub sound : (k : ℕ) → k ≤ root → marked after at k ≡ true → Reached words (on before) root k
   pub passed :
       (k j : ℕ) → left ≤ k → k ≤ root → marked after at k ≡ true → HandsTo words (on before) k j → marked after at j ≡ true
@@ -128,7 +128,7 @@ starts {words} {at} {root} {before} {after} g =
     record {
       same = refl;
       values = λ i l. refl;
-      root-marked = g.root-marked;
+      root_marked = g.root_marked;
       sound = λ k l m. only-root k l m (dec_lt k root);
       passed = λ k j l h. absurd (omega arith);
       bits = g.bits;
@@ -137,14 +137,14 @@ starts {words} {at} {root} {before} {after} g =
   where
     only-root : (k : ℕ) → k ≤ root → marked after at k ≡ true → Dec (k < root) → Reached words (on after) root k
     only-root k l m (yes h) = absurd (false≢true (sym (g.only k h) ∙ m))
-    only-root k l m (no h) = let e : k ≡ root = omega arith in rw e at-root
+    only-root k l m (no h) = let e : k ≡ root = omega arith in rw e at_root
 
-pub still-markable :
+pub still_markable :
     {words : List ℕ} {v at root : ℕ} {before after : List ℕ}
     → Markable words v at root before
     → length after ≡ length before
     → Markable words v at root after
-still-markable m same =
+still_markable m same =
     record { rows = m.rows; marks = omega (arith, m.marks, same); rule = m.rule }
 
 module _
@@ -165,7 +165,7 @@ module _
       record {
         same = g.same;
         values = g.values;
-        root-marked = g.root-marked;
+        root_marked = g.root_marked;
         sound = g.sound;
         passed = λ k j l h q t. by_row k j l h q t (dec_lt k left);
         bits = g.bits;
@@ -175,7 +175,7 @@ module _
       by_row : (k j : ℕ) → left - 1 ≤ k → k ≤ root → marked s at k ≡ true → HandsTo words (on before) k j → Dec (k < left) → marked s at j ≡ true
       by_row k j l h q t (yes b) =
           let e : k ≡ left - 1 = omega arith in
-          absurd (false≢true (sym (zero-off s (at + (left - 1)) z) ∙ (rw e at q)))
+          absurd (false≢true (sym (zero_off s (at + (left - 1)) z) ∙ (rw e at q)))
       by_row k j l h q t (no b) = g.passed k j (omega arith) h q t
 
   -- the row is marked, and has handed on
@@ -188,18 +188,18 @@ module _
       record {
         same = w.same ∙ g.same;
         values = λ i l. w.values i l ∙ g.values i l;
-        root-marked = w.more root g.root-marked;
+        root_marked = w.more root g.root_marked;
         sound = λ k l q. ⊎_elim (g.sound k l) (λ h. handed (left - 1) k here (from-now k h)) (w.new k q);
         passed = λ k j l h q r. by_row k j l h q r (dec_lt k left);
         bits = λ k l. w.bits k (g.bits k l);
         behind = λ k l. w.behind k (omega arith) ∙ g.behind k l;
       }
     where
-      rule : EffectRule v at (left - 1) (effect-kind (row_at words (left - 1)).kind) (row_at words (left - 1)).a (row_at words (left - 1)).b
+      rule : EffectRule v at (left - 1) (effect_kind (row_at words (left - 1)).kind) (row_at words (left - 1)).a (row_at words (left - 1)).b
       rule = m.rule (left - 1) (omega arith)
 
       here : Reached words (on before) root (left - 1)
-      here = g.sound (left - 1) (omega arith) (not-zero-on s (at + (left - 1)) d)
+      here = g.sound (left - 1) (omega arith) (not_zero_on s (at + (left - 1)) d)
 
       from-now : (j : ℕ) → HandsTo words (on s) (left - 1) j → HandsTo words (on before) (left - 1) j
       from-now = hands-same words v at (left - 1) rule (on s) (on before) (λ i l. on_same before s i (g.values i l))
@@ -249,5 +249,5 @@ finished {words} {v} {at} {root} {before} {first} {after} m b g =
         rw e (g.behind (root + 1 + i) (omega arith) ∙ b.behind (root + 1 + i) (omega arith))
 
     all : (k : ℕ) → Reached words (on first) root k → marked after at k ≡ true
-    all k at-root = g.root-marked
+    all k at_root = g.root_marked
     all k (handed i j r t) = g.passed i k (omega arith) (reached-below words v at root before m (on first) i r) (all i r) t

@@ -8,18 +8,18 @@ use mathlib.Core.List.{List}
 use lib.ListN.{length, get_or, set, length-set}
 use lib.Dec.{eqb}
 use borrow.Author.Tests.{eq-eqb, ne_eqb, eqb-true}
-use Rattle.task.specs.Table.{row_at, effect-kind}
+use Rattle.task.specs.Table.{row_at, effect_kind}
 use Rattle.task.specs.Rules.{EffectRule}
 use Rattle.task.proofs.Bounded.{and_right}
-use Rattle.task.proofs.KindNumbers.{by-effect-kind}
+use Rattle.task.proofs.KindNumbers.{by_effect_kind}
 use Rattle.evaluating.specs.Inner.Values.{Valued}
 use Rattle.applying.specs.Inner.Marks.{on, marked, acts, changed, Changeable, Markable, Marked}
 use Rattle.applying.specs.Inner.Carrying.{ConditionsReady, Decided, Decides, AtomsCarried, Carried}
 
-pub acts-not-marked : (words : List ℕ) (kind : ℕ) (scratch : List ℕ) (at k : ℕ)
+pub acts_not_marked : (words : List ℕ) (kind : ℕ) (scratch : List ℕ) (at k : ℕ)
     → get_or scratch (at + k) 0 ≡ 0 → acts words kind scratch at k ≡ false
 unfolding acts on
-acts-not-marked words kind scratch at k e = rw (eq-eqb (get_or scratch (at + k) 0) 0 e)
+acts_not_marked words kind scratch at k e = rw (eq-eqb (get_or scratch (at + k) 0) 0 e)
 
 module _ (words : List ℕ) (kind : ℕ) (scratch : List ℕ) (at k : ℕ) (m : get_or scratch (at + k) 0 ≡ 0 → ⊥) where
   pub acts-other-kind : ((row_at words k).kind ≡ kind → ⊥) → acts words kind scratch at k ≡ false
@@ -56,9 +56,9 @@ module _ {words : List ℕ} {kind value : ℕ} {scratch : List ℕ} {at : ℕ} w
         }
 
 -- the rows that act name variables, for sets and for clears
-atom-named : (v at k n a b : ℕ) → 1 ≤ n → n ≤ 2 → EffectRule v at k (effect-kind n) a b → a < v
-atom-named v at k n a b low high =
-    by-effect-kind (λ kind. EffectRule v at k kind a b → a < v) n (λ e. absurd (omega arith)) (λ e rule. rule.0)
+atom_named : (v at k n a b : ℕ) → 1 ≤ n → n ≤ 2 → EffectRule v at k (effect_kind n) a b → a < v
+atom_named v at k n a b low high =
+    by_effect_kind (λ kind. EffectRule v at k kind a b → a < v) n (λ e. absurd (omega arith)) (λ e rule. rule.0)
     (λ e rule. rule.0) (λ e. absurd (omega arith)) (λ e. absurd (omega arith)) (λ e. absurd (omega arith))
 
 pub changeable :
@@ -79,7 +79,7 @@ changeable {words} {v} {at} {root} {kind} {w} {before} {after} m long low high s
           let e : (row_at words k).kind ≡ kind =
           eqb-true (row_at words k).kind kind (and_right (marked after at k) (eqb (row_at words k).kind kind) q) in
           rw same
-          (atom-named v at k (row_at words k).kind (row_at words k).a (row_at words k).b (rw e low) (rw e high) (m.rule k (omega arith)));
+          (atom_named v at k (row_at words k).kind (row_at words k).a (row_at words k).b (rw e low) (rw e high) (m.rule k (omega arith)));
     }
 
 -- a pass keeps the state's length
@@ -97,32 +97,32 @@ module _ (words : List ℕ) (kind value : ℕ) (scratch : List ℕ) (at : ℕ) (
       go false same = same
 
 -- the ways out of `decide`
-pub all-decided :
+pub all_decided :
     {decided : Bool} {f e : List ℕ} {at root : ℕ} {s scratch : List ℕ}
     → decided ≡ true
     → Decides decided f e at root s scratch scratch
-all-decided q = record { kept = λ x. refl; new = λ x. absurd (false≢true (sym x ∙ q)) }
+all_decided q = record { kept = λ x. refl; new = λ x. absurd (false≢true (sym x ∙ q)) }
 
-pub now-decided :
+pub now_decided :
     {decided : Bool} {f e : List ℕ} {at root : ℕ} {s before values after : List ℕ}
     → decided ≡ false
     → length values ≡ length before
     → Valued f at s before values
     → Marked e at root values after
     → Decides decided f e at root s before after
-now-decided {values = values} q long valued marking =
+now_decided {values = values} q long valued marking =
     record {
       kept = λ x. absurd (false≢true (sym q ∙ x));
       new = λ x. record { values = values; same = long; evaluating = valued; marking = marking };
     }
 
 -- after the first pass all is decided
-pub decided-ready :
+pub decided_ready :
     {f e : List ℕ} {from at root value : ℕ} {s half before marks : List ℕ}
     → ConditionsReady false f e from at root s before
     → AtomsCarried false f e at root value s half before marks
     → ConditionsReady true f e from at root half marks
-decided-ready {f} {e} {from} {at} {root} {value} {s} {half} {before} {marks} ready done =
+decided_ready {f} {e} {from} {at} {root} {value} {s} {half} {before} {marks} ready done =
     record {
       formulas = λ q. absurd (false≢true (sym q));
       effects =

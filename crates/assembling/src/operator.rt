@@ -1,9 +1,9 @@
 // One operator: its rules, and its row.
-ghost use Rattle.task.specs.Table.{operator-at};
+ghost use Rattle.task.specs.Table.{operator_at};
 ghost use Rattle.normal_form.specs.Assembly.{rules};
 ghost use Rattle.formula_builder.specs.Inner.Held.{row_of};
 ghost use Rattle.rule_writer.specs.Inner.Writes.{Ready, Writes};
-ghost use Rattle.assembling.specs.Inner.Assembles.{changes-between, built_of, ForTwins, WritesRecords, WritesOperator, WroteOperator};
+ghost use Rattle.assembling.specs.Inner.Assembles.{changes_between, built_of, ForTwins, WritesRecords, WritesOperator, WroteOperator};
 
 use formula_builder::{Words, read_row};
 use rule_writer::{Chain, Changes, Frame, write_changes};
@@ -20,7 +20,7 @@ fn write_records(
     out: &mut [u16],
 ) -> Chain
     requires { WritesRecords frame records.now places.now k end chain out.old }
-    ensures { Ready frame.room result out.new × ForTwins frame places.now (λ twins. Writes (rules frame.variables twins (changes-between records.now k end)) frame.room chain out.old out.new result) }
+    ensures { Ready frame.room result out.new × ForTwins frame places.now (λ twins. Writes (rules frame.variables twins (changes_between records.now k end)) frame.room chain out.old out.new result) }
 {
     let mut r = chain;
     let mut i = k;
@@ -56,7 +56,7 @@ pub fn assemble_operator(
     written: &mut [u16],
 ) -> Chain
     requires { WritesOperator frame source.now records.now places.now (row_of w) o k rows out.old written.old }
-    ensures { Ready frame.room result out.new × ForTwins frame places.now (λ twins. WroteOperator (built_of records.now (row_of w) k (operator-at source.now o)) frame.variables twins frame.room rows o result out.old out.new written.old written.new) }
+    ensures { Ready frame.room result out.new × ForTwins frame places.now (λ twins. WroteOperator (built_of records.now (row_of w) k (operator_at source.now o)) frame.variables twins frame.room rows o result out.old out.new written.old written.new) }
 {
     let r = write_records(
         records,

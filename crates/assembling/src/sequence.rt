@@ -1,6 +1,6 @@
 // All operators, in order.
 ghost use Rattle.std.specs.Prelude.{◌≤◌, length, take};
-ghost use Rattle.assembling.specs.Inner.Assembles.{assembled-in, ForTwins, Assembles, Twinned, AssembledAll};
+ghost use Rattle.assembling.specs.Inner.Assembles.{assembled_in, ForTwins, Assembles, Twinned, AssembledAll};
 
 use crate::operator::assemble_operator;
 use formula_builder::read_row;
@@ -18,7 +18,7 @@ fn assemble_placed(
     written: &mut [u16],
 ) -> Chain
     requires { Assembles frame operators.now records.now count out.old written.old × (frame.variables ≤ length places.now) }
-    ensures { ForTwins frame places.now (λ twins. AssembledAll (assembled-in frame.variables twins operators.now records.now count) frame.room count result out.new written.new) }
+    ensures { ForTwins frame places.now (λ twins. AssembledAll (assembled_in frame.variables twins operators.now records.now count) frame.room count result out.new written.new) }
 {
     let mut rows = 1;
     let mut k = 0;
@@ -53,7 +53,7 @@ pub fn assemble_operators(
     written: &mut [u16],
 ) -> Chain
     requires { Assembles frame operators.now records.now count out.old written.old × Twinned frame originals.now }
-    ensures { AssembledAll (assembled-in frame.variables (take frame.twins originals.now) operators.now records.now count) frame.room count result out.new written.new }
+    ensures { AssembledAll (assembled_in frame.variables (take frame.twins originals.now) operators.now records.now count) frame.room count result out.new written.new }
 {
     let mut places = [0u16; 512];
     find_places(originals, &mut places, frame.variables, frame.twins);

@@ -14,112 +14,112 @@ use Rattle.task.specs.Table.{row_at}
 use Rattle.formula_builder.specs.declared.Words.{Words}
 use Rattle.formula_builder.specs.declared.Frame.{Frame}
 use Rattle.formula_builder.specs.Inner.Held.{row_of}
-use Rattle.atom_sets.specs.Inner.Sets.{set_words, set-place, sets_end, atom-bit, lacks, InSet}
-use Rattle.atom_sets.specs.Inner.Finds.{set-start, united, copied, Room, Written, Within, FindsSets, FindsSet, SetOf, FoundSet, FoundSets}
-use Rattle.atom_sets.proofs.Places.{row_more, place-within, word-within, byte_small, bit_is}
-use Rattle.atom_sets.proofs.Words.{or-lacks, one_shifted, one-stands}
+use Rattle.atom_sets.specs.Inner.Sets.{set_words, set_place, sets_end, atom_bit, lacks, InSet}
+use Rattle.atom_sets.specs.Inner.Finds.{set_start, united, copied, Room, Written, Within, FindsSets, FindsSet, SetOf, FoundSet, FoundSets}
+use Rattle.atom_sets.proofs.Places.{row_more, place_within, word_within, byte_small, bit_is}
+use Rattle.atom_sets.proofs.Words.{or_lacks, one_shifted, one_stands}
 
 -- Where sets begin and end.
 module _ (frame : Frame) where
-  pub start_is : (e s : ℕ) → s ≡ set_words frame → 4 * frame.effects + s * e ≡ set-start frame e
-  unfolding set-start
+  pub start_is : (e s : ℕ) → s ≡ set_words frame → 4 * frame.effects + s * e ≡ set_start frame e
+  unfolding set_start
   start_is e s q = rw q
 
   -- the set of a lower row ends where this one begins, or before
-  start-order : (d e : ℕ) → d < e → set-start frame d + set_words frame ≤ set-start frame e
-  unfolding set-start
+  start-order : (d e : ℕ) → d < e → set_start frame d + set_words frame ≤ set_start frame e
+  unfolding set_start
   start-order d e h = omega (arith, row_more (set_words frame) d e h)
 
-  start-next : (e : ℕ) → set-start frame (e + 1) ≡ set-start frame e + set_words frame
-  unfolding set-start
+  start-next : (e : ℕ) → set_start frame (e + 1) ≡ set_start frame e + set_words frame
+  unfolding set_start
   start-next e = omega arith
 
-  start-end : set-start frame frame.effects ≡ sets_end frame
-  unfolding set-start sets_end
+  start-end : set_start frame frame.effects ≡ sets_end frame
+  unfolding set_start sets_end
   start-end = refl
 
-  start_first : (e : ℕ) → 4 * frame.effects ≤ set-start frame e
-  unfolding set-start
+  start_first : (e : ℕ) → 4 * frame.effects ≤ set_start frame e
+  unfolding set_start
   start_first e = omega arith
 
-  place-start : (v e : ℕ) → set-place frame v e ≡ set-start frame e + v / 8
-  unfolding set-start set-place
+  place-start : (v e : ℕ) → set_place frame v e ≡ set_start frame e + v / 8
+  unfolding set_start set_place
   place-start v e = omega arith
 
   -- the word of an atom, and whether its bit stands
   of-lacks :
       (notes : List ℕ) (clear : Bool) (v e x : ℕ)
-      → get_or notes (set-start frame e + v / 8) 0 ≡ x
+      → get_or notes (set_start frame e + v / 8) 0 ≡ x
       → lacks frame notes clear v e ≡ true
-      → x / 2 ^ atom-bit clear v % 2 ≡ 0
+      → x / 2 ^ atom_bit clear v % 2 ≡ 0
   unfolding lacks
   of-lacks notes clear v e x q h =
-      rw (← q, ← place-start v e) (eqb-true (get_or notes (set-place frame v e) 0 / 2 ^ atom-bit clear v % 2) 0 h)
+      rw (← q, ← place-start v e) (eqb-true (get_or notes (set_place frame v e) 0 / 2 ^ atom_bit clear v % 2) 0 h)
 
   lacks-of :
       (notes : List ℕ) (clear : Bool) (v e x : ℕ)
-      → get_or notes (set-start frame e + v / 8) 0 ≡ x
-      → x / 2 ^ atom-bit clear v % 2 ≡ 0
+      → get_or notes (set_start frame e + v / 8) 0 ≡ x
+      → x / 2 ^ atom_bit clear v % 2 ≡ 0
       → lacks frame notes clear v e ≡ true
   unfolding lacks
   lacks-of notes clear v e x q h =
-      rw (place-start v e, q) (eq-eqb (x / 2 ^ atom-bit clear v % 2) 0 h)
+      rw (place-start v e, q) (eq-eqb (x / 2 ^ atom_bit clear v % 2) 0 h)
 
 -- the code's word of one bit is the definition's
-pub put-by :
+pub put_by :
     (frame : Frame) (notes : List ℕ) (clear : Bool) (v e k : ℕ)
-    → k ≡ set-place frame v e
-    → set notes k (1 * 2 ^ (2 * (v % 8) + bool_byte clear) % 65536) ≡ set notes (set-place frame v e) (2 ^ atom-bit clear v)
-put-by frame notes clear v e k q =
+    → k ≡ set_place frame v e
+    → set notes k (1 * 2 ^ (2 * (v % 8) + bool_byte clear) % 65536) ≡ set notes (set_place frame v e) (2 ^ atom_bit clear v)
+put_by frame notes clear v e k q =
     rw (one_shifted (2 * (v % 8) + bool_byte clear) (omega (arith, byte_small clear)), bit_is clear v, q)
 
 -- the kinds of atoms
-atom-kind : (clear : Bool) → (0 < cond clear 2 1) × (cond clear 2 1 < 3)
-atom-kind true = (omega arith, omega arith)
-atom-kind false = (omega arith, omega arith)
+atom_kind : (clear : Bool) → (0 < cond clear 2 1) × (cond clear 2 1 < 3)
+atom_kind true = (omega arith, omega arith)
+atom_kind false = (omega arith, omega arith)
 
-clear-is : (clear : Bool) (k : ℕ) → k ≡ cond clear 2 1 → eqb k 2 ≡ clear
-clear-is true k e = eq-eqb k 2 e
-clear-is false k e = ne_eqb k 2 (λ z. omega arith)
+clear_is : (clear : Bool) (k : ℕ) → k ≡ cond clear 2 1 → eqb k 2 ≡ clear
+clear_is true k e = eq-eqb k 2 e
+clear_is false k e = ne_eqb k 2 (λ z. omega arith)
 
 -- Row i with the words w.
 module _ {frame : Frame} {effects before : List ℕ} {i : ℕ} (f : FindsSet frame effects before i) (w : Words) (q : row_of w ≡ row_at effects i) where
-  kind-is : (row_at effects i).kind ≡ w.kind
-  kind-is = ap (λ r. r.kind) (sym q)
+  kind_is : (row_at effects i).kind ≡ w.kind
+  kind_is = ap (λ r. r.kind) (sym q)
 
-  a-is : (row_at effects i).a ≡ w.a
-  a-is = ap (λ r. r.a) (sym q)
+  a_is : (row_at effects i).a ≡ w.a
+  a_is = ap (λ r. r.a) (sym q)
 
-  b-is : (row_at effects i).b ≡ w.b
-  b-is = ap (λ r. r.b) (sym q)
+  b_is : (row_at effects i).b ≡ w.b
+  b_is = ap (λ r. r.b) (sym q)
 
   pub both-lower : w.kind ≡ 3 → (w.a < i) × (w.b < i)
   both-lower k =
-      let x = f.finds.both i f.effect (kind-is ∙ k) in
-      (omega (arith, x, a-is), omega (arith, x, b-is))
+      let x = f.finds.both i f.effect (kind_is ∙ k) in
+      (omega (arith, x, a_is), omega (arith, x, b_is))
 
   pub under-lower : w.kind ≡ 4 → w.b < i
-  under-lower k = omega (arith, f.finds.under i f.effect (kind-is ∙ k), b-is)
+  under-lower k = omega (arith, f.finds.under i f.effect (kind_is ∙ k), b_is)
 
   pub row_within : (e : ℕ) → e ≤ i → Within frame e
   row_within e h = record { variables = f.finds.variables; limit = f.finds.limit; effect = omega (arith, f.effect) }
 
-  pub atom-within : (w.kind ≡ 3 → ⊥) → (w.kind ≡ 4 → ⊥) → (w.kind ≡ 0 → ⊥) → InSet frame w.a i
-  atom-within three four none =
+  pub atom_within : (w.kind ≡ 3 → ⊥) → (w.kind ≡ 4 → ⊥) → (w.kind ≡ 0 → ⊥) → InSet frame w.a i
+  atom_within three four none =
       record {
         variables = f.finds.variables;
         limit = f.finds.limit;
-        variable = omega (arith, f.finds.atom i f.effect (λ z. none (sym kind-is ∙ z)) low, a-is);
+        variable = omega (arith, f.finds.atom i f.effect (λ z. none (sym kind_is ∙ z)) low, a_is);
         effect = f.effect;
       }
     where
       low : (row_at effects i).kind < 3
-      low = omega (arith, f.finds.known i f.effect, kind-is, three, four)
+      low = omega (arith, f.finds.known i f.effect, kind_is, three, four)
 
   -- The set of row i begins at `to`, and takes n words.
-  module _ {n to : ℕ} (m : n ≡ set_words frame) (t : to ≡ set-start frame i) where
+  module _ {n to : ℕ} (m : n ≡ set_words frame) (t : to ≡ set_start frame i) where
     -- that of a lower row e begins at a
-    pub row_room : {a : ℕ} (e : ℕ) → e < i → a ≡ set-start frame e → Room n a to before
+    pub row_room : {a : ℕ} (e : ℕ) → e < i → a ≡ set_start frame e → Room n a to before
     row_room {a} e h p =
         record {
           apart = omega (arith, start-order frame e i h, m, t, p);
@@ -144,12 +144,12 @@ module _ {frame : Frame} {effects before : List ℕ} {i : ℕ} (f : FindsSet fra
         {word : ℕ → ℕ} {after : List ℕ} (clear : Bool) (v e a : ℕ)
         → v < frame.variables
         → e < i
-        → a ≡ set-start frame e
+        → a ≡ set_start frame e
         → Written n to word before after
-        → get_or before (a + v / 8) 0 / 2 ^ atom-bit clear v % 2 ≡ 0
+        → get_or before (a + v / 8) 0 / 2 ^ atom_bit clear v % 2 ≡ 0
         → lacks frame after clear v e ≡ true
     lower-lacks {after = after} clear v e a h l p x z =
-        lacks-of frame after clear v e (get_or before (a + v / 8) 0) (rw (← p) (x.ahead (a + v / 8) (omega (arith, start-order frame e i l, word-within frame v h, t, p)))) z
+        lacks-of frame after clear v e (get_or before (a + v / 8) 0) (rw (← p) (x.ahead (a + v / 8) (omega (arith, start-order frame e i l, word_within frame v h, t, p)))) z
 
     -- what row i's set lacks
     row-lacks :
@@ -157,15 +157,15 @@ module _ {frame : Frame} {effects before : List ℕ} {i : ℕ} (f : FindsSet fra
         → v < frame.variables
         → Written n to word before after
         → lacks frame after clear v i ≡ true
-        → word (v / 8) / 2 ^ atom-bit clear v % 2 ≡ 0
+        → word (v / 8) / 2 ^ atom_bit clear v % 2 ≡ 0
     row-lacks {word} {after} clear v h x z =
-        of-lacks frame after clear v i (word (v / 8)) (rw (← t) (x.here (v / 8) (omega (arith, word-within frame v h, m)))) z
+        of-lacks frame after clear v i (word (v / 8)) (rw (← t) (x.here (v / 8) (omega (arith, word_within frame v h, m)))) z
 
     pub found-both :
         {after : List ℕ} {a b : ℕ}
         → w.kind ≡ 3
-        → a ≡ set-start frame w.a
-        → b ≡ set-start frame w.b
+        → a ≡ set_start frame w.a
+        → b ≡ set_start frame w.b
         → Written n to (united before a b) before after
         → FoundSet frame effects i before after
     unfolding united
@@ -174,28 +174,28 @@ module _ {frame : Frame} {effects before : List ℕ} {i : ℕ} (f : FindsSet fra
         (record {
           both = λ clear v h _ z.
               let low = both-lower k in
-              let y = or-lacks (get_or before (a + v / 8) 0) (get_or before (b + v / 8) 0) (atom-bit clear v) (row-lacks clear v h x z) in (
-                rw a-is (lower-lacks clear v w.a a h low.0 p x y.0),
-                rw b-is (lower-lacks clear v w.b b h low.1 r x y.1),
+              let y = or_lacks (get_or before (a + v / 8) 0) (get_or before (b + v / 8) 0) (atom_bit clear v) (row-lacks clear v h x z) in (
+                rw a_is (lower-lacks clear v w.a a h low.0 p x y.0),
+                rw b_is (lower-lacks clear v w.b b h low.1 r x y.1),
               );
-          under = λ clear v h z _. absurd (omega (arith, kind-is));
-          atom = λ clear z _. omega (arith, kind-is, atom-kind clear);
+          under = λ clear v h z _. absurd (omega (arith, kind_is));
+          atom = λ clear z _. omega (arith, kind_is, atom_kind clear);
         })
 
     pub found-under :
         {after : List ℕ} {b : ℕ}
         → w.kind ≡ 4
-        → b ≡ set-start frame w.b
+        → b ≡ set_start frame w.b
         → Written n to (copied before b) before after
         → FoundSet frame effects i before after
     unfolding copied
     found-under {after} {b} k r x =
         written-around x
         (record {
-          both = λ clear v h z _. absurd (omega (arith, kind-is));
+          both = λ clear v h z _. absurd (omega (arith, kind_is));
           under = λ clear v h _ z.
-              rw b-is (lower-lacks clear v w.b b h (under-lower k) r x (row-lacks clear v h x z));
-          atom = λ clear z _. omega (arith, kind-is, atom-kind clear);
+              rw b_is (lower-lacks clear v w.b b h (under-lower k) r x (row-lacks clear v h x z));
+          atom = λ clear z _. omega (arith, kind_is, atom_kind clear);
         })
 
   pub found-empty : w.kind ≡ 0 → FoundSet frame effects i before before
@@ -203,9 +203,9 @@ module _ {frame : Frame} {effects before : List ℕ} {i : ℕ} (f : FindsSet fra
       record {
         set =
             record {
-              both = λ clear v h z _. absurd (omega (arith, kind-is));
-              under = λ clear v h z _. absurd (omega (arith, kind-is));
-              atom = λ clear z _. omega (arith, kind-is, atom-kind clear);
+              both = λ clear v h z _. absurd (omega (arith, kind_is));
+              under = λ clear v h z _. absurd (omega (arith, kind_is));
+              atom = λ clear z _. omega (arith, kind_is, atom_kind clear);
             };
         ahead = λ j h. refl;
         behind = λ j h. refl;
@@ -216,32 +216,32 @@ module _ {frame : Frame} {effects before : List ℕ} {i : ℕ} (f : FindsSet fra
       → (w.kind ≡ 3 → ⊥)
       → (w.kind ≡ 4 → ⊥)
       → (w.kind ≡ 0 → ⊥)
-      → after ≡ set before (set-place frame w.a i) (2 ^ atom-bit (eqb w.kind 2) w.a)
+      → after ≡ set before (set_place frame w.a i) (2 ^ atom_bit (eqb w.kind 2) w.a)
       → FoundSet frame effects i before after
   found-atom {after} three four none e =
       record {
         set =
             record {
-              both = λ clear v h z _. absurd (three (sym kind-is ∙ z));
-              under = λ clear v h z _. absurd (four (sym kind-is ∙ z));
-              atom = λ clear z l. stands clear (sym kind-is ∙ z) (rw a-is at l);
+              both = λ clear v h z _. absurd (three (sym kind_is ∙ z));
+              under = λ clear v h z _. absurd (four (sym kind_is ∙ z));
+              atom = λ clear z l. stands clear (sym kind_is ∙ z) (rw a_is at l);
             };
         ahead = λ j h. other j (λ z. omega (arith, place-start frame w.a i));
-        behind = λ j h. other j (λ z. omega (arith, place-start frame w.a i, start-next frame i, word-within frame w.a within.variable));
+        behind = λ j h. other j (λ z. omega (arith, place-start frame w.a i, start-next frame i, word_within frame w.a within.variable));
       }
     where
       within : InSet frame w.a i
-      within = atom-within three four none
+      within = atom_within three four none
 
-      other : (j : ℕ) → (j ≡ set-place frame w.a i → ⊥) → get_or after j 0 ≡ get_or before j 0
-      other j h = rw e (get_or-set_other before (set-place frame w.a i) j (2 ^ atom-bit (eqb w.kind 2) w.a) 0 h)
+      other : (j : ℕ) → (j ≡ set_place frame w.a i → ⊥) → get_or after j 0 ≡ get_or before j 0
+      other j h = rw e (get_or-set_other before (set_place frame w.a i) j (2 ^ atom_bit (eqb w.kind 2) w.a) 0 h)
 
       stands : (clear : Bool) → w.kind ≡ cond clear 2 1 → lacks frame after clear w.a i ≡ true → ⊥
       stands clear k l =
-          one-stands (atom-bit clear w.a)
-          (of-lacks frame after clear w.a i (2 ^ atom-bit clear w.a)
-          (rw (e, ← place-start frame w.a i, clear-is clear w.kind k)
-          (get_or-set_same before (set-place frame w.a i) (2 ^ atom-bit clear w.a) 0 (omega (arith, place-within within, f.finds.room))))
+          one_stands (atom_bit clear w.a)
+          (of-lacks frame after clear w.a i (2 ^ atom_bit clear w.a)
+          (rw (e, ← place-start frame w.a i, clear_is clear w.kind k)
+          (get_or-set_same before (set_place frame w.a i) (2 ^ atom_bit clear w.a) 0 (omega (arith, place_within within, f.finds.room))))
           l)
 
 -- The loop's invariant: the rows below i have their sets.
@@ -251,17 +251,17 @@ pub record Finding (frame : Frame) (effects first : List ℕ) (i : ℕ) (notes :
   pub behind : (j : ℕ) → sets_end frame ≤ j → get_or notes j 0 ≡ get_or first j 0
   pub found : (d : ℕ) → d < i → SetOf frame effects notes d
 
-pub finding-none : (frame : Frame) (effects notes : List ℕ) → Finding frame effects notes 0 notes
-finding-none frame effects notes =
+pub finding_none : (frame : Frame) (effects notes : List ℕ) → Finding frame effects notes 0 notes
+finding_none frame effects notes =
     record { bound = omega arith; ahead = λ j h. refl; behind = λ j h. refl; found = λ d h. absurd (omega arith) }
 
-pub finding-asks :
+pub finding_asks :
     {frame : Frame} {effects first notes : List ℕ} {i : ℕ}
     → FindsSets frame effects first
     → length notes ≡ length first
     → i < frame.effects
     → FindsSet frame effects notes i
-finding-asks a long h =
+finding_asks a long h =
     record {
       finds =
           record {
@@ -278,24 +278,24 @@ finding-asks a long h =
     }
 
 -- what is written for row i leaves the sets of the rows below
-same-lacks :
+same_lacks :
     {frame : Frame} {effects notes after : List ℕ} {i : ℕ} (clear : Bool) (v e : ℕ)
     → v < frame.variables
     → e < i
     → FoundSet frame effects i notes after
     → lacks frame after clear v e ≡ lacks frame notes clear v e
 unfolding lacks
-same-lacks {frame} {i = i} clear v e h l o =
-    rw (o.ahead (set-place frame v e) (omega (arith, place-start frame v e, word-within frame v h, start-order frame e i l)))
+same_lacks {frame} {i = i} clear v e h l o =
+    rw (o.ahead (set_place frame v e) (omega (arith, place-start frame v e, word_within frame v h, start-order frame e i l)))
 
-pub finding-more :
+pub finding_more :
     {frame : Frame} {effects first notes after : List ℕ} {i : ℕ}
     → FindsSets frame effects first
     → i < frame.effects
     → Finding frame effects first i notes
     → FoundSet frame effects i notes after
     → Finding frame effects first (i + 1) after
-finding-more {frame} {effects} {first} {notes} {after} {i} a h x o =
+finding_more {frame} {effects} {first} {notes} {after} {i} a h x o =
     record {
       bound = omega arith;
       ahead = λ j l. o.ahead j (omega (arith, start_first frame i)) ∙ x.ahead j l;
@@ -304,10 +304,10 @@ finding-more {frame} {effects} {first} {notes} {after} {i} a h x o =
     }
   where
     keep : (clear : Bool) (v e : ℕ) → v < frame.variables → e < i → lacks frame notes clear v e ≡ true → lacks frame after clear v e ≡ true
-    keep clear v e b l z = same-lacks clear v e b l o ∙ z
+    keep clear v e b l z = same_lacks clear v e b l o ∙ z
 
     back : (clear : Bool) (v e : ℕ) → v < frame.variables → e < i → lacks frame after clear v e ≡ true → lacks frame notes clear v e ≡ true
-    back clear v e b l z = sym (same-lacks clear v e b l o) ∙ z
+    back clear v e b l z = sym (same_lacks clear v e b l o) ∙ z
 
     lower : (d : ℕ) → d < i → SetOf frame effects notes d → SetOf frame effects after d
     lower d l s =
@@ -321,7 +321,7 @@ finding-more {frame} {effects} {first} {notes} {after} {i} a h x o =
           under = λ clear v b k z.
               keep clear v (row_at effects d).b b (omega (arith, a.under d (omega arith) k)) (s.under clear v b k (back clear v d b l z));
           atom = λ clear k z.
-              let low = a.atom d (omega arith) (λ y. omega (arith, atom-kind clear)) (omega (arith, atom-kind clear)) in
+              let low = a.atom d (omega arith) (λ y. omega (arith, atom_kind clear)) (omega (arith, atom_kind clear)) in
               s.atom clear k (back clear (row_at effects d).a d low l z);
         }
 
@@ -332,14 +332,14 @@ finding-more {frame} {effects} {first} {notes} {after} {i} a h x o =
         rw e o.set
 
 -- all rows have theirs
-pub finding-all :
+pub finding_all :
     {frame : Frame} {effects first notes : List ℕ} {i : ℕ}
     → FindsSets frame effects first
     → length notes ≡ length first
     → Finding frame effects first i notes
     → frame.effects ≤ i
     → FoundSets frame effects first notes
-finding-all a long x h =
+finding_all a long x h =
     record {
       sets =
           record {

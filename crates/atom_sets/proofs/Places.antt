@@ -11,7 +11,7 @@ use mir.Val.{bool_byte}
 use lib.Pow.{shr-shr}
 use borrow.Author.Tests.{eqb-true, eq-eqb}
 use Rattle.formula_builder.specs.declared.Frame.{Frame}
-use Rattle.atom_sets.specs.Inner.Sets.{set_words, set-place, sets_end, atom-bit, lacks, set-from, InSet}
+use Rattle.atom_sets.specs.Inner.Sets.{set_words, set_place, sets_end, atom_bit, lacks, set_from, InSet}
 
 -- a product that fits a word of the machine
 pub product_small : (s e : ℕ) → s ≤ 64 → e ≤ 4096 → s * e ≤ 262144
@@ -23,13 +23,13 @@ unfolding set_words
 words_are frame h = (refl, omega (arith, h))
 
 -- there is a word for each variable, and the words are whole fours
-pub word-within : (frame : Frame) (v : ℕ) → v < frame.variables → v / 8 < set_words frame
+pub word_within : (frame : Frame) (v : ℕ) → v < frame.variables → v / 8 < set_words frame
 unfolding set_words
-word-within frame v h = omega (arith, h)
+word_within frame v h = omega (arith, h)
 
-pub whole-fours : (frame : Frame) → set_words frame % 4 ≡ 0
+pub whole_fours : (frame : Frame) → set_words frame % 4 ≡ 0
 unfolding set_words
-whole-fours frame = omega arith
+whole_fours frame = omega arith
 
 -- one row more is one set more
 pub row_more : (s e n : ℕ) → e < n → s * e + s ≤ s * n
@@ -43,35 +43,35 @@ unfolding sets_end
 sets_behind frame = omega arith
 
 -- the word of a variable is one of its row's set
-pub place-before :
+pub place_before :
     (frame : Frame) (v e : ℕ)
     → v < frame.variables
     → e < frame.effects
-    → (4 * frame.effects ≤ set-place frame v e) × (set-place frame v e < sets_end frame)
-unfolding set-place sets_end
-place-before frame v e h g =
+    → (4 * frame.effects ≤ set_place frame v e) × (set_place frame v e < sets_end frame)
+unfolding set_place sets_end
+place_before frame v e h g =
     let x = row_more (set_words frame) e frame.effects g in
-    (omega arith, omega (arith, x, word-within frame v h))
+    (omega arith, omega (arith, x, word_within frame v h))
 
-pub place-within : {frame : Frame} {v e : ℕ} → InSet frame v e → set-place frame v e < sets_end frame
-place-within {frame} {v} {e} a = (place-before frame v e a.variable a.effect).1
+pub place_within : {frame : Frame} {v e : ℕ} → InSet frame v e → set_place frame v e < sets_end frame
+place_within {frame} {v} {e} a = (place_before frame v e a.variable a.effect).1
 
 -- the bits are read from the words of the sets alone
-pub lacks-same :
+pub lacks_same :
     (frame : Frame) (notes notes' : List ℕ) (clear : Bool) (v e : ℕ)
     → v < frame.variables
     → e < frame.effects
     → ((j : ℕ) → 4 * frame.effects ≤ j → j < sets_end frame → get_or notes' j 0 ≡ get_or notes j 0)
     → lacks frame notes' clear v e ≡ lacks frame notes clear v e
 unfolding lacks
-lacks-same frame notes notes' clear v e h g same =
-    let x = place-before frame v e h g in
-    rw (same (set-place frame v e) x.0 x.1)
+lacks_same frame notes notes' clear v e h g same =
+    let x = place_before frame v e h g in
+    rw (same (set_place frame v e) x.0 x.1)
 
 -- the code's word is the definition's
 pub place_is :
-    (frame : Frame) (v e s : ℕ) → s ≡ set_words frame → 4 * frame.effects + (s * e + v / 8) ≡ set-place frame v e
-unfolding set-place
+    (frame : Frame) (v e s : ℕ) → s ≡ set_words frame → 4 * frame.effects + (s * e + v / 8) ≡ set_place frame v e
+unfolding set_place
 place_is frame v e s q = rw q
 
 pub byte_small : (b : Bool) → bool_byte b ≤ 1
@@ -79,17 +79,17 @@ byte_small true = omega arith
 byte_small false = omega arith
 
 -- the code's word and bit are the definition's
-pub bit_is : (clear : Bool) (v : ℕ) → 2 * (v % 8) + bool_byte clear ≡ atom-bit clear v
-unfolding atom-bit
+pub bit_is : (clear : Bool) (v : ℕ) → 2 * (v % 8) + bool_byte clear ≡ atom_bit clear v
+unfolding atom_bit
 bit_is true v = refl
 bit_is false v = refl
 
-pub lacks-by :
+pub lacks_by :
     (frame : Frame) (notes : List ℕ) (clear : Bool) (v e k : ℕ)
-    → k ≡ set-place frame v e
+    → k ≡ set_place frame v e
     → eqb (get_or notes k 0 / 2 ^ (2 * (v % 8) + bool_byte clear) % 2) 0 ≡ lacks frame notes clear v e
 unfolding lacks
-lacks-by frame notes clear v e k q = rw (q, bit_is clear v)
+lacks_by frame notes clear v e k q = rw (q, bit_is clear v)
 
 -- the code's end is the definition's
 pub end_is : (frame : Frame) (s : ℕ) → s ≡ set_words frame → 4 * frame.effects + s * frame.effects ≡ sets_end frame
@@ -97,16 +97,16 @@ unfolding sets_end
 end_is frame s q = rw q
 
 -- the code's word is the definition's
-pub from-by :
+pub from_by :
     (frame : Frame) (notes : List ℕ) (v e k : ℕ)
-    → k ≡ set-place frame v e
-    → get_or notes k 0 / 2 ^ (2 * (v % 8)) ≡ set-from frame notes v e
-unfolding set-from
-from-by frame notes v e k q = rw q
+    → k ≡ set_place frame v e
+    → get_or notes k 0 / 2 ^ (2 * (v % 8)) ≡ set_from frame notes v e
+unfolding set_from
+from_by frame notes v e k q = rw q
 
 -- the lower two bits are 0
-two-bits : (w : ℕ) → w % 2 ≡ 0 → w / 2 % 2 ≡ 0 → w % 4 ≡ 0
-two-bits w a b =
+two_bits : (w : ℕ) → w % 2 ≡ 0 → w / 2 % 2 ≡ 0 → w % 4 ≡ 0
+two_bits w a b =
     let q : w ≡ 4 * (w / 2 / 2) = omega arith in
     omega (arith, q)
 
@@ -116,36 +116,36 @@ module _ (frame : Frame) (notes : List ℕ) (v e : ℕ) where
   lacks-above :
       (clear : Bool) (u d : ℕ)
       → u / 8 ≡ v / 8
-      → atom-bit clear u ≡ 2 * (v % 8) + d
-      → lacks frame notes clear u e ≡ eqb (set-from frame notes v e / 2 ^ d % 2) 0
-  unfolding lacks set-from set-place
+      → atom_bit clear u ≡ 2 * (v % 8) + d
+      → lacks frame notes clear u e ≡ eqb (set_from frame notes v e / 2 ^ d % 2) 0
+  unfolding lacks set_from set_place
   lacks-above clear u d q b =
       let w = get_or notes (4 * frame.effects + (set_words frame * e + v / 8)) 0 in
       rw (q, b, ← shr-shr w (2 * (v % 8)) d)
 
   -- if it is 0, v and the later variables of the word have none
   pub none_from :
-      set-from frame notes v e ≡ 0
+      set_from frame notes v e ≡ 0
       → (clear : Bool) (u : ℕ)
       → v ≤ u
       → u / 8 ≡ v / 8
       → lacks frame notes clear u e ≡ true
-  unfolding atom-bit
+  unfolding atom_bit
   none_from z clear u h q =
       let d = 2 * (u % 8 - v % 8) + cond clear 1 0 in
       lacks-above clear u d q (omega arith) ∙ rw (z, zero-div (2 ^ d)) refl
 
   -- the lower two bits are v's
-  at-lowest : (clear : Bool) → lacks frame notes clear v e ≡ eqb (set-from frame notes v e / 2 ^ cond clear 1 0 % 2) 0
-  unfolding atom-bit
+  at-lowest : (clear : Bool) → lacks frame notes clear v e ≡ eqb (set_from frame notes v e / 2 ^ cond clear 1 0 % 2) 0
+  unfolding atom_bit
   at-lowest clear = lacks-above clear v (cond clear 1 0) refl refl
 
-  pub none-lowest : set-from frame notes v e % 4 ≡ 0 → (clear : Bool) → lacks frame notes clear v e ≡ true
-  none-lowest z false = at-lowest false ∙ eq-eqb (set-from frame notes v e / 1 % 2) 0 (omega arith)
-  none-lowest z true = at-lowest true ∙ eq-eqb (set-from frame notes v e / 2 % 2) 0 (omega arith)
+  pub none-lowest : set_from frame notes v e % 4 ≡ 0 → (clear : Bool) → lacks frame notes clear v e ≡ true
+  none-lowest z false = at-lowest false ∙ eq-eqb (set_from frame notes v e / 1 % 2) 0 (omega arith)
+  none-lowest z true = at-lowest true ∙ eq-eqb (set_from frame notes v e / 2 % 2) 0 (omega arith)
 
-  pub some-lowest : (set-from frame notes v e % 4 ≡ 0 → ⊥) → ((clear : Bool) → lacks frame notes clear v e ≡ true) → ⊥
+  pub some-lowest : (set_from frame notes v e % 4 ≡ 0 → ⊥) → ((clear : Bool) → lacks frame notes clear v e ≡ true) → ⊥
   some-lowest n all =
-      let a = eqb-true (set-from frame notes v e / 1 % 2) 0 (sym (at-lowest false) ∙ all false) in
-      let b = eqb-true (set-from frame notes v e / 2 % 2) 0 (sym (at-lowest true) ∙ all true) in
-      n (two-bits (set-from frame notes v e) (omega (arith, a)) b)
+      let a = eqb-true (set_from frame notes v e / 1 % 2) 0 (sym (at-lowest false) ∙ all false) in
+      let b = eqb-true (set_from frame notes v e / 2 % 2) 0 (sym (at-lowest true) ∙ all true) in
+      n (two_bits (set_from frame notes v e) (omega (arith, a)) b)

@@ -15,8 +15,8 @@ lowest : (o p q r : ℕ) → o ≡ r * 2 + max (p % 2) (q % 2) → o % 2 ≡ 0 �
 lowest o p q r e h = (omega arith, omega arith)
 
 -- a bit that a union lacks, both lack
-pub or-lacks : (x y k : ℕ) → bit_or x y / 2 ^ k % 2 ≡ 0 → (x / 2 ^ k % 2 ≡ 0) × (y / 2 ^ k % 2 ≡ 0)
-or-lacks x y k h =
+pub or_lacks : (x y k : ℕ) → bit_or x y / 2 ^ k % 2 ≡ 0 → (x / 2 ^ k % 2 ≡ 0) × (y / 2 ^ k % 2 ≡ 0)
+or_lacks x y k h =
     lowest (bit_or x y / 2 ^ k) (x / 2 ^ k) (y / 2 ^ k) (bit_or (x / 2 ^ k / 2) (y / 2 ^ k / 2))
     (or_shr x y k ∙ or_step (x / 2 ^ k) (y / 2 ^ k))
     h
@@ -26,8 +26,8 @@ pub one_shifted : (k : ℕ) → k < 16 → 1 * 2 ^ k % 65536 ≡ 2 ^ k
 one_shifted k h = shl_exact {a = 1} 1 k 16 (omega arith) (omega arith) ∙ one-mul (2 ^ k)
 
 -- a word of bit k alone does not lack it
-pub one-stands : (k : ℕ) → 2 ^ k / 2 ^ k % 2 ≡ 0 → ⊥
-one-stands k h =
+pub one_stands : (k : ℕ) → 2 ^ k / 2 ^ k % 2 ≡ 0 → ⊥
+one_stands k h =
     let e : 2 ^ k / 2 ^ k ≡ 1 = ap (λ (x : ℕ). x / 2 ^ k) (sym (one-mul (2 ^ k))) ∙ shl-shr 1 k in
     omega arith
 
@@ -36,14 +36,14 @@ written_none i word notes =
     record { here = λ k h. absurd (omega arith); ahead = λ j h. refl; behind = λ j h. refl }
 
 -- one word more
-written-more :
+written_more :
     {k i to : ℕ} {word : ℕ → ℕ} {before notes : List ℕ} (x : ℕ)
     → to ≡ i + k
     → to < length notes
     → x ≡ word k
     → Written k i word before notes
     → Written (k + 1) i word before (set notes to x)
-written-more {k} {i} {to} {word} {before} {notes} x p room e w =
+written_more {k} {i} {to} {word} {before} {notes} x p room e w =
     record {
       here = λ j h. go j h (dec_lt j k);
       ahead = λ j h. get_or-set_other notes to j x 0 (λ z. omega arith) ∙ w.ahead j h;
@@ -57,7 +57,7 @@ written-more {k} {i} {to} {word} {before} {notes} x p room e w =
         rw (q, ← p) (get_or-set_same notes to x 0 room ∙ e)
 
 -- four words
-written-four :
+written_four :
     {i : ℕ} {word : ℕ → ℕ} {before : List ℕ} (p q r s : ℕ)
     → i + 4 ≤ length before
     → p ≡ word 0
@@ -65,11 +65,11 @@ written-four :
     → r ≡ word 2
     → s ≡ word 3
     → Written 4 i word before (set (set (set (set before i p) (i + 1) q) (i + 2) r) (i + 3) s)
-written-four {i} {word} {before} p q r s room a b c d =
-    written-more s (omega arith) (simp length-set (omega arith)) d
-    (written-more r (omega arith) (simp length-set (omega arith)) c
-    (written-more q (omega arith) (simp length-set (omega arith)) b
-    (written-more p (omega arith) (omega arith) a (written_none i word before))))
+written_four {i} {word} {before} p q r s room a b c d =
+    written_more s (omega arith) (simp length-set (omega arith)) d
+    (written_more r (omega arith) (simp length-set (omega arith)) c
+    (written_more q (omega arith) (simp length-set (omega arith)) b
+    (written_more p (omega arith) (omega arith) a (written_none i word before))))
 
 -- four words more
 written_on :
@@ -125,13 +125,13 @@ module _ {a i : ℕ} {before : List ℕ} (s : Room 4 a i before) where
       (i + 3)
       (bit_or (get_or before (a + 3) 0) (get_or before (b + 3) 0)))
   unfolding united
-  united-four b = written-four _ _ _ _ s.room (ap₂ bit_or (at_first a before) (at_first b before)) refl refl refl
+  united-four b = written_four _ _ _ _ s.room (ap₂ bit_or (at_first a before) (at_first b before)) refl refl refl
 
   pub copied-four :
       Written 4 i (copied before a) before
       (set (set (set (set before i (get_or before a 0)) (i + 1) (get_or before (a + 1) 0)) (i + 2) (get_or before (a + 2) 0)) (i + 3) (get_or before (a + 3) 0))
   unfolding copied
-  copied-four = written-four _ _ _ _ s.room (at_first a before) refl refl refl
+  copied-four = written_four _ _ _ _ s.room (at_first a before) refl refl refl
 
 -- The next four words of n, from word k on.
 module _ {n a i : ℕ} {before notes : List ℕ} (k : ℕ) (s : Room n a i before) (h : k + 4 ≤ n) where
@@ -152,7 +152,7 @@ module _ {n a i : ℕ} {before notes : List ℕ} (k : ℕ) (s : Room n a i befor
   unfolding copied
   copied_more w f = written_on (λ j l. as_before j l w) w f
 
-pub united-more :
+pub united_more :
     {n a b i k : ℕ} {before notes after : List ℕ}
     → Room n a i before
     → Room n b i before
@@ -161,4 +161,4 @@ pub united-more :
     → Written 4 (i + k) (united notes (a + k) (b + k)) notes after
     → Written (k + 4) i (united before a b) before after
 unfolding united
-united-more {k = k} s t h w f = written_on (λ j l. ap₂ bit_or (as_before k s h j l w) (as_before k t h j l w)) w f
+united_more {k = k} s t h w f = written_on (λ j l. ap₂ bit_or (as_before k s h j l w) (as_before k t h j l w)) w f

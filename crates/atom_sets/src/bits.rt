@@ -1,6 +1,6 @@
 // Where an atom's bit stands, and whether it does. Constant cost.
 ghost use Rattle.std.specs.Prelude.{◌≡◌, ◌≤◌, length};
-ghost use Rattle.atom_sets.specs.Inner.Sets.{set_words, set-place, sets_end, lacks, set-from, InSet};
+ghost use Rattle.atom_sets.specs.Inner.Sets.{set_words, set_place, sets_end, lacks, set_from, InSet};
 
 use formula_builder::Frame;
 
@@ -15,7 +15,7 @@ pub fn set_words(frame: Frame) -> usize
 // The word of variable v in the set of row e.
 pub fn set_word(frame: Frame, v: usize, e: usize) -> usize
     requires { InSet frame v e }
-    ensures { result ≡ set-place frame v e }
+    ensures { result ≡ set_place frame v e }
 {
     4 * frame.effects + (set_words(frame) * e + v / 8)
 }
@@ -41,7 +41,7 @@ pub fn sets_end(frame: Frame) -> usize
 // The atoms of variable v and of the later variables of its word, in the set of row e: the lowest bit says set v, the next clear v.
 pub fn set_from(notes: &[u16], frame: Frame, v: usize, e: usize) -> u16
     requires { InSet frame v e × (sets_end frame ≤ length notes.now) }
-    ensures { result ≡ set-from frame notes.now v e }
+    ensures { result ≡ set_from frame notes.now v e }
 {
     let k = set_word(frame, v, e);
     let bit = 2 * (v % 8);

@@ -1,7 +1,7 @@
 // The sets of all rows: one pass over the effects, upwards, since the rows that a row names are lower.
 ghost use Rattle.std.specs.Prelude.{◌≡◌, length, set, ◌%◌, ◌^◌, ◌≤◌};
-ghost use Rattle.atom_sets.specs.Inner.Sets.{set-place, sets_end, atom-bit, InSet};
-ghost use Rattle.atom_sets.specs.Inner.Finds.{set-start, united, copied, Room, Written, Within, FindsSets, FindsSet, FoundSet, FoundSets};
+ghost use Rattle.atom_sets.specs.Inner.Sets.{set_place, sets_end, atom_bit, InSet};
+ghost use Rattle.atom_sets.specs.Inner.Finds.{set_start, united, copied, Room, Written, Within, FindsSets, FindsSet, FoundSet, FoundSets};
 
 use crate::bits::{set_word, set_words};
 use formula_builder::{Frame, read_row};
@@ -64,7 +64,7 @@ fn copy(notes: &mut [u16], n: usize, a: usize, i: usize)
 // The word of variable v in the set of row i gets the one bit of set v, or of clear v. Constant cost.
 fn put_atom(notes: &mut [u16], frame: Frame, clear: bool, v: usize, i: usize)
     requires { InSet frame v i × (sets_end frame ≤ length notes.old) }
-    ensures { notes.new ≡ set notes.old (set-place frame v i) (2 ^ atom-bit clear v) }
+    ensures { notes.new ≡ set notes.old (set_place frame v i) (2 ^ atom_bit clear v) }
 {
     let k = set_word(frame, v, i);
     let bit = 2 * (v % 8) + clear as usize;
@@ -74,7 +74,7 @@ fn put_atom(notes: &mut [u16], frame: Frame, clear: bool, v: usize, i: usize)
 // Where the set of row e begins. Constant cost.
 fn set_start(frame: Frame, e: usize) -> usize
     requires { Within frame e }
-    ensures { result ≡ set-start frame e }
+    ensures { result ≡ set_start frame e }
 {
     4 * frame.effects + set_words(frame) * e
 }

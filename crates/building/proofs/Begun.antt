@@ -6,45 +6,45 @@ use mathlib.Core.Path.{◌≡◌, refl, sym, ap, ◌∙◌}
 use mathlib.Core.Bool.{Bool, true, false, true≢false}
 use mathlib.Core.List.{List, []}
 use lib.ListN.{length}
-use Rattle.task.specs.Table.{operator-at}
+use Rattle.task.specs.Table.{operator_at}
 use Rattle.normal_form.specs.Builder.{St, Got, give, bind, each, place, start, plain}
 use Rattle.task.specs.Inner.Stored.{three}
 use Rattle.formula_builder.specs.declared.Frame.{Frame}
 use Rattle.formula_builder.specs.declared.Step.{Step}
 use Rattle.formula_builder.specs.Inner.Index.{FirstTwo}
-use Rattle.formula_builder.specs.Inner.Held.{Store, store, held, twin-word, TwinsNamed, Within}
-use Rattle.formula_builder.proofs.Steps.{within-before}
-use Rattle.images.specs.Inner.Images.{image-at, Images}
-use Rattle.images.proofs.Memos.{steady-image-at, memo-blank}
+use Rattle.formula_builder.specs.Inner.Held.{Store, store, held, twin_word, TwinsNamed, Within}
+use Rattle.formula_builder.proofs.Steps.{within_before}
+use Rattle.images.specs.Inner.Images.{image_at, Images}
+use Rattle.images.proofs.Memos.{steady_image_at, memo_blank}
 use Rattle.variable_changes.specs.Inner.Stands.{Leaves}
-use Rattle.conditions.proofs.Memos.{effect-memo-blank}
-use Rattle.variable_changes.proofs.Standing.{stands-next, makes-image, leaves-full}
+use Rattle.conditions.proofs.Memos.{effect_memo_blank}
+use Rattle.variable_changes.proofs.Standing.{stands_next, makes_image, leaves_full}
 use Rattle.change_records.specs.Inner.Recorded.{Opens, Recorded}
 use Rattle.operators.specs.declared.Tally.{Tally}
-use Rattle.operators.specs.Inner.Operator.{operator-built, operators-built, operator-here, BuildsOperator, OperatorWalked}
+use Rattle.operators.specs.Inner.Operator.{operator_built, operators_built, operator_here, BuildsOperator, OperatorWalked}
 use Rattle.operators.proofs.InOrder.{more-grows}
 use Rattle.building.specs.declared.Progress.{Progress}
-use Rattle.building.specs.Inner.Taken.{size-at, stopped, Fresh, Started, Begun, Blank, Stood, precondition-here, changes-here, many, AllKept, Taken, Takes, Took, TakesGoal, TookGoal, whole-built, FromStart}
+use Rattle.building.specs.Inner.Taken.{size_at, stopped, Fresh, Started, Begun, Blank, Stood, precondition_here, changes_here, many, AllKept, Taken, Takes, Took, TakesGoal, TookGoal, whole_built, FromStart}
 use Rattle.building.proofs.Kept.{many_more, none_kept, one_kept}
 
 abbrev pub begun : Progress
 begun = record { rows = 2; twins = 0; operators = 0; records = 0; full = false }
 
 -- the notes are of no use without room
-pub leaves-stopped :
+pub leaves_stopped :
     {frame : Frame} {formulas effects notes : List ℕ} {s : Store} {r : Progress} {n : ℕ}
     → r ≡ stopped n
-    → Leaves r.full frame formulas effects notes (size-at r) s
-leaves-stopped e = rw e leaves-full
+    → Leaves r.full frame formulas effects notes (size_at r) s
+leaves_stopped e = rw e leaves_full
 
 -- there is no room for false and true
-pub no-beginning : (frame : Frame) (table : List ℕ) {p : Progress} → frame.rows < 2 → p ≡ stopped 0 → Begun frame table table p
+pub no_beginning : (frame : Frame) (table : List ℕ) {p : Progress} → frame.rows < 2 → p ≡ stopped 0 → Begun frame table table p
 unfolding start
-no-beginning frame table h e =
+no_beginning frame table h e =
     rw e
     (record {
       none = refl;
-      no-records = refl;
+      no_records = refl;
       done = λ g. absurd (true≢false g);
       over = λ _ w. omega (arith, w.rows);
       answer = λ _. refl;
@@ -60,21 +60,21 @@ pub beginning :
 beginning frame table {after} b two f =
     record {
       none = refl;
-      no-records = refl;
+      no_records = refl;
       done = λ _. started;
       over = λ q _. true≢false (sym q);
       answer = λ q. absurd (true≢false (sym q));
       untouched = λ q. absurd (true≢false (sym q));
     }
   where
-    stand : (originals : List ℕ) → start ≡ held (size-at begun) (store after originals)
+    stand : (originals : List ℕ) → start ≡ held (size_at begun) (store after originals)
     stand originals = unfold held start in (λ i. record { rows = sym f.rows i; twins = [] })
 
-    named : (originals : List ℕ) → TwinsNamed frame (size-at begun) (store after originals)
+    named : (originals : List ℕ) → TwinsNamed frame (size_at begun) (store after originals)
     named originals =
         record {
           room = omega (arith, b.room, f.long);
-          stands = λ v r h e. absurd (omega (arith, e, f.past (twin-word frame v) (omega arith)));
+          stands = λ v r h e. absurd (omega (arith, e, f.past (twin_word frame v) (omega arith)));
           missing = λ v h e. unfold place in refl;
         }
 
@@ -97,8 +97,8 @@ beginning frame table {after} b two f =
 
 -- Between the parts.
 module _ (frame : Frame) (formulas effects operators : List ℕ) where
-  none-taken : (n : ℕ) → n ≡ 0 → (operators-built frame formulas effects operators n start).st ≡ start
-  unfolding operators-built each give
+  none-taken : (n : ℕ) → n ≡ 0 → (operators_built frame formulas effects operators n start).st ≡ start
+  unfolding operators_built each give
   none-taken n e = rw e refl
 
   pub taken_none :
@@ -115,7 +115,7 @@ module _ (frame : Frame) (formulas effects operators : List ℕ) where
               stands =
                   record {
                     source = b.source;
-                    effect-source = b.effect-source;
+                    effect_source = b.effect_source;
                     ready =
                         record {
                           rows = s.rows;
@@ -123,14 +123,14 @@ module _ (frame : Frame) (formulas effects operators : List ℕ) where
                           twins = omega (arith, s.twins);
                           originals = b.twins;
                           variables = b.variables;
-                          past-twins = λ j h. b.blank-originals j;
+                          past_twins = λ j h. b.blank_originals j;
                           named = s.named originals;
                         };
-                    memo = memo-blank frame formulas scratch (held (size-at p) (store table originals)) b.imaged b.blank-scratch;
-                    effect-memo = effect-memo-blank frame formulas effects scratch (held (size-at p) (store table originals)) b.blank-scratch;
+                    memo = memo_blank frame formulas scratch (held (size_at p) (store table originals)) b.imaged b.blank_scratch;
+                    effect_memo = effect_memo_blank frame formulas effects scratch (held (size_at p) (store table originals)) b.blank_scratch;
                   };
             };
-        kept = λ _. none_kept frame formulas effects operators records p.operators p.records g.none g.no-records;
+        kept = λ _. none_kept frame formulas effects operators records p.operators p.records g.none g.no_records;
         over = λ q w _. g.over q (rw (none-taken p.operators g.none) at w);
       }
 
@@ -147,18 +147,18 @@ module _ (frame : Frame) (formulas effects operators : List ℕ) where
                 done = λ g. absurd (true≢false g);
                 kept = λ g. absurd (true≢false g);
                 over = λ _ w few.
-                    t.taken.over q (within-before (more-grows frame formulas effects operators start p.operators) w)
+                    t.taken.over q (within_before (more-grows frame formulas effects operators start p.operators) w)
                     (omega (arith, many_more frame formulas effects operators p.operators, few));
               };
         })
 
-    module _ (q : p.full ≡ false) {f e : ℕ} (its-formula : f ≡ (operator-at operators p.operators).precondition)
-        (its-effect : e ≡ (operator-at operators p.operators).effect) where
-      stood : Stood (operators-built frame formulas effects operators p.operators start).st frame formulas effects (size-at p) s scratch
+    module _ (q : p.full ≡ false) {f e : ℕ} (its-formula : f ≡ (operator_at operators p.operators).precondition)
+        (its-effect : e ≡ (operator_at operators p.operators).effect) where
+      stood : Stood (operators_built frame formulas effects operators p.operators start).st frame formulas effects (size_at p) s scratch
       stood = t.taken.done q
 
-      pub asks-operator : BuildsOperator frame formulas effects notes (size-at p) s scratch f e
-      asks-operator =
+      pub asks_operator : BuildsOperator frame formulas effects notes (size_at p) s scratch f e
+      asks_operator =
           record {
             stands =
                 record { stands = stood.stands; noted = t.leaves.noted q; effect = omega (arith, its-effect, t.effect) };
@@ -168,33 +168,33 @@ module _ (frame : Frame) (formulas effects operators : List ℕ) where
       -- what operator p .operators gives in a state is what f and e give in the state that is held
       here :
           {A : Type 0} (step : ℕ → ℕ → St → A)
-          → let source = operator-at operators p.operators in
-          step source.precondition source.effect (operators-built frame formulas effects operators p.operators start).st
-          ≡ step f e (held (size-at p) s)
+          → let source = operator_at operators p.operators in
+          step source.precondition source.effect (operators_built frame formulas effects operators p.operators start).st
+          ≡ step f e (held (size_at p) s)
       here step = rw (stood.state, its-formula, its-effect)
 
       one_more :
-          (operators-built frame formulas effects operators (p.operators + 1) start).st
-          ≡ (operator-built frame formulas effects f e (held (size-at p) s)).st
-      unfolding operators-built operator-here each bind give
-      one_more = rw (add-one p.operators) (here (λ a b m. (operator-built frame formulas effects a b m).st))
+          (operators_built frame formulas effects operators (p.operators + 1) start).st
+          ≡ (operator_built frame formulas effects f e (held (size_at p) s)).st
+      unfolding operators_built operator_here each bind give
+      one_more = rw (add-one p.operators) (here (λ a b m. (operator_built frame formulas effects a b m).st))
 
       pub opens : Opens p.records records
       opens = record { room = t.room; limit = (t.taken.kept q).limit }
 
       here-changes :
-          changes-here frame formulas effects operators p.operators
-          ≡ (operator-built frame formulas effects f e (held (size-at p) s)).value
-      unfolding changes-here operator-here
-      here-changes = here (λ a b m. (operator-built frame formulas effects a b m).value)
+          changes_here frame formulas effects operators p.operators
+          ≡ (operator_built frame formulas effects f e (held (size_at p) s)).value
+      unfolding changes_here operator_here
+      here-changes = here (λ a b m. (operator_built frame formulas effects a b m).value)
 
       here-precondition :
-          precondition-here frame formulas effects operators p.operators
-          ≡ (image-at frame formulas plain f (held (size-at p) s)).value
-      unfolding precondition-here
-      here-precondition = here (λ a b m. (image-at frame formulas plain a m).value)
+          precondition_here frame formulas effects operators p.operators
+          ≡ (image_at frame formulas plain f (held (size_at p) s)).value
+      unfolding precondition_here
+      here-precondition = here (λ a b m. (image_at frame formulas plain a m).value)
 
-      module _ {after : Store} {s2 l : List ℕ} (z : Tally) (y : OperatorWalked frame formulas effects f e (size-at p) s after s2 p.records records l z) where
+      module _ {after : Store} {s2 l : List ℕ} (z : Tally) (y : OperatorWalked frame formulas effects f e (size_at p) s after s2 p.records records l z) where
         -- no room for its rows or twins
         pub took-over : {r : Progress} → z.full ≡ true → r ≡ stopped (p.operators + 1) → Took frame formulas effects operators after s2 l p r
         took-over g e =
@@ -211,7 +211,7 @@ module _ (frame : Frame) (formulas effects operators : List ℕ) where
             })
 
         module _ (g : z.full ≡ false) where
-          recorded : Recorded (changes-here frame formulas effects operators p.operators) p.records records l z.records
+          recorded : Recorded (changes_here frame formulas effects operators p.operators) p.records records l z.records
           recorded = rw here-changes (y.walked.recorded g)
 
           -- none for its changes
@@ -255,7 +255,7 @@ module _ (frame : Frame) (formulas effects operators : List ℕ) where
                       done = λ _.
                           record {
                             state = one_more ∙ (y.walked.reaches.done g).state;
-                            stands = stands-next stood.stands y.walked.reaches g long;
+                            stands = stands_next stood.stands y.walked.reaches g long;
                           };
                       kept = λ _.
                           one_kept frame formulas effects operators (t.taken.kept q) t.limit (omega (arith, t.room, wide)) recorded h
@@ -267,8 +267,8 @@ module _ (frame : Frame) (formulas effects operators : List ℕ) where
   -- The goal, behind all operators.
   module _ {s : Store} {scratch records : List ℕ} {p : Progress} (count goal : ℕ) (all : p.operators ≡ count)
       (t : Taken frame formulas effects operators s scratch records p) where
-    before : p.full ≡ false → (operators-built frame formulas effects operators count start).st ≡ held (size-at p) s
-    before q = ap (λ (n : ℕ). (operators-built frame formulas effects operators n start).st) (sym all) ∙ (t.done q).state
+    before : p.full ≡ false → (operators_built frame formulas effects operators count start).st ≡ held (size_at p) s
+    before q = ap (λ (n : ℕ). (operators_built frame formulas effects operators n start).st) (sym all) ∙ (t.done q).state
 
     pub goal-asks : goal < frame.formulas → TakesGoal frame formulas goal s scratch p
     goal-asks h =
@@ -280,14 +280,14 @@ module _ (frame : Frame) (formulas effects operators : List ℕ) where
 
     operators-full :
         p.full ≡ true
-        → Within frame (whole-built frame formulas effects operators count goal start).st
+        → Within frame (whole_built frame formulas effects operators count goal start).st
         → many frame formulas effects operators count ≤ 2048
         → ⊥
-    unfolding whole-built bind
+    unfolding whole_built bind
     operators-full q w few =
         t.over q
         (rw all
-        (within-before ((steady-image-at frame formulas plain goal).grow (operators-built frame formulas effects operators count start).st) w))
+        (within_before ((steady_image_at frame formulas plain goal).grow (operators_built frame formulas effects operators count start).st) w))
         (rw all few)
 
     all-kept : p.full ≡ false → AllKept frame formulas effects operators records count (many frame formulas effects operators count)
@@ -296,11 +296,11 @@ module _ (frame : Frame) (formulas effects operators : List ℕ) where
     module _ {after : Store} {s2 : List ℕ} {z : Step} (long : length s2 ≡ length scratch) where
       goal-built :
           p.full ≡ false
-          → Images (image-at frame formulas plain goal) frame formulas (size-at p) s after scratch s2 z
+          → Images (image_at frame formulas plain goal) frame formulas (size_at p) s after scratch s2 z
           → FromStart frame formulas effects operators count goal after s2 records z
-      unfolding whole-built bind
+      unfolding whole_built bind
       goal-built q y =
-          let same = ap (image-at frame formulas plain goal) (before q) in
+          let same = ap (image_at frame formulas plain goal) (before q) in
           record {
             done = λ g.
                 let d = y.builds.done g in
@@ -310,8 +310,8 @@ module _ (frame : Frame) (formulas effects operators : List ℕ) where
                       record {
                         state = ap (λ (x : Got ℕ). x.st) same ∙ d.state;
                         stands =
-                            stands-next (t.done q).stands
-                            (makes-image (steady-image-at frame formulas plain goal) (t.done q).stands.effect-memo y).reaches g long;
+                            stands_next (t.done q).stands
+                            (makes_image (steady_image_at frame formulas plain goal) (t.done q).stands.effect_memo y).reaches g long;
                       };
                   kept = all-kept q;
                 };

@@ -9,44 +9,44 @@ use lib.ListN.{length}
 use Rattle.task.specs.Table.{Row, row_at}
 use Rattle.normal_form.specs.Builder.{bind}
 use Rattle.normal_form.specs.Operators.{Changes}
-use Rattle.normal_form.proofs.ShapeEach.{Upwards, start, next, changes-upwards}
+use Rattle.normal_form.proofs.ShapeEach.{Upwards, start, next, changes_upwards}
 use Rattle.normal_form.proofs.ShapeRules.{All, none, also, all_append}
 use Rattle.formula_builder.specs.Inner.Index.{three}
 use Rattle.formula_builder.specs.declared.Frame.{Frame}
 use Rattle.formula_builder.proofs.Stored.{three-before, three-at}
 use Rattle.images.specs.Inner.Images.{becoming}
 use Rattle.change_records.specs.Inner.Recorded.{acting, Recorded}
-use Rattle.change_records.proofs.Acting.{acting-all}
-use Rattle.change_records.proofs.Keeping.{same-changes, three-after}
-use Rattle.operators.specs.Inner.Operator.{all-changes, operator-built, operator-here}
-use Rattle.building.specs.Inner.Taken.{precondition-here, changes-here, many, Kept, AllKept}
+use Rattle.change_records.proofs.Acting.{acting_all}
+use Rattle.change_records.proofs.Keeping.{same_changes, three_after}
+use Rattle.operators.specs.Inner.Operator.{all_changes, operator_built, operator_here}
+use Rattle.building.specs.Inner.Taken.{precondition_here, changes_here, many, Kept, AllKept}
 
-upwards-below : {m : ℕ} {cs : List Changes} (n : ℕ) → m ≤ n → Upwards m cs → All (λ c. c.variable < n) cs
-upwards-below n h start = none
-upwards-below n h (next {m = m} c e up) =
-    all_append (upwards-below n (omega arith) up) (also (omega (arith, e)) none)
+upwards_below : {m : ℕ} {cs : List Changes} (n : ℕ) → m ≤ n → Upwards m cs → All (λ c. c.variable < n) cs
+upwards_below n h start = none
+upwards_below n h (next {m = m} c e up) =
+    all_append (upwards_below n (omega arith) up) (also (omega (arith, e)) none)
 
 module _ (frame : Frame) (formulas effects operators : List ℕ) where
   -- all changes are of source variables
-  pub acting-below : (o : ℕ) → All (λ c. c.variable < frame.variables) (acting (changes-here frame formulas effects operators o))
-  acting-below o = acting-all (λ c. c.variable < frame.variables) all
+  pub acting-below : (o : ℕ) → All (λ c. c.variable < frame.variables) (acting (changes_here frame formulas effects operators o))
+  acting-below o = acting_all (λ c. c.variable < frame.variables) all
     where
-      all : All (λ c. c.variable < frame.variables) (changes-here frame formulas effects operators o)
+      all : All (λ c. c.variable < frame.variables) (changes_here frame formulas effects operators o)
       all =
-          unfold changes-here operator-here operator-built all-changes bind in
-          upwards-below frame.variables (omega arith) (changes-upwards (becoming frame) frame.variables _ _)
+          unfold changes_here operator_here operator_built all_changes bind in
+          upwards_below frame.variables (omega arith) (changes_upwards (becoming frame) frame.variables _ _)
 
   pub many-suc :
       (n : ℕ)
       → many frame formulas effects operators (suc n)
-      ≡ many frame formulas effects operators n + length (acting (changes-here frame formulas effects operators n))
+      ≡ many frame formulas effects operators n + length (acting (changes_here frame formulas effects operators n))
   unfolding many
   many-suc n = refl
 
   pub many_more :
       (n : ℕ)
       → many frame formulas effects operators (n + 1)
-      ≡ many frame formulas effects operators n + length (acting (changes-here frame formulas effects operators n))
+      ≡ many frame formulas effects operators n + length (acting (changes_here frame formulas effects operators n))
   many_more n = rw (add-one n) (many-suc n)
 
   pub many-fewer : (o n : ℕ) → o ≤ n → many frame formulas effects operators o ≤ many frame formulas effects operators n
@@ -71,8 +71,8 @@ module _ (frame : Frame) (formulas effects operators : List ℕ) where
 
   -- Behind n operators one more: its changes recorded, then its own record stored.
   module _ {records l : List ℕ} {n k to row : ℕ} (all : AllKept frame formulas effects operators records n k) (below : n < 256)
-      (room : 6912 ≤ length l) (x : Recorded (changes-here frame formulas effects operators n) k records l to) (most : to ≤ 2048)
-      (is : precondition-here frame formulas effects operators n ≡ row) where
+      (room : 6912 ≤ length l) (x : Recorded (changes_here frame formulas effects operators n) k records l to) (most : to ≤ 2048)
+      (is : precondition_here frame formulas effects operators n ≡ row) where
     abbrev own : Row
     own = record { kind = row; a = to; b = 0 }
 
@@ -80,7 +80,7 @@ module _ (frame : Frame) (formulas effects operators : List ℕ) where
     first j h = three-before l n own j h ∙ x.below j (omega arith)
 
     rest : (j : ℕ) → 256 ≤ j → row_at (three l n own) j ≡ row_at l j
-    rest j h = three-after l n own j (omega arith)
+    rest j h = three_after l n own j (omega arith)
 
     still : (o : ℕ) → o < n → Kept frame formulas effects operators records o → Kept frame formulas effects operators (three l n own) o
     still o h y =
@@ -88,7 +88,7 @@ module _ (frame : Frame) (formulas effects operators : List ℕ) where
           precondition = ap (λ (r : Row). r.kind) (first o h) ∙ y.precondition;
           end = ap (λ (r : Row). r.a) (first o h) ∙ y.end;
           changes =
-              same-changes (many frame formulas effects operators o) _ k records (three l n own)
+              same_changes (many frame formulas effects operators o) _ k records (three l n own)
               (omega (arith, all.count, many-fewer (suc o) n (omega arith), many-suc o))
               (λ j p q. rest j p ∙ x.below j q)
               ∙ y.changes;
@@ -105,7 +105,7 @@ module _ (frame : Frame) (formulas effects operators : List ℕ) where
           end = ap (λ (r : Row). r.a) stored ∙ ends;
           changes =
               rw (sym all.count)
-              (same-changes k (length (acting (changes-here frame formulas effects operators n))) to l (three l n own)
+              (same_changes k (length (acting (changes_here frame formulas effects operators n))) to l (three l n own)
               (omega (arith, x.count)) (λ j p q. rest j p)
               ∙ x.there most);
         }

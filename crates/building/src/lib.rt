@@ -1,4 +1,6 @@
 // Building the formulas of a compiled task, in parts: begin, then one operator after another, then the goal.
+#![tactic(auto)]
+
 mod goal;
 mod taking;
 
@@ -6,7 +8,7 @@ pub use goal::take_goal;
 pub use taking::{begin, take_operator};
 
 // What stands between two parts: so many rows and twins, so many operators taken and changes recorded; or that there was no room.
-#[derive(Drop)]
+#[derive(Clone, Copy)]
 pub struct Progress {
     pub rows: usize,
     pub twins: usize,

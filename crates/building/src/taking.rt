@@ -2,7 +2,7 @@
 ghost use Rattle.std.specs.Prelude.{◌≡◌, true};
 ghost use Rattle.formula_builder.specs.Inner.Held.{store};
 ghost use Rattle.variable_changes.specs.Inner.Stands.{Leaves};
-ghost use Rattle.building.specs.Inner.Taken.{size-at, stopped, Fresh, Begun, Takes, Took};
+ghost use Rattle.building.specs.Inner.Taken.{size_at, stopped, Fresh, Begun, Takes, Took};
 
 use crate::Progress;
 use formula_builder::{Frame, Size, first_rows};
@@ -57,7 +57,7 @@ pub fn take_operator(
     records: &mut [u16],
 ) -> Progress
     requires { Takes frame formulas.now effects.now notes.old operators.now (store table.old originals.old) scratch.old records.old at }
-    ensures { Took frame formulas.now effects.now operators.now (store table.new originals.new) scratch.new records.new at result × Leaves result.full frame formulas.now effects.now notes.new (size-at result) (store table.new originals.new) }
+    ensures { Took frame formulas.now effects.now operators.now (store table.new originals.new) scratch.new records.new at result × Leaves result.full frame formulas.now effects.now notes.new (size_at result) (store table.new originals.new) }
 {
     let next = at.operators + 1;
     if at.full {

@@ -6,9 +6,9 @@ use mathlib.Core.Path.{◌≡◌, refl, sym, ap, ◌∙◌}
 use mathlib.Core.List.{List, [], ◌∷◌, ◌++◌, append-nil, append_assoc}
 use lib.ListN.{length, get_or, set, length-append, length-set}
 use lib.Seq.{get_or-set_same, get_or-set_other, get_or-append_seam}
-use Rattle.cheapest_plan.specs.Inner.Tables.{Ends, at-start, by-step}
+use Rattle.cheapest_plan.specs.Inner.Tables.{Ends, at_start, by_step}
 use Rattle.cheapest_plan.specs.Inner.Visits.{Writable, Writes}
-use Rattle.cheapest_plan.proofs.Comparing.{taken-says}
+use Rattle.cheapest_plan.proofs.Comparing.{taken_says}
 
 -- the numbers from place k on are written, and those before it lead to state s
 pub record Back {n : ℕ} {words : List ℕ} {state steps : ℕ} (h : Writable n words state steps) (k s : ℕ) (plan : List ℕ) : Type 0 where
@@ -28,8 +28,8 @@ pub record Aside (k steps : ℕ) (before plan : List ℕ) : Type 0 where
 pub aside_begin : (steps : ℕ) (plan : List ℕ) → Aside steps steps plan plan
 aside_begin steps plan = record { long = refl; inside = omega arith; behind = λ i l. refl }
 
-pub aside-on : {k steps : ℕ} {before plan : List ℕ} (x : ℕ) → 0 < k → Aside k steps before plan → Aside (k - 1) steps before (set plan (k - 1) x)
-aside-on {k} {steps} {before} {plan} x some a =
+pub aside_on : {k steps : ℕ} {before plan : List ℕ} (x : ℕ) → 0 < k → Aside k steps before plan → Aside (k - 1) steps before (set plan (k - 1) x)
+aside_on {k} {steps} {before} {plan} x some a =
     record {
       long = length-set plan (k - 1) x ∙ a.long;
       inside = omega (arith, a.inside);
@@ -59,8 +59,8 @@ module _ {n : ℕ} {words : List ℕ} {state steps : ℕ} (h : Writable n words 
     last_step = go b.ends
       where
         go : Ends h.v n h.status b.front (get_or words (2 * n + s) 0) → LastStep k s plan (get_or words (2 * n + s) 0)
-        go (at-start e z) = absurd (omega (arith, b.size, ap length e))
-        go (by-step parent o front c l m is z e) =
+        go (at_start e z) = absurd (omega (arith, b.size, ap length e))
+        go (by_step parent o front c l m is z e) =
             record { some = omega arith; further = λ x next f g. on x next (omega arith) (omega arith) }
           where
             size : length front ≡ k - 1
@@ -80,7 +80,7 @@ module _ {n : ℕ} {words : List ℕ} {state steps : ℕ} (h : Writable n words 
                   whole = whole;
                   size = size;
                   there = rw g l;
-                  ends = rw g (taken-says h.holds parent front c l is).ends;
+                  ends = rw g (taken_says h.holds parent front c l is).ends;
                   written = λ i a u. put i a u (ℕ_discrete i (k - 1));
                 }
               where

@@ -6,9 +6,9 @@ use mathlib.Core.Path.{◌≡◌, refl, sym, ap, ◌∙◌}
 use mathlib.Core.List.{List}
 use lib.ListN.{length, get_or, set, length-set}
 use lib.Seq.{get_or-set_same, get_or-set_other}
-use Rattle.state_queue.specs.Inner.Queue.{key, queue-cost, Roomy, Queue, Nearly, Changed, Played}
+use Rattle.state_queue.specs.Inner.Queue.{key, queue_cost, Roomy, Queue, Nearly, Changed, Played}
 use Rattle.state_queue.proofs.Changes.{changed-nearly}
-use Rattle.state_queue.proofs.Keys.{cost-else}
+use Rattle.state_queue.proofs.Keys.{cost_else}
 use Rattle.cheapest_plan.specs.Inner.Visits.{Emptied, Begun}
 use Rattle.cheapest_plan.specs.Inner.Tables.{Elsewhere}
 use Rattle.cheapest_plan.proofs.Queueing.{stored, length-stored, cost-stored, steps-stored, step-stored, stored-elsewhere}
@@ -21,8 +21,8 @@ pub record Emptying (n : ℕ) (before : List ℕ) (s : ℕ) (words : List ℕ) :
   pub steps : (x : ℕ) → x < s → get_or words (n + x) 0 ≡ 0
   pub lasts : (x : ℕ) → x < s → get_or words (2 * n + x) 0 ≡ 0
 
-pub emptying-begin : (n : ℕ) (words : List ℕ) → Emptying n words 0 words
-emptying-begin n words =
+pub emptying_begin : (n : ℕ) (words : List ℕ) → Emptying n words 0 words
+emptying_begin n words =
     record {
       long = refl;
       inside = omega arith;
@@ -31,13 +31,13 @@ emptying-begin n words =
       lasts = λ x l. absurd (omega arith);
     }
 
-pub emptying-more :
+pub emptying_more :
     {n : ℕ} {before : List ℕ} {s : ℕ} {words : List ℕ}
     → Roomy n before
     → s < n
     → Emptying n before s words
     → Emptying n before (s + 1) (stored words n s 4294967295 0 0)
-emptying-more {n} {before} {s} {words} roomy below e =
+emptying_more {n} {before} {s} {words} roomy below e =
     record {
       long = length-stored words n s 4294967295 0 0 ∙ e.long;
       inside = omega arith;
@@ -85,7 +85,7 @@ module _ {n start : ℕ} {empty words : List ℕ} (e : Emptied n empty) (p : Pla
 
   first_key : key (set words start 1) n start ≡ 0
   unfolding key
-  first_key = rw (put, no_steps start below, sym (cost-else 1 (λ z. omega arith))) refl
+  first_key = rw (put, no_steps start below, sym (cost_else 1 (λ z. omega arith))) refl
 
   pub begin-nearly : Nearly (set words start 1) n start
   begin-nearly =

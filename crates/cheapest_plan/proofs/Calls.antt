@@ -11,21 +11,21 @@ use lib.ListN.{length, get_or, take, replicate, length-append, length-replicate,
 use lib.Seq.{ext_get_or, get_or-append-add, length-take-le}
 use borrow.Author.Tests.{le-leb, lt-leb}
 use Rattle.task.specs.declared.Head.{Head}
-use Rattle.task.specs.Table.{Lent, Task, task-of}
-use Rattle.task.specs.Run.{goal-holds}
+use Rattle.task.specs.Table.{Lent, Task, task_of}
+use Rattle.task.specs.Run.{goal_holds}
 use Rattle.task.specs.Words.{padded}
 use Rattle.stepper.specs.Stepped.{cleared}
 use Rattle.state_queue.specs.Inner.Queue.{winner, Roomy, queued as Waits-there}
 use Rattle.cheapest_plan.specs.declared.CheapestOutcome.{CheapestOutcome}
-use Rattle.cheapest_plan.specs.Cheapest.{Pick, no-plan, plan-of, cheapest}
-use Rattle.cheapest_plan.specs.Planned.{search-refusal, plan-refused, plan-written, plan-told, planned-by, planned, PlanGives}
-use Rattle.cheapest_plan.specs.Inner.States.{Bits, code, state-of}
+use Rattle.cheapest_plan.specs.Cheapest.{Pick, no_plan, plan_of, cheapest}
+use Rattle.cheapest_plan.specs.Planned.{search_refusal, plan_refused, plan_written, plan_told, planned_by, planned, PlanGives}
+use Rattle.cheapest_plan.specs.Inner.States.{Bits, code, state_of}
 use Rattle.cheapest_plan.specs.Inner.Tables.{Ground}
-use Rattle.cheapest_plan.specs.Inner.Visits.{TaskIn, Known, GoalReady, Searchable, SearchEnd, no_end, first-end, EndReady, EndFound, Writable, Writes}
-use Rattle.cheapest_plan.specs.Inner.Plans.{PlanReady, PlanEnd, no-plan-there, plan-there, EndsPlan, PlanTold, TellReady, TellsPlan, Plans}
-use Rattle.cheapest_plan.proofs.States.{code_below, state-of-code}
+use Rattle.cheapest_plan.specs.Inner.Visits.{TaskIn, Known, GoalReady, Searchable, SearchEnd, no_end, first_end, EndReady, EndFound, Writable, Writes}
+use Rattle.cheapest_plan.specs.Inner.Plans.{PlanReady, PlanEnd, no_plan_there, plan_there, EndsPlan, PlanTold, TellReady, TellsPlan, Plans}
+use Rattle.cheapest_plan.proofs.States.{code_below, state_of_code}
 use Rattle.cheapest_plan.proofs.Visiting.{QueuedAt, queued-at, IsQueued, waiting-at, least-key}
-use Rattle.cheapest_plan.proofs.Refusing.{few-states, search-ready}
+use Rattle.cheapest_plan.proofs.Refusing.{few_states, search_ready}
 
 -- a search begins
 module _ {h : Head} {initial f e o scratch words : List ℕ} (v : PlanReady h initial f e o scratch words) {n : ℕ} (states : n ≡ 2 ^ h.variables) where
@@ -34,7 +34,7 @@ module _ {h : Head} {initial f e o scratch words : List ℕ} (v : PlanReady h in
       record {
         passes = v.passes;
         states = states ∙ ap (λ (k : ℕ). 2 ^ k) (sym v.tables.variables);
-        few = omega (arith, states, few-states v.few);
+        few = omega (arith, states, few_states v.few);
         cheap = v.cheap;
       }
 
@@ -42,8 +42,8 @@ module _ {h : Head} {initial f e o scratch words : List ℕ} (v : PlanReady h in
   search-roomy =
       record {
         some = omega (arith, states, one-le-pow h.variables 2 (omega arith));
-        limit = omega (arith, states, few-states v.few);
-        room = omega (arith, states, v.words-room);
+        limit = omega (arith, states, few_states v.few);
+        room = omega (arith, states, v.words_room);
       }
 
   pub search-goal : {state : List ℕ} → length state ≡ h.variables → GoalReady h f state scratch
@@ -51,7 +51,7 @@ module _ {h : Head} {initial f e o scratch words : List ℕ} (v : PlanReady h in
       record {
         few = v.few;
         size = size;
-        there = v.tables.ready.formulas-there;
+        there = v.tables.ready.formulas_there;
         rule = v.tables.ready.formula;
         goal = v.tables.ready.goal;
         room = v.room;
@@ -60,7 +60,7 @@ module _ {h : Head} {initial f e o scratch words : List ℕ} (v : PlanReady h in
   -- the initial state and its code
   module _ {first : List ℕ} (is : first ≡ take h.variables initial) where
     pub start-bits : Bits (length first) first
-    start-bits = record { size = refl; bits = rw (is ∙ sym v.starts) v.passes.initial-bits }
+    start-bits = record { size = refl; bits = rw (is ∙ sym v.starts) v.passes.initial_bits }
 
     pub start-few : length first ≤ 10
     start-few = omega (arith, ap length (is ∙ sym v.starts), v.tables.variables, v.few)
@@ -75,7 +75,7 @@ module _ {h : Head} {initial f e o scratch words : List ℕ} (v : PlanReady h in
           tables = v.tables;
           ground = ground;
           there = rw (e, states, ← start-there) (code_below (length first) first start-bits);
-          initial = v.starts ∙ sym is ∙ sym (state-of-code (length first) first start-bits) ∙ rw (start-there, e) refl;
+          initial = v.starts ∙ sym is ∙ sym (state_of_code (length first) first start-bits) ∙ rw (start-there, e) refl;
         }
 
     pub searched : {start r : ℕ} {after : List ℕ} (is' : start ≡ code first) → SearchEnd (searchable is').t n after r → SearchEnd v.t n after r
@@ -84,8 +84,8 @@ module _ {h : Head} {initial f e o scratch words : List ℕ} (v : PlanReady h in
 
   -- the search found no end
   pub none_found : {after : List ℕ} {r : ℕ} → SearchEnd v.t n after r → r ≡ n → PlanEnd v.t n after n
-  none_found (no_end q none) same = no-plan-there refl none
-  none_found (first-end below known first w goal) same = absurd (omega arith)
+  none_found (no_end q none) same = no_plan_there refl none
+  none_found (first_end below known first w goal) same = absurd (omega arith)
 
 -- or one
 pub record FirstEnd (t : Task) (n : ℕ) (words : List ℕ) (r : ℕ) : Type 0 where
@@ -93,11 +93,11 @@ pub record FirstEnd (t : Task) (n : ℕ) (words : List ℕ) (r : ℕ) : Type 0 w
   pub known : Known t n words
   pub first : r ≡ winner words n 1
   pub waiting : Waits-there (get_or words r 0) ≡ true
-  pub goal : goal-holds t (state-of (length t.initial) r) ≡ true
+  pub goal : goal_holds t (state_of (length t.initial) r) ≡ true
 
 some_end : {t : Task} {n : ℕ} {words : List ℕ} {r : ℕ} → SearchEnd t n words r → (r ≡ n → ⊥) → FirstEnd t n words r
 some_end (no_end q none) other = absurd (other q)
-some_end (first-end below known first w goal) other =
+some_end (first_end below known first w goal) other =
     record { below = below; known = known; first = first; waiting = w; goal = goal }
 
 module _
@@ -110,8 +110,8 @@ module _
     pub end-queued : IsQueued end-here.known.holds r
     end-queued = waiting-at end-here.known.holds r end-here.below end-here.waiting
 
-    unfoldable pub end-ready : EndReady h f n r after
-    end-ready =
+    unfoldable pub end_ready : EndReady h f n r after
+    end_ready =
         record {
           t = v.t;
           variables = v.tables.variables;
@@ -132,9 +132,9 @@ module _
               end-queued.p end-queued.c end-queued.at;
         }
 
-    pub end-found : {best : ℕ} → best < n → EndFound end-ready.t n best after → PlanEnd v.t n after best
-    unfolding end-ready
-    end-found below found = plan-there below found
+    pub end-found : {best : ℕ} → best < n → EndFound end_ready.t n best after → PlanEnd v.t n after best
+    unfolding end_ready
+    end-found below found = plan_there below found
 
 -- what is told of a plan
 module _ {n end : ℕ} {words plan : List ℕ} (v : TellReady n end words plan) where
@@ -146,8 +146,8 @@ module _ {n end : ℕ} {words plan : List ℕ} (v : TellReady n end words plan) 
       length plan < get_or words (n + end) 0
       → {r : CheapestOutcome}
       → r ≡ record { refusal = 23; steps = 0; cost = 0 }
-      → PlanTold (plan-of v.found.p v.found.c) plan r plan
-  unfolding plan-told plan-refused
+      → PlanTold (plan_of v.found.p v.found.c) plan r plan
+  unfolding plan_told plan_refused
   tell-long h e =
       let long : length plan < length v.found.p = omega (arith, end-at.steps) in
       record {
@@ -203,10 +203,10 @@ module _ {n end : ℕ} {words plan : List ℕ} (v : TellReady n end words plan) 
               ∙ ap (λ (x : ℕ). get_or (v.found.p ++ replicate (length plan - length v.found.p) 0) x 0) (sym k)
 
       pub tell-written :
-          PlanTold (plan-of v.found.p v.found.c) plan
+          PlanTold (plan_of v.found.p v.found.c) plan
           (record { refusal = 0; steps = get_or words (n + end) 0; cost = get_or words end 0 - 1 })
           after
-      unfolding plan-told plan-written
+      unfolding plan_told plan_written
       tell-written =
           let short : length v.found.p ≤ length plan = omega (arith, end-at.steps) in
           let cost : get_or words end 0 - 1 ≡ v.found.c = omega (arith, end-at.word) in
@@ -220,80 +220,80 @@ pub record FoundEnd (t : Task) (n : ℕ) (words : List ℕ) (r : ℕ) : Type 0 w
   pub below : r < n
   pub found : EndFound t n r words
 
-found-end : {t : Task} {n : ℕ} {words : List ℕ} {r : ℕ} → PlanEnd t n words r → (r ≡ n → ⊥) → FoundEnd t n words r
-found-end (no-plan-there q none) other = absurd (other q)
-found-end (plan-there below found) other = record { below = below; found = found }
+found_end : {t : Task} {n : ℕ} {words : List ℕ} {r : ℕ} → PlanEnd t n words r → (r ≡ n → ⊥) → FoundEnd t n words r
+found_end (no_plan_there q none) other = absurd (other q)
+found_end (plan_there below found) other = record { below = below; found = found }
 
 module _ {t : Task} {n : ℕ} {words : List ℕ} {r : ℕ} (end : PlanEnd t n words r) {plan : List ℕ} (clear : plan ≡ cleared plan) where
-  none-there : PlanEnd t n words r → r ≡ n → cheapest t ≡ no-plan
-  none-there (no-plan-there q none) same = none
-  none-there (plan-there below found) same = absurd (omega arith)
+  none-there : PlanEnd t n words r → r ≡ n → cheapest t ≡ no_plan
+  none-there (no_plan_there q none) same = none
+  none-there (plan_there below found) same = absurd (omega arith)
 
   pub told_none : r ≡ n → {answer : CheapestOutcome} → answer ≡ record { refusal = 22; steps = 0; cost = 0 } → PlanTold (cheapest t) plan answer plan
-  unfolding plan-told plan-refused
+  unfolding plan_told plan_refused
   told_none same e =
       let none = none-there end same in
       record { answer = e ∙ sym (rw none refl); plan = clear ∙ sym (rw none refl) }
 
   module _ (other : r ≡ n → ⊥) where
     pub found_here : FoundEnd t n words r
-    found_here = found-end end other
+    found_here = found_end end other
 
-    unfoldable pub tell-ready : TellReady n r words plan
-    tell-ready = record { t = t; there = found_here.below; found = found_here.found; clear = clear }
+    unfoldable pub tell_ready : TellReady n r words plan
+    tell_ready = record { t = t; there = found_here.below; found = found_here.found; clear = clear }
 
     pub told-found :
         {answer : CheapestOutcome} {after : List ℕ}
-        → PlanTold (plan-of tell-ready.found.p tell-ready.found.c) plan answer after
+        → PlanTold (plan_of tell_ready.found.p tell_ready.found.c) plan answer after
         → PlanTold (cheapest t) plan answer after
-    unfolding tell-ready
+    unfolding tell_ready
     told-found x = rw found_here.found.best x
 
 -- what is told does not hang on the scratches, nor on what stood in the buffer
 module _ (before plan scratch words : List ℕ) (size : length before ≡ length plan) where
-  same_answer : (pick : Pick) → (plan-told pick before [] []).answer ≡ (plan-told pick plan scratch words).answer
-  unfolding plan-told plan-refused plan-written
-  same_answer no-plan = refl
-  same_answer (plan-of p c) =
-      ap (λ (k : ℕ). (cond (leb (length p) k) (plan-written p c before [] []) (plan-refused 23 before [] [])).answer) size
+  same_answer : (pick : Pick) → (plan_told pick before [] []).answer ≡ (plan_told pick plan scratch words).answer
+  unfolding plan_told plan_refused plan_written
+  same_answer no_plan = refl
+  same_answer (plan_of p c) =
+      ap (λ (k : ℕ). (cond (leb (length p) k) (plan_written p c before [] []) (plan_refused 23 before [] [])).answer) size
       ∙ go (leb (length p) (length plan))
     where
       go :
           (b : Bool)
-          → (cond b (plan-written p c before [] []) (plan-refused 23 before [] [])).answer
-          ≡ (cond b (plan-written p c plan scratch words) (plan-refused 23 plan scratch words)).answer
+          → (cond b (plan_written p c before [] []) (plan_refused 23 before [] [])).answer
+          ≡ (cond b (plan_written p c plan scratch words) (plan_refused 23 plan scratch words)).answer
       go true = refl
       go false = refl
 
-  same-plan : (pick : Pick) → (plan-told pick before [] []).plan ≡ (plan-told pick plan scratch words).plan
-  unfolding plan-told plan-refused plan-written
-  same-plan no-plan = ap (λ (k : ℕ). replicate k 0) size
-  same-plan (plan-of p c) =
-      ap (λ (k : ℕ). (cond (leb (length p) k) (plan-written p c before [] []) (plan-refused 23 before [] [])).plan) size
+  same_plan : (pick : Pick) → (plan_told pick before [] []).plan ≡ (plan_told pick plan scratch words).plan
+  unfolding plan_told plan_refused plan_written
+  same_plan no_plan = ap (λ (k : ℕ). replicate k 0) size
+  same_plan (plan_of p c) =
+      ap (λ (k : ℕ). (cond (leb (length p) k) (plan_written p c before [] []) (plan_refused 23 before [] [])).plan) size
       ∙ go (leb (length p) (length plan))
     where
       go :
           (b : Bool)
-          → (cond b (plan-written p c before [] []) (plan-refused 23 before [] [])).plan
-          ≡ (cond b (plan-written p c plan scratch words) (plan-refused 23 plan scratch words)).plan
+          → (cond b (plan_written p c before [] []) (plan_refused 23 before [] [])).plan
+          ≡ (cond b (plan_written p c plan scratch words) (plan_refused 23 plan scratch words)).plan
       go true = ap (λ (k : ℕ). padded k p) size
       go false = ap (λ (k : ℕ). replicate k 0) size
 
   both-cleared :
-      (pick : Pick) → ((plan-told pick plan scratch words).scratch ≡ cleared scratch) × ((plan-told pick plan scratch words).words ≡ cleared words)
-  unfolding plan-told plan-refused plan-written
-  both-cleared no-plan = (refl, refl)
-  both-cleared (plan-of p c) = go (leb (length p) (length plan))
+      (pick : Pick) → ((plan_told pick plan scratch words).scratch ≡ cleared scratch) × ((plan_told pick plan scratch words).words ≡ cleared words)
+  unfolding plan_told plan_refused plan_written
+  both-cleared no_plan = (refl, refl)
+  both-cleared (plan_of p c) = go (leb (length p) (length plan))
     where
       go :
           (b : Bool)
-          → ((cond b (plan-written p c plan scratch words) (plan-refused 23 plan scratch words)).scratch ≡ cleared scratch)
-          × ((cond b (plan-written p c plan scratch words) (plan-refused 23 plan scratch words)).words ≡ cleared words)
+          → ((cond b (plan_written p c plan scratch words) (plan_refused 23 plan scratch words)).scratch ≡ cleared scratch)
+          × ((cond b (plan_written p c plan scratch words) (plan_refused 23 plan scratch words)).words ≡ cleared words)
       go true = (refl, refl)
       go false = (refl, refl)
 
 -- the ways out of `cheapest`
-module _ (l : Lent) (plan scratch words : List ℕ) (number : ℕ) (asked : number ≡ search-refusal l scratch words) where
+module _ (l : Lent) (plan scratch words : List ℕ) (number : ℕ) (asked : number ≡ search_refusal l scratch words) where
   pub plan-refuses :
       (number ≡ 0 → ⊥)
       → (r : CheapestOutcome) (numbers rest tables : List ℕ)
@@ -302,14 +302,14 @@ module _ (l : Lent) (plan scratch words : List ℕ) (number : ℕ) (asked : numb
       → rest ≡ cleared scratch
       → tables ≡ cleared words
       → PlanGives (planned l plan scratch words) r numbers rest tables
-  unfolding planned planned-by plan-refused
+  unfolding planned planned_by plan_refused
   plan-refuses d r numbers rest tables e a b c = rw (← asked) (go number d e)
     where
       go :
           (n : ℕ)
           → (n ≡ 0 → ⊥)
           → r ≡ record { refusal = n; steps = 0; cost = 0 }
-          → PlanGives (planned-by n l plan scratch words) r numbers rest tables
+          → PlanGives (planned_by n l plan scratch words) r numbers rest tables
       go zero d e = absurd (d refl)
       go (suc n) d e = record { answer = e; plan = a; scratch = b; words = c }
 
@@ -317,30 +317,30 @@ module _ (l : Lent) (plan scratch words : List ℕ) (number : ℕ) (asked : numb
       number ≡ 0
       → (r : CheapestOutcome) (before numbers rest tables : List ℕ)
       → length before ≡ length plan
-      → PlanTold (cheapest (task-of l)) before r numbers
+      → PlanTold (cheapest (task_of l)) before r numbers
       → rest ≡ cleared scratch
       → tables ≡ cleared words
       → PlanGives (planned l plan scratch words) r numbers rest tables
-  unfolding planned planned-by
+  unfolding planned planned_by
   plan-gives e r before numbers rest tables size told b c =
       rw (← asked, e)
       (record {
-        answer = told.answer ∙ same_answer before plan scratch words size (cheapest (task-of l));
-        plan = told.plan ∙ same-plan before plan scratch words size (cheapest (task-of l));
-        scratch = b ∙ sym (both-cleared before plan scratch words size (cheapest (task-of l))).0;
-        words = c ∙ sym (both-cleared before plan scratch words size (cheapest (task-of l))).1;
+        answer = told.answer ∙ same_answer before plan scratch words size (cheapest (task_of l));
+        plan = told.plan ∙ same_plan before plan scratch words size (cheapest (task_of l));
+        scratch = b ∙ sym (both-cleared before plan scratch words size (cheapest (task_of l))).0;
+        words = c ∙ sym (both-cleared before plan scratch words size (cheapest (task_of l))).1;
       })
 
 -- a front that is cut out from place 0
-pub front-is : (k : ℕ) (l : List ℕ) → take (k - 0) l ≡ take k l
-front-is k l = let e : k - 0 ≡ k = omega arith in rw e refl
+pub front_is : (k : ℕ) (l : List ℕ) → take (k - 0) l ≡ take k l
+front_is k l = let e : k - 0 ≡ k = omega arith in rw e refl
 
 pub front_length : (k : ℕ) (l : List ℕ) → k ≤ length l → length (take (k - 0) l) ≡ k
-front_length k l h = ap length (front-is k l) ∙ length-take-le k l h
+front_length k l h = ap length (front_is k l) ∙ length-take-le k l h
 
 -- a list that was cleared is clear
-pub clear-again : {l : List ℕ} (n : ℕ) → l ≡ replicate n 0 → l ≡ cleared l
-clear-again {l} n e =
+pub clear_again : {l : List ℕ} (n : ℕ) → l ≡ replicate n 0 → l ≡ cleared l
+clear_again {l} n e =
     let size : length l ≡ n = ap length e ∙ length-replicate {A = ℕ} n 0 in
     e ∙ ap (λ (k : ℕ). replicate k 0) (sym size)
 
@@ -349,10 +349,10 @@ pub clear_behind : {rest : List ℕ} (mid l : List ℕ) → rest ≡ cleared mid
 clear_behind mid l e size = e ∙ ap (λ (k : ℕ). replicate k 0) size
 
 -- the search of the task that is lent
-pub ready-told :
-    (l : Lent) (words16 : (i : ℕ) → get_or l.operators i 0 < 65536) (scratch words : List ℕ) (passed : search-refusal l scratch words ≡ 0)
+pub ready_told :
+    (l : Lent) (words16 : (i : ℕ) → get_or l.operators i 0 < 65536) (scratch words : List ℕ) (passed : search_refusal l scratch words ≡ 0)
     → {before after : List ℕ} {r : CheapestOutcome}
-    → PlanTold (cheapest (search-ready l words16 scratch words passed).t) before r after
-    → PlanTold (cheapest (task-of l)) before r after
-unfolding search-ready
-ready-told l words16 scratch words passed told = told
+    → PlanTold (cheapest (search_ready l words16 scratch words passed).t) before r after
+    → PlanTold (cheapest (task_of l)) before r after
+unfolding search_ready
+ready_told l words16 scratch words passed told = told

@@ -12,10 +12,10 @@ use lib.ListN.{length, get_or, set, replicate, length-append, length-set, length
 use lib.Seq.{get_or-set_same, get_or-set_other}
 use borrow.Author.Tests.{lt-ltb, le-ltb, eq-eqb, ne_eqb}
 use Rattle.cheapest_plan.specs.Order.{FirstByNumbers}
-use Rattle.cheapest_plan.specs.Inner.States.{state-of}
+use Rattle.cheapest_plan.specs.Inner.States.{state_of}
 use Rattle.cheapest_plan.specs.Inner.Search.{Status, taken, stands}
-use Rattle.cheapest_plan.specs.Inner.Tables.{Ends, at-start, by-step, Says, says-taken, Holds, Comparable, Compares, Verdict, comes-first, not_first, Noted, Pairs}
-use Rattle.cheapest_plan.proofs.Order.{Compared, sooner, alike, later, by-numbers-length, by-numbers-irreflexive, by-numbers-transitive, by-numbers-total, by-numbers-behind, by-numbers-last}
+use Rattle.cheapest_plan.specs.Inner.Tables.{Ends, at_start, by_step, Says, says_taken, Holds, Comparable, Compares, Verdict, comes_first, not_first, Noted, Pairs}
+use Rattle.cheapest_plan.proofs.Order.{Compared, sooner, alike, later, by_numbers_length, by_numbers_irreflexive, by_numbers_transitive, by_numbers_total, by_numbers_behind, by_numbers_last}
 use Rattle.cheapest_plan.proofs.Search.{has_one}
 
 -- the last number decides only behind the same list
@@ -23,22 +23,22 @@ pub not_last : (p : List ℕ) {a b : ℕ} → b ≤ a → FirstByNumbers (p ++ (
 not_last p {a} {b} le f = go (dec_lt b a)
   where
     go : Dec (b < a) → ⊥
-    go (yes l) = by-numbers-irreflexive (by-numbers-transitive f (by-numbers-last p l))
+    go (yes l) = by_numbers_irreflexive (by_numbers_transitive f (by_numbers_last p l))
     go (no l) =
         let same : a ≡ b = omega arith in
-        by-numbers-irreflexive (rw same at f)
+        by_numbers_irreflexive (rw same at f)
 
-pub front-decides :
+pub front_decides :
     (p q : List ℕ) (a b : ℕ)
     → length p ≡ length q
     → FirstByNumbers (p ++ (a ∷ [])) (q ++ (b ∷ []))
     → FirstByNumbers p q ⊎ (p ≡ q)
-front-decides p q a b e f = go (by-numbers-total p q e)
+front_decides p q a b e f = go (by_numbers_total p q e)
   where
     go : Compared (p ≡ q) (FirstByNumbers p q) (FirstByNumbers q p) → FirstByNumbers p q ⊎ (p ≡ q)
     go (sooner g) = inl g
     go (alike g) = inr g
-    go (later g) = absurd (by-numbers-irreflexive (by-numbers-transitive f (by-numbers-behind g b a)))
+    go (later g) = absurd (by_numbers_irreflexive (by_numbers_transitive f (by_numbers_behind g b a)))
 
 -- the words of a state that was taken
 pub record TakenSays (v n : ℕ) (status : List ℕ → Status) (words : List ℕ) (s : ℕ) (p : List ℕ) : Type 0 where
@@ -46,38 +46,38 @@ pub record TakenSays (v n : ℕ) (status : List ℕ → Status) (words : List �
   pub steps : get_or words (n + s) 0 ≡ length p
   pub ends : Ends v n status p (get_or words (2 * n + s) 0)
 
-taken-from :
+taken_from :
     {v n : ℕ} {status : List ℕ → Status} {words : List ℕ} {s : ℕ} {p : List ℕ} {c : ℕ}
     → Says v n status words s (taken p c)
     → TakenSays v n status words s p
-taken-from (says-taken w l e) = record { word = w; steps = l; ends = e }
+taken_from (says_taken w l e) = record { word = w; steps = l; ends = e }
 
-pub taken-says :
+pub taken_says :
     {v n : ℕ} {status : List ℕ → Status} {words : List ℕ}
     → Holds v n status words
     → (s : ℕ) (p : List ℕ) (c : ℕ)
     → s < n
-    → status (state-of v s) ≡ taken p c
+    → status (state_of v s) ≡ taken p c
     → TakenSays v n status words s p
-taken-says holds s p c l e = taken-from (rw e at (holds.at s l))
+taken_says holds s p c l e = taken_from (rw e at (holds.at s l))
 
 -- how many steps a list has that ends with step x
-unfoldable pub steps-to : List ℕ → ℕ → ℕ → ℕ
-steps-to words n x = cond (ltb x 256) 0 (get_or words (n + (x / 256 - 1)) 0 + 1)
+unfoldable pub steps_to : List ℕ → ℕ → ℕ → ℕ
+steps_to words n x = cond (ltb x 256) 0 (get_or words (n + (x / 256 - 1)) 0 + 1)
 
-pub ends-steps :
+pub ends_steps :
     {v n : ℕ} {status : List ℕ → Status} {words : List ℕ}
     → Holds v n status words
     → (p : List ℕ) (x : ℕ)
     → Ends v n status p x
-    → steps-to words n x ≡ length p
-unfolding steps-to
-ends-steps holds p x (at-start e z) = rw (e, z) refl
-ends-steps {n = n} {words = words} holds p x (by-step parent o front c l m is z e) =
+    → steps_to words n x ≡ length p
+unfolding steps_to
+ends_steps holds p x (at_start e z) = rw (e, z) refl
+ends_steps {n = n} {words = words} holds p x (by_step parent o front c l m is z e) =
     let long : 256 ≤ x = omega arith in
     let place : x / 256 - 1 ≡ parent = omega arith in
     rw (le-ltb x 256 long, place, e)
-    (omega (arith, (taken-says holds parent front c l is).steps, length-append front (o ∷ [])))
+    (omega (arith, (taken_says holds parent front c l is).steps, length-append front (o ∷ [])))
 
 -- what is decided of two lists is decided of them with one number more
 pub behind :
@@ -87,8 +87,8 @@ pub behind :
     → (r : Bool)
     → Verdict p q r
     → Verdict (p ++ (o ∷ [])) (q ++ (u ∷ [])) r
-behind p q o u e ne true (comes-first f) = comes-first (by-numbers-behind f o u)
-behind p q o u e ne false (not_first f) = not_first (λ g. go (front-decides p q o u e g))
+behind p q o u e ne true (comes_first f) = comes_first (by_numbers_behind f o u)
+behind p q o u e ne false (not_first f) = not_first (λ g. go (front_decides p q o u e g))
   where
     go : FirstByNumbers p q ⊎ (p ≡ q) → ⊥
     go (inl g) = f g
@@ -110,7 +110,7 @@ module _ {n : ℕ} {words : List ℕ} {x₀ y₀ : ℕ} (h : Comparable n words 
         p = h.first;
         q = h.second;
         p-ends = h.first_ends;
-        q-ends = h.second-ends;
+        q-ends = h.second_ends;
         same = h.alike;
         back = λ r w. w;
       }
@@ -121,13 +121,13 @@ module _ {n : ℕ} {words : List ℕ} {x₀ y₀ : ℕ} (h : Comparable n words 
     pub b : ℕ
     pub a-state : a < n
     pub b-state : b < n
-    pub a-is : x / 256 ≡ a + 1
-    pub b-is : y / 256 ≡ b + 1
+    pub a_is : x / 256 ≡ a + 1
+    pub b_is : y / 256 ≡ b + 1
     pub p : List ℕ
     pub q : List ℕ
     pub a-says : TakenSays h.v n h.status words a p
     pub b-says : TakenSays h.v n h.status words b q
-    pub longer : steps-to words n x ≡ length p + 1
+    pub longer : steps_to words n x ≡ length p + 1
     pub same : length p ≡ length q
     pub back : (r : Bool) → Verdict p q r → Verdict h.first h.second r
 
@@ -135,12 +135,12 @@ module _ {n : ℕ} {words : List ℕ} {x₀ y₀ : ℕ} (h : Comparable n words 
   apart {x} {y} w ne = go w.p-ends w.q-ends
     where
       go : Ends h.v n h.status w.p x → Ends h.v n h.status w.q y → Apart x y
-      go (at-start e z) (at-start f k) = absurd (ne (rw (z, k) refl))
-      go (at-start e z) (by-step b u q d l m is k f) =
+      go (at_start e z) (at_start f k) = absurd (ne (rw (z, k) refl))
+      go (at_start e z) (by_step b u q d l m is k f) =
           absurd (let sum = w.same in omega (arith, ap length e, ap length f, length-append q (u ∷ [])))
-      go (by-step a o p c l m is z e) (at-start f k) =
+      go (by_step a o p c l m is z e) (at_start f k) =
           absurd (let sum = w.same in omega (arith, ap length e, ap length f, length-append p (o ∷ [])))
-      go (by-step a o p c l m is z e) (by-step b u q d l' m' is' k f) =
+      go (by_step a o p c l m is z e) (by_step b u q d l' m' is' k f) =
           let size : length p ≡ length q =
           omega (arith, w.same, ap length e, ap length f, length-append p (o ∷ []), length-append q (u ∷ [])) in
           let other : p ≡ q → ⊥ =
@@ -150,52 +150,52 @@ module _ {n : ℕ} {words : List ℕ} {x₀ y₀ : ℕ} (h : Comparable n words 
             b = b;
             a-state = l;
             b-state = l';
-            a-is = omega arith;
-            b-is = omega arith;
+            a_is = omega arith;
+            b_is = omega arith;
             p = p;
             q = q;
-            a-says = taken-says h.holds a p c l is;
-            b-says = taken-says h.holds b q d l' is';
-            longer = omega (arith, ends-steps h.holds w.p x w.p-ends, ap length e, length-append p (o ∷ []));
+            a-says = taken_says h.holds a p c l is;
+            b-says = taken_says h.holds b q d l' is';
+            longer = omega (arith, ends_steps h.holds w.p x w.p-ends, ap length e, length-append p (o ∷ []));
             same = size;
             back = λ r g. w.back r (rw (e, f) (behind p q o u size other r g));
           }
 
   -- one turn of the loop
-  module _ {x y a b : ℕ} (w : Apart x y) (a-is : a ≡ x / 256 - 1) (b-is : b ≡ y / 256 - 1) where
+  module _ {x y a b : ℕ} (w : Apart x y) (a_is : a ≡ x / 256 - 1) (b_is : b ≡ y / 256 - 1) where
     pub a-below : a < n
-    a-below = omega (arith, w.a-is, w.a-state)
+    a-below = omega (arith, w.a_is, w.a-state)
 
     pub b-below : b < n
-    b-below = omega (arith, w.b-is, w.b-state)
+    b-below = omega (arith, w.b_is, w.b-state)
 
     a-ends : Ends h.v n h.status w.p (get_or words (2 * n + a) 0)
     a-ends =
-        let same : a ≡ w.a = omega (arith, w.a-is) in
+        let same : a ≡ w.a = omega (arith, w.a_is) in
         rw same w.a-says.ends
 
     b-ends : Ends h.v n h.status w.q (get_or words (2 * n + b) 0)
     b-ends =
-        let same : b ≡ w.b = omega (arith, w.b-is) in
+        let same : b ≡ w.b = omega (arith, w.b_is) in
         rw same w.b-says.ends
 
     pub parted-on : Parted (get_or words (2 * n + a) 0) (get_or words (2 * n + b) 0)
     parted-on =
         record { p = w.p; q = w.q; p-ends = a-ends; q-ends = b-ends; same = w.same; back = w.back }
 
-    pub parted-less : steps-to words n (get_or words (2 * n + a) 0) < steps-to words n x
-    parted-less = omega (arith, w.longer, ends-steps h.holds w.p (get_or words (2 * n + a) 0) a-ends)
+    pub parted-less : steps_to words n (get_or words (2 * n + a) 0) < steps_to words n x
+    parted-less = omega (arith, w.longer, ends_steps h.holds w.p (get_or words (2 * n + a) 0) a-ends)
 
   -- the fronts are the same
   pub parted-end : {x y : ℕ} → Parted x y → x / 256 ≡ y / 256 → Verdict h.first h.second (ltb x y)
   parted-end {x} {y} w e = w.back (ltb x y) (go w.p-ends w.q-ends (dec_lt x y))
     where
       go : Ends h.v n h.status w.p x → Ends h.v n h.status w.q y → Dec (x < y) → Verdict w.p w.q (ltb x y)
-      go (at-start f z) (at-start g k) d =
-          rw (f, g, z, k) (not_first by-numbers-irreflexive)
-      go (at-start f z) (by-step b u q c l m is k g) d = absurd (omega arith)
-      go (by-step a o p c l m is z f) (at-start g k) d = absurd (omega arith)
-      go (by-step a o p c l m is z f) (by-step b u q c' l' m' is' k g) d =
+      go (at_start f z) (at_start g k) d =
+          rw (f, g, z, k) (not_first by_numbers_irreflexive)
+      go (at_start f z) (by_step b u q c l m is k g) d = absurd (omega arith)
+      go (by_step a o p c l m is z f) (at_start g k) d = absurd (omega arith)
+      go (by_step a o p c l m is z f) (by_step b u q c' l' m' is' k g) d =
           let place : a ≡ b = omega arith in
           let one : p ≡ q = cc in
           rw (f, g, ← one) (last o u (λ l. omega arith) (λ l. omega arith) p d)
@@ -207,22 +207,22 @@ module _ {n : ℕ} {words : List ℕ} {x₀ y₀ : ℕ} (h : Comparable n words 
               → (p : List ℕ)
               → Dec (x < y)
               → Verdict (p ++ (o ∷ [])) (p ++ (u ∷ [])) (ltb x y)
-          last o u up down p (yes l) = rw (lt-ltb x y l) (comes-first (by-numbers-last p (up l)))
+          last o u up down p (yes l) = rw (lt-ltb x y l) (comes_first (by_numbers_last p (up l)))
           last o u up down p (no l) =
               let le : y ≤ x = omega arith in
               rw (le-ltb x y le) (not_first (not_last p (down le)))
 
 -- What is noted of comparisons.
-abbrev pub own-note : (k a : ℕ) → List ℕ
-own-note k a = set (replicate k 0) a 1
+abbrev pub own_note : (k a : ℕ) → List ℕ
+own_note k a = set (replicate k 0) a 1
 
-pub noted-own :
+pub noted_own :
     {v n : ℕ} {status : List ℕ → Status} {p : List ℕ} {c : ℕ} (k a : ℕ)
     → n ≤ k
     → a < n
-    → status (state-of v a) ≡ taken p c
-    → Noted v n status p (own-note k a)
-noted-own {v} {n} {status} {p} {c} k a room there own =
+    → status (state_of v a) ≡ taken p c
+    → Noted v n status p (own_note k a)
+noted_own {v} {n} {status} {p} {c} k a room there own =
     record {
       room = rw (length-set (replicate {A = ℕ} k 0) a 1, length-replicate {A = ℕ} k 0) room;
       told = λ b q d l some is size. go b q d l some is (ℕ_discrete b a);
@@ -231,25 +231,25 @@ noted-own {v} {n} {status} {p} {c} k a room there own =
     go :
         (b : ℕ) (q : List ℕ) (d : ℕ)
         → b < n
-        → (get_or (own-note k a) b 0 ≡ 0 → ⊥)
-        → status (state-of v b) ≡ taken q d
+        → (get_or (own_note k a) b 0 ≡ 0 → ⊥)
+        → status (state_of v b) ≡ taken q d
         → Dec (b ≡ a)
-        → Verdict p q (eqb (get_or (own-note k a) b 0) 2)
+        → Verdict p q (eqb (get_or (own_note k a) b 0) 2)
     go b q d l some is (yes e) =
         let one = (has_one (stands own) (stands (rw e at is))).0 in
-        let kept : get_or (own-note k a) a 0 ≡ 1 =
+        let kept : get_or (own_note k a) a 0 ≡ 1 =
         get_or-set_same (replicate {A = ℕ} k 0) a 1 0 (rw (length-replicate {A = ℕ} k 0) (omega arith)) in
-        rw (e, kept, ← one) (not_first by-numbers-irreflexive)
+        rw (e, kept, ← one) (not_first by_numbers_irreflexive)
     go b q d l some is (no e) =
         absurd (some (get_or-set_other (replicate {A = ℕ} k 0) a b 1 0 e ∙ get_or-replicate {A = ℕ} k b 0 0 (omega arith)))
 
 module _ {n : ℕ} {words : List ℕ} {a b : ℕ} {notes : List ℕ} (h : Pairs n words a b notes) where
   -- it was noted before
   pub noted-before : (get_or notes b 0 ≡ 0 → ⊥) → Verdict h.p h.q (eqb (get_or notes b 0) 2)
-  noted-before some = h.noted.told b h.q h.d h.b_there some h.b-is h.alike
+  noted-before some = h.noted.told b h.q h.d h.b_there some h.b_is h.alike
 
-  unfoldable pub pair-comparable : Comparable n words (get_or words (2 * n + a) 0) (get_or words (2 * n + b) 0)
-  pair-comparable =
+  unfoldable pub pair_comparable : Comparable n words (get_or words (2 * n + a) 0) (get_or words (2 * n + b) 0)
+  pair_comparable =
       record {
         v = h.v;
         status = h.status;
@@ -257,14 +257,14 @@ module _ {n : ℕ} {words : List ℕ} {a b : ℕ} {notes : List ℕ} (h : Pairs 
         alone = h.alone;
         first = h.p;
         second = h.q;
-        first_ends = (taken-says h.holds a h.p h.c h.a-there h.a-is).ends;
-        second-ends = (taken-says h.holds b h.q h.d h.b_there h.b-is).ends;
+        first_ends = (taken_says h.holds a h.p h.c h.a_there h.a_is).ends;
+        second_ends = (taken_says h.holds b h.q h.d h.b_there h.b_is).ends;
         alike = h.alike;
       }
 
   pub pair-verdict : {r : Bool} → Compares n words (get_or words (2 * n + a) 0) (get_or words (2 * n + b) 0) r → Verdict h.p h.q r
-  unfolding pair-comparable
-  pair-verdict c = c.told pair-comparable
+  unfolding pair_comparable
+  pair-verdict c = c.told pair_comparable
 
   -- it is noted now
   pub noted-now : (note : ℕ) → Verdict h.p h.q (eqb note 2) → Noted h.v n h.status h.p (set notes b note)
@@ -278,12 +278,12 @@ module _ {n : ℕ} {words : List ℕ} {a b : ℕ} {notes : List ℕ} (h : Pairs 
           (x : ℕ) (q : List ℕ) (d : ℕ)
           → x < n
           → (get_or (set notes b note) x 0 ≡ 0 → ⊥)
-          → h.status (state-of h.v x) ≡ taken q d
+          → h.status (state_of h.v x) ≡ taken q d
           → length h.p ≡ length q
           → Dec (x ≡ b)
           → Verdict h.p q (eqb (get_or (set notes b note) x 0) 2)
       go x q d l some is size (yes e) =
-          let one = (has_one (stands h.b-is) (stands (rw e at is))).0 in
+          let one = (has_one (stands h.b_is) (stands (rw e at is))).0 in
           let kept : get_or (set notes b note) b 0 ≡ note = get_or-set_same notes b note 0 (omega (arith, h.b_there, h.noted.room)) in
           rw (e, kept, ← one) found
       go x q d l some is size (no e) =

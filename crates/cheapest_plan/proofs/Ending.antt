@@ -11,18 +11,18 @@ use Rattle.task.specs.declared.Head.{Head}
 use Rattle.task.specs.Bounded.{upto}
 use Rattle.task.specs.Table.{Task, row_at}
 use Rattle.task.specs.Semantics.{holds}
-use Rattle.task.specs.Tree.{formula-of}
-use Rattle.task.specs.Run.{goal-holds}
-use Rattle.cheapest_plan.specs.Cheapest.{plan-of, cheapest}
+use Rattle.task.specs.Tree.{formula_of}
+use Rattle.task.specs.Run.{goal_holds}
+use Rattle.cheapest_plan.specs.Cheapest.{plan_of, cheapest}
 use Rattle.cheapest_plan.specs.Order.{FirstByNumbers, Before, earlier}
-use Rattle.cheapest_plan.specs.Inner.States.{Bits, code, state-of}
-use Rattle.cheapest_plan.specs.Inner.Search.{NoLater, equal, before, KeyLess, less-cost, less-steps, Status, queued, taken, Has, waits, Searching, LeastKey}
-use Rattle.cheapest_plan.specs.Inner.Tables.{Ends, Holds, Comparable, Verdict, comes-first, not_first}
-use Rattle.cheapest_plan.specs.Inner.Visits.{GoalTold, EndReady, Rivals, takes-over, gives-way, Replaces, EndFound}
-use Rattle.cheapest_plan.proofs.Order.{Compared, sooner, alike, later, by-numbers-total, no-later-transitive}
-use Rattle.cheapest_plan.proofs.States.{state-bits, code_below, state-of-code}
-use Rattle.cheapest_plan.proofs.Search.{has_one, key-less-before, key-cases, end-is-cheapest}
-use Rattle.cheapest_plan.proofs.Holding.{Stands, is-unreached, is-queued, is-taken, stands_at}
+use Rattle.cheapest_plan.specs.Inner.States.{Bits, code, state_of}
+use Rattle.cheapest_plan.specs.Inner.Search.{NoLater, equal, before, KeyLess, less_cost, less_steps, Status, queued, taken, Has, waits, Searching, LeastKey}
+use Rattle.cheapest_plan.specs.Inner.Tables.{Ends, Holds, Comparable, Verdict, comes_first, not_first}
+use Rattle.cheapest_plan.specs.Inner.Visits.{GoalTold, EndReady, Rivals, takes_over, gives_way, Replaces, EndFound}
+use Rattle.cheapest_plan.proofs.Order.{Compared, sooner, alike, later, by_numbers_total, no_later_transitive}
+use Rattle.cheapest_plan.proofs.States.{state_bits, code_below, state_of_code}
+use Rattle.cheapest_plan.proofs.Search.{has_one, key_less_before, key_cases, end-is-cheapest}
+use Rattle.cheapest_plan.proofs.Holding.{Stands, is_unreached, is_queued, is_taken, stands_at}
 use Rattle.cheapest_plan.proofs.Relaxing.{alone}
 use Rattle.cheapest_plan.proofs.Visiting.{QueuedAt, queued-at}
 
@@ -34,55 +34,55 @@ module _ {h : Head} {f : List ℕ} {n end : ℕ} {words : List ℕ} (v : EndRead
     -- another state has a greater key, or the same
     other_keys :
         (r : List ℕ) (e : ℕ)
-        → v.status (state-of (length v.t.initial) s) ≡ queued r e
+        → v.status (state_of (length v.t.initial) s) ≡ queued r e
         → KeyLess v.c v.p e r ⊎ ((v.c ≡ e) × (length v.p ≡ length r))
     other_keys r e is =
-        key-cases v.c v.p e r
-        (v.least.none-less (state-of (length v.t.initial) s) (state-bits (length v.t.initial) s) r e is)
+        key_cases v.c v.p e r
+        (v.least.none_less (state_of (length v.t.initial) s) (state_bits (length v.t.initial) s) r e is)
 
     pub other-cost : (get_or words s 0 ≡ get_or words end 0 → ⊥) → Rivals v s false
-    other-cost ne = gives-way (λ r e is goal. go r e is (other_keys r e is))
+    other-cost ne = gives_way (λ r e is goal. go r e is (other_keys r e is))
       where
         go :
             (r : List ℕ) (e : ℕ)
-            → v.status (state-of (length v.t.initial) s) ≡ queued r e
+            → v.status (state_of (length v.t.initial) s) ≡ queued r e
             → KeyLess v.c v.p e r ⊎ ((v.c ≡ e) × (length v.p ≡ length r))
             → NoLater v.c v.p e r
-        go r e is (inl k) = before (key-less-before k)
+        go r e is (inl k) = before (key_less_before k)
         go r e is (inr k) = absurd (ne (omega (arith, end-at.word, (queued-at v.holds s below r e is).word, k.0)))
 
     pub other-steps : (get_or words (n + s) 0 ≡ get_or words (n + end) 0 → ⊥) → Rivals v s false
-    other-steps ne = gives-way (λ r e is goal. go r e is (other_keys r e is))
+    other-steps ne = gives_way (λ r e is goal. go r e is (other_keys r e is))
       where
         go :
             (r : List ℕ) (e : ℕ)
-            → v.status (state-of (length v.t.initial) s) ≡ queued r e
+            → v.status (state_of (length v.t.initial) s) ≡ queued r e
             → KeyLess v.c v.p e r ⊎ ((v.c ≡ e) × (length v.p ≡ length r))
             → NoLater v.c v.p e r
-        go r e is (inl k) = before (key-less-before k)
+        go r e is (inl k) = before (key_less_before k)
         go r e is (inr k) = absurd (ne (omega (arith, end-at.steps, (queued-at v.holds s below r e is).steps, k.1)))
 
     -- the same key
     module _ (costs : get_or words s 0 ≡ get_or words end 0) (steps : get_or words (n + s) 0 ≡ get_or words (n + end) 0) where
       pub record Level : Type 0 where
         pub r : List ℕ
-        pub is : v.status (state-of (length v.t.initial) s) ≡ queued r v.c
+        pub is : v.status (state_of (length v.t.initial) s) ≡ queued r v.c
         pub size : length r ≡ length v.p
         pub ends : Ends (length v.t.initial) n v.status r (get_or words (2 * n + s) 0)
 
       pub level : Level
-      level = go (stands_at (v.status (state-of (length v.t.initial) s)) (v.holds.at s below))
+      level = go (stands_at (v.status (state_of (length v.t.initial) s)) (v.holds.at s below))
         where
-          go : Stands (length v.t.initial) n v.status words s (v.status (state-of (length v.t.initial) s)) → Level
-          go (is-unreached is w) = absurd (omega (arith, end-at.word, end-at.bound))
-          go (is-taken r e is w) = absurd (omega (arith, end-at.word))
-          go (is-queued r e is w m g x y) =
+          go : Stands (length v.t.initial) n v.status words s (v.status (state_of (length v.t.initial) s)) → Level
+          go (is_unreached is w) = absurd (omega (arith, end-at.word, end-at.bound))
+          go (is_taken r e is w) = absurd (omega (arith, end-at.word))
+          go (is_queued r e is w m g x y) =
               let c : e ≡ v.c = omega (arith, end-at.word) in
               record { r = r; is = is ∙ rw c; size = omega (arith, end-at.steps); ends = g }
 
-      unfoldable pub ends-comparable : Comparable n words (get_or words (2 * n + s) 0) (get_or words (2 * n + end) 0)
+      unfoldable pub ends_comparable : Comparable n words (get_or words (2 * n + s) 0) (get_or words (2 * n + end) 0)
       unfolding end-at
-      ends-comparable =
+      ends_comparable =
           record {
             v = length v.t.initial;
             status = v.status;
@@ -91,18 +91,18 @@ module _ {h : Head} {f : List ℕ} {n end : ℕ} {words : List ℕ} (v : EndRead
             first = level.r;
             second = v.p;
             first_ends = level.ends;
-            second-ends = end-at.ends;
+            second_ends = end-at.ends;
             alike = level.size;
           }
 
-      pub comes-behind : {b : Bool} → Verdict ends-comparable.first ends-comparable.second b → b ≡ false → Rivals v s false
-      unfolding ends-comparable
-      comes-behind (comes-first x) e = absurd (false≢true (sym e))
+      pub comes-behind : {b : Bool} → Verdict ends_comparable.first ends_comparable.second b → b ≡ false → Rivals v s false
+      unfolding ends_comparable
+      comes-behind (comes_first x) e = absurd (false≢true (sym e))
       comes-behind (not_first x) e =
-          gives-way
+          gives_way
           (λ r d is goal.
           let one = has_one (waits level.is) (waits is) in
-          rw (← one.0, ← one.1) (go (by-numbers-total v.p level.r (sym level.size))))
+          rw (← one.0, ← one.1) (go (by_numbers_total v.p level.r (sym level.size))))
         where
           go :
               Compared (v.p ≡ level.r) (FirstByNumbers v.p level.r) (FirstByNumbers level.r v.p)
@@ -112,39 +112,39 @@ module _ {h : Head} {f : List ℕ} {n end : ℕ} {words : List ℕ} (v : EndRead
           go (later g) = absurd (x g)
 
       goal-same :
-          holds (state-of h.variables s) (formula-of (upto h.formulas (row_at f)) h.goal) ≡ goal-holds v.t (state-of (length v.t.initial) s)
-      unfolding goal-holds
+          holds (state_of h.variables s) (formula_of (upto h.formulas (row_at f)) h.goal) ≡ goal_holds v.t (state_of (length v.t.initial) s)
+      unfolding goal_holds
       goal-same = rw (v.variables, v.formulas, v.goal) refl
 
       -- the list comes first, so the goal decides
       pub goal-decides :
           {b : Bool}
-          → Verdict ends-comparable.first ends-comparable.second b
+          → Verdict ends_comparable.first ends_comparable.second b
           → b ≡ true
           → {scratch : List ℕ} {r : Bool}
           → GoalTold h f s scratch r
           → Rivals v s r
-      unfolding ends-comparable
+      unfolding ends_comparable
       goal-decides (not_first x) e told = absurd (false≢true e)
-      goal-decides (comes-first x) e {r = true} told =
-          takes-over level.r level.is level.size (sym goal-same ∙ sym told.told) x
-      goal-decides (comes-first x) e {r = false} told =
-          gives-way (λ r d is goal. absurd (false≢true (told.told ∙ goal-same ∙ goal)))
+      goal-decides (comes_first x) e {r = true} told =
+          takes_over level.r level.is level.size (sym goal-same ∙ sym told.told) x
+      goal-decides (comes_first x) e {r = false} told =
+          gives_way (λ r d is goal. absurd (false≢true (told.told ∙ goal-same ∙ goal)))
 
 -- The loop: the best end among the states below i.
 pub record Best {h : Head} {f : List ℕ} {n first : ℕ} {words : List ℕ} (v : EndReady h f n first words) (i end : ℕ) : Type 0 where
   pub there : end < n
   pub p : List ℕ
   pub c : ℕ
-  pub is : v.status (state-of (length v.t.initial) end) ≡ queued p c
-  pub ends : goal-holds v.t (state-of (length v.t.initial) end) ≡ true
+  pub is : v.status (state_of (length v.t.initial) end) ≡ queued p c
+  pub ends : goal_holds v.t (state_of (length v.t.initial) end) ≡ true
   pub least : LeastKey (length v.t.initial) v.status p c
   pub best :
       (s : ℕ)
       → s < i
       → (r : List ℕ) (e : ℕ)
-      → v.status (state-of (length v.t.initial) s) ≡ queued r e
-      → goal-holds v.t (state-of (length v.t.initial) s) ≡ true
+      → v.status (state_of (length v.t.initial) s) ≡ queued r e
+      → goal_holds v.t (state_of (length v.t.initial) s) ≡ true
       → NoLater c p e r
 
 module _ {h : Head} {f : List ℕ} {n first : ℕ} {words : List ℕ} (v : EndReady h f n first words) where
@@ -183,8 +183,8 @@ module _ {h : Head} {f : List ℕ} {n first : ℕ} {words : List ℕ} (v : EndRe
 
     pub best-stays : {r : Bool} → Rivals candidate i r → r ≡ false → Best v (i + 1) end
     unfolding candidate
-    best-stays (takes-over r is size goal x) e = absurd (false≢true (sym e))
-    best-stays (gives-way x) e =
+    best-stays (takes_over r is size goal x) e = absurd (false≢true (sym e))
+    best-stays (gives_way x) e =
         record {
           there = b.there;
           p = b.p;
@@ -199,8 +199,8 @@ module _ {h : Head} {f : List ℕ} {n first : ℕ} {words : List ℕ} (v : EndRe
             (s : ℕ)
             → s < i + 1
             → (r : List ℕ) (e : ℕ)
-            → v.status (state-of (length v.t.initial) s) ≡ queued r e
-            → goal-holds v.t (state-of (length v.t.initial) s) ≡ true
+            → v.status (state_of (length v.t.initial) s) ≡ queued r e
+            → goal_holds v.t (state_of (length v.t.initial) s) ≡ true
             → Dec (s ≡ i)
             → NoLater b.c b.p e r
         go s l r e is goal (yes q) = x r e (rw q at is) (rw q at goal)
@@ -208,34 +208,34 @@ module _ {h : Head} {f : List ℕ} {n first : ℕ} {words : List ℕ} (v : EndRe
 
     pub best-changes : {r : Bool} → Rivals candidate i r → r ≡ true → i < n → Best v (i + 1) i
     unfolding candidate
-    best-changes (gives-way x) e below = absurd (false≢true e)
-    best-changes (takes-over r is size goal x) e below =
+    best-changes (gives_way x) e below = absurd (false≢true e)
+    best-changes (takes_over r is size goal x) e below =
         record {
           there = below;
           p = r;
           c = b.c;
           is = is;
           ends = goal;
-          least = record { none-less = λ y bits q d w k. b.least.none-less y bits q d w (lengths k) };
+          least = record { none_less = λ y bits q d w k. b.least.none_less y bits q d w (lengths k) };
           best = λ s l q d w g. go s l q d w g (ℕ_discrete s i);
         }
       where
         lengths : {d : ℕ} {q : List ℕ} → KeyLess d q b.c r → KeyLess d q b.c b.p
-        lengths (less-cost l) = less-cost l
-        lengths (less-steps z l) = less-steps z (omega arith)
+        lengths (less_cost l) = less_cost l
+        lengths (less_steps z l) = less_steps z (omega arith)
 
         go :
             (s : ℕ)
             → s < i + 1
             → (q : List ℕ) (d : ℕ)
-            → v.status (state-of (length v.t.initial) s) ≡ queued q d
-            → goal-holds v.t (state-of (length v.t.initial) s) ≡ true
+            → v.status (state_of (length v.t.initial) s) ≡ queued q d
+            → goal_holds v.t (state_of (length v.t.initial) s) ≡ true
             → Dec (s ≡ i)
             → NoLater b.c r d q
         go s l q d w g (yes same) =
             let one = has_one (waits is) (waits (rw same at w)) in
             equal one.1 one.0
-        go s l q d w g (no other) = no-later-transitive (before (earlier refl x)) (b.best s (omega arith) q d w g)
+        go s l q d w g (no other) = no_later_transitive (before (earlier refl x)) (b.best s (omega arith) q d w g)
 
     -- one round, by which end comes out of it
     pub best-round :
@@ -259,10 +259,10 @@ module _ {h : Head} {f : List ℕ} {n first : ℕ} {words : List ℕ} (v : EndRe
         holds = v.holds;
         is = b.is;
         best =
-            end-is-cheapest v.t v.ground.passes v.searching (state-of (length v.t.initial) end)
-            (state-bits (length v.t.initial) end) b.p b.c b.is b.ends b.least
+            end-is-cheapest v.t v.ground.passes v.searching (state_of (length v.t.initial) end)
+            (state_bits (length v.t.initial) end) b.p b.c b.is b.ends b.least
             (λ y bits r e is goal.
-            let there = state-of-code (length v.t.initial) y bits in
+            let there = state_of_code (length v.t.initial) y bits in
             let below : code y < n = rw v.ground.states (code_below (length v.t.initial) y bits) in
             b.best (code y) (omega arith) r e (rw there is) (rw there goal));
       }

@@ -3,11 +3,11 @@ use Prim.Native.Nat.{ℕ}
 use mathlib.Core.Path.{◌≡◌, refl}
 use mathlib.Core.List.{[], ◌∷◌}
 use Rattle.task.specs.Bounded.{upto}
-use Rattle.task.specs.Table.{Row, Task, formula-kind, effect-kind, operator}
+use Rattle.task.specs.Table.{Row, Task, formula_kind, effect_kind, operator}
 use Rattle.task.specs.Semantics.{holds, effcond, value_after, apply}
-use Rattle.task.specs.Tree.{formula-node, formula-within, formula-of, effect-node, effect-within, effect_of}
-use Rattle.task.specs.Run.{operator-of, effect-of-operator, goal-holds, applicable, charge-of, charge, after-step, answer, run_on, plain-run, unstopped, is-plan}
-use Rattle.cheapest_plan.specs.Cheapest.{behind, lists_of, lists-upto, Pick, no-plan, plan-of, no-dearer, unless-later, first-cheapest, cheapest}
+use Rattle.task.specs.Tree.{formula_node, formula_within, formula_of, effect_node, effect_within, effect_of}
+use Rattle.task.specs.Run.{operator_of, effect_of_operator, goal_holds, applicable, charge_of, charge, after_step, answer, run_on, plain_run, unstopped, is_plan}
+use Rattle.cheapest_plan.specs.Cheapest.{behind, lists_of, lists_upto, Pick, no_plan, plan_of, no_dearer, unless_later, first_cheapest, cheapest}
 
 abbrev pub words : ℕ → ℕ → ℕ → Row
 words k a b = record { kind = k; a = a; b = b }
@@ -27,37 +27,37 @@ task first second goal =
 -- cheapest, computed
 result : (first second goal : ℕ) → Pick
 unfolding
-    upto formula-kind effect-kind holds effcond value_after apply formula-node formula-within formula-of effect-node effect-within effect_of
-    operator-of effect-of-operator goal-holds applicable charge-of charge after-step answer run_on plain-run unstopped is-plan
-    behind lists_of lists-upto no-dearer unless-later first-cheapest cheapest
+    upto formula_kind effect_kind holds effcond value_after apply formula_node formula_within formula_of effect_node effect_within effect_of
+    operator_of effect_of_operator goal_holds applicable charge_of charge after_step answer run_on plain_run unstopped is_plan
+    behind lists_of lists_upto no_dearer unless_later first_cheapest cheapest
 result first second goal = cheapest (task first second goal)
 
 -- v1 by operator 0 twice or by operator 1 once, both for nothing: fewer steps come before lower numbers
-pub fewest-steps : cheapest (task 0 0 1) ≡ plan-of (1 ∷ []) 0
+pub fewest_steps : cheapest (task 0 0 1) ≡ plan_of (1 ∷ []) 0
 unfolding result
-fewest-steps = refl
+fewest_steps = refl
 
 -- the same where operator 1 costs 1: less cost comes before fewer steps
-pub least-cost : cheapest (task 0 1 1) ≡ plan-of (0 ∷ 0 ∷ []) 0
+pub least_cost : cheapest (task 0 1 1) ≡ plan_of (0 ∷ 0 ∷ []) 0
 unfolding result
-least-cost = refl
+least_cost = refl
 
 -- v0 or v1, by either operator at the same cost: the lower number
-pub lower-number : cheapest (task 2 2 4) ≡ plan-of (0 ∷ []) 2
+pub lower_number : cheapest (task 2 2 4) ≡ plan_of (0 ∷ []) 2
 unfolding result
-lower-number = refl
+lower_number = refl
 
 -- v0 by operator 0
-pub only-first : cheapest (task 5 0 0) ≡ plan-of (0 ∷ []) 5
+pub only_first : cheapest (task 5 0 0) ≡ plan_of (0 ∷ []) 5
 unfolding result
-only-first = refl
+only_first = refl
 
 -- the goal holds at the start: the empty plan
-pub at_once : cheapest (task 1 1 2) ≡ plan-of [] 0
+pub at_once : cheapest (task 1 1 2) ≡ plan_of [] 0
 unfolding result
 at_once = refl
 
 -- it holds nowhere
-pub nowhere : cheapest (task 0 0 3) ≡ no-plan
+pub nowhere : cheapest (task 0 0 3) ≡ no_plan
 unfolding result
 nowhere = refl

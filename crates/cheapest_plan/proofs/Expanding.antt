@@ -5,55 +5,55 @@ use mathlib.Core.Path.{◌≡◌, refl, sym, ap, ◌∙◌}
 use mathlib.Core.Bool.{Bool, true, false}
 use mathlib.Core.List.{List}
 use lib.ListN.{length, get_or}
-use Rattle.task.specs.Table.{Operator, operator-at}
-use Rattle.task.specs.Run.{applicable, charge-of, charge, operator-of}
+use Rattle.task.specs.Table.{Operator, operator_at}
+use Rattle.task.specs.Run.{applicable, charge_of, charge, operator_of}
 use Rattle.task.specs.Inner.Values.{bit}
-use Rattle.state_codes.specs.Inner.Masks.{next-code}
+use Rattle.state_codes.specs.Inner.Masks.{next_code}
 use Rattle.state_queue.specs.Inner.Queue.{Roomy}
-use Rattle.cheapest_plan.specs.Inner.States.{Bits, state-of}
+use Rattle.cheapest_plan.specs.Inner.States.{Bits, state_of}
 use Rattle.cheapest_plan.specs.Inner.Tables.{Stepping, Noting, Relaxable, Zeros, Relaxes}
 use Rattle.cheapest_plan.specs.Inner.Visits.{Stage, SteppedTo, NotedTo}
-use Rattle.cheapest_plan.proofs.States.{state-bits}
+use Rattle.cheapest_plan.proofs.States.{state_bits}
 use Rattle.cheapest_plan.proofs.Searching.{passed_over}
 use Rattle.cheapest_plan.proofs.Relaxing.{taken-short, taken-cheap}
 
 -- a bit that is 0, and one that is not
-pub bit-false : (b : Bool) → bit b ≡ 0 → b ≡ false
+pub bit_false : (b : Bool) → bit b ≡ 0 → b ≡ false
 unfolding bit
-bit-false false e = refl
-bit-false true e = absurd (omega arith)
+bit_false false e = refl
+bit_false true e = absurd (omega arith)
 
-pub bit-true : (b : Bool) → (bit b ≡ 0 → ⊥) → b ≡ true
+pub bit_true : (b : Bool) → (bit b ≡ 0 → ⊥) → b ≡ true
 unfolding bit
-bit-true true e = refl
-bit-true false e = absurd (e refl)
+bit_true true e = refl
+bit_true false e = absurd (e refl)
 
-pub zeros-none : {n : ℕ} {words : List ℕ} → Zeros n words words
-zeros-none = record { stay = λ s l z. z }
+pub zeros_none : {n : ℕ} {words : List ℕ} → Zeros n words words
+zeros_none = record { stay = λ s l z. z }
 
-pub zeros-on : {n : ℕ} {a b c : List ℕ} → Zeros n a b → Zeros n b c → Zeros n a c
-zeros-on x y = record { stay = λ s l z. y.stay s l (x.stay s l z) }
+pub zeros_on : {n : ℕ} {a b c : List ℕ} → Zeros n a b → Zeros n b c → Zeros n a c
+zeros_on x y = record { stay = λ s l z. y.stay s l (x.stay s l z) }
 
 module _
     {n : ℕ} {operators : List ℕ} {count state cost steps : ℕ} {values masks : List ℕ}
     (h : Stage n operators count state cost steps values masks)
     {words notes : List ℕ} {k : ℕ} (at : NotedTo h words notes k) (below : k < count)
   where
-    place : Bits (length h.t.initial) (state-of (length h.t.initial) state)
-    place = state-bits (length h.t.initial) state
+    place : Bits (length h.t.initial) (state_of (length h.t.initial) state)
+    place = state_bits (length h.t.initial) state
 
-    pub effect-inside : {effect : ℕ} → effect ≡ (operator-at operators k).effect → effect < length masks
+    pub effect-inside : {effect : ℕ} → effect ≡ (operator_at operators k).effect → effect < length masks
     effect-inside e = rw e (h.effect k below)
 
-    module _ {asked : ℕ} (precondition : asked ≡ (operator-at operators k).precondition) where
+    module _ {asked : ℕ} (precondition : asked ≡ (operator_at operators k).precondition) where
       pub asked-inside : asked < length values
       asked-inside = rw precondition (h.precondition k below)
 
       -- it is not applicable
       pub not-stepped : get_or values asked 0 ≡ 0 → NotedTo h words notes (k + 1)
       not-stepped z =
-          let no : applicable h.t (state-of (length h.t.initial) state) k ≡ false =
-          bit-false (applicable h.t (state-of (length h.t.initial) state) k)
+          let no : applicable h.t (state_of (length h.t.initial) state) k ≡ false =
+          bit_false (applicable h.t (state_of (length h.t.initial) state) k)
           (sym (h.applies k below) ∙ ap (λ (x : ℕ). get_or values x 0) (sym precondition) ∙ z) in
           record {
             stepping =
@@ -62,7 +62,7 @@ module _
                   holds = at.stepping.holds;
                   queue = at.stepping.queue;
                   searching = passed_over h.t h.ground.passes at.stepping.searching place no;
-                  is-taken = at.stepping.is-taken;
+                  is_taken = at.stepping.is_taken;
                   fresh = λ x o e l is. omega (arith, at.stepping.fresh x o e l is);
                 };
             noted = at.noted;
@@ -71,39 +71,39 @@ module _
       module _
           (yes : get_or values asked 0 ≡ 0 → ⊥)
           {effect price : ℕ}
-          (changes : effect ≡ (operator-at operators k).effect)
-          (charged : price ≡ charge-of (operator-at operators k))
+          (changes : effect ≡ (operator_at operators k).effect)
+          (charged : price ≡ charge_of (operator_at operators k))
         where
-          pub charge-is : charge h.t (state-of (length h.t.initial) state) k ≡ price
+          pub charge-is : charge h.t (state_of (length h.t.initial) state) k ≡ price
           unfolding charge
-          charge-is = ap charge-of (h.row k below) ∙ sym charged
+          charge-is = ap charge_of (h.row k below) ∙ sym charged
 
           -- the sums fit
           pub sums-fit : (cost + price ≤ 134215681) × (steps + 1 ≤ 1024)
           sums-fit =
-              let s = state-of (length h.t.initial) state in
-              let c = taken-cheap h.ground at.stepping.searching s place h.p h.c at.stepping.is-taken in
-              let d = taken-short h.ground at.stepping.searching s place h.p h.c at.stepping.is-taken in
+              let s = state_of (length h.t.initial) state in
+              let c = taken-cheap h.ground at.stepping.searching s place h.p h.c at.stepping.is_taken in
+              let d = taken-short h.ground at.stepping.searching s place h.p h.c at.stepping.is_taken in
               let e = h.ground.cheap s k in
               (omega (arith, h.costs, h.ground.few, charge-is), omega (arith, h.size, h.ground.few))
 
           unfoldable pub relaxable :
-              {to : ℕ} → to ≡ next-code state (get_or masks effect 0) → Relaxable n words to (cost + price) (steps + 1) (256 * (state + 1) + k) notes
+              {to : ℕ} → to ≡ next_code state (get_or masks effect 0) → Relaxable n words to (cost + price) (steps + 1) (256 * (state + 1) + k) notes
           relaxable {to} there =
-              let whole : to ≡ next-code state (get_or masks (operator-at operators k).effect 0) =
-              there ∙ ap (λ (x : ℕ). next-code state (get_or masks x 0)) changes in
+              let whole : to ≡ next_code state (get_or masks (operator_at operators k).effect 0) =
+              there ∙ ap (λ (x : ℕ). next_code state (get_or masks x 0)) changes in
               record {
                 t = h.t;
                 ground = h.ground;
                 from = state;
-                from-state = h.here;
+                from_state = h.here;
                 k = k;
                 number = omega (arith, h.few);
                 p = h.p;
                 c = h.c;
                 stepping = at.stepping;
                 noted = at.noted;
-                applies = bit-true (applicable h.t (state-of (length h.t.initial) state) k)
+                applies = bit_true (applicable h.t (state_of (length h.t.initial) state) k)
                     (λ z. yes (ap (λ (x : ℕ). get_or values x 0) precondition ∙ h.applies k below ∙ z));
                 there = rw whole (h.inside k below);
                 target = rw whole (h.leads k below);
@@ -113,7 +113,7 @@ module _
               }
 
           pub stepped-on :
-              {to : ℕ} {after r : List ℕ} (there : to ≡ next-code state (get_or masks effect 0))
+              {to : ℕ} {after r : List ℕ} (there : to ≡ next_code state (get_or masks effect 0))
               → Relaxes n to (cost + price) (steps + 1) (256 * (state + 1) + k) notes words after r
               → NotedTo h after r (k + 1)
           unfolding relaxable

@@ -10,10 +10,10 @@ use borrow.Author.Tests.{lt-ltb, ltb-true}
 use lib.Dec.{ltb}
 use Rattle.task.specs.Table.{Task}
 use Rattle.task.specs.Semantics.{sets, clears, effcond, value_after, apply}
-use Rattle.task.specs.Run.{goal-holds, applicable, charge, effect-of-operator, operator-of, Progress, after-step, ended, Run, answer, run_on, plain-run, unstopped, is-plan}
+use Rattle.task.specs.Run.{goal_holds, applicable, charge, effect_of_operator, operator_of, Progress, after_step, ended, Run, answer, run_on, plain_run, unstopped, is_plan}
 use Rattle.task.proofs.Bounded.{and_left, and_right, getD-upto}
-use Rattle.task.proofs.Runs.{permits, Does, none, more, start, ended-run, goal-told, length-after, plan-exactly-if}
-use Rattle.cheapest_plan.specs.Order.{Plan, cost-of}
+use Rattle.task.proofs.Runs.{permits, Does, none, more, start, ended-run, goal_told, length-after, plan_exactly_if}
+use Rattle.cheapest_plan.specs.Order.{Plan, cost_of}
 use Rattle.cheapest_plan.specs.Inner.Leads.{next, Leads, stays, goes, Below, nothing, number}
 use Rattle.cheapest_plan.specs.Inner.States.{Bits}
 
@@ -25,33 +25,33 @@ same_answer :
     → answer t (record { state = s; steps = n; cost = c }) ended ≡ answer t (record { state = s'; steps = n'; cost = c' }) ended
 same_answer t e f g = rw (e, f, g)
 
-pub below-operators : (t : Task) (s : List ℕ) (o : ℕ) → applicable t s o ≡ true → o < length t.operators
-unfolding applicable operator-of
-below-operators t s o a = ltb-true o (length t.operators) (and_left (ltb o (length t.operators)) (permits t s o) a)
+pub below_operators : (t : Task) (s : List ℕ) (o : ℕ) → applicable t s o ≡ true → o < length t.operators
+unfolding applicable operator_of
+below_operators t s o a = ltb-true o (length t.operators) (and_left (ltb o (length t.operators)) (permits t s o) a)
 
 pub permitted : (t : Task) (s : List ℕ) (o : ℕ) → applicable t s o ≡ true → permits t s o ≡ true
-unfolding applicable operator-of
+unfolding applicable operator_of
 permitted t s o a = and_right (ltb o (length t.operators)) (permits t s o) a
 
-pub is-applicable : (t : Task) (s : List ℕ) (o : ℕ) → o < length t.operators → permits t s o ≡ true → applicable t s o ≡ true
-unfolding applicable operator-of
-is-applicable t s o below e = rw (lt-ltb o (length t.operators) below) e
+pub is_applicable : (t : Task) (s : List ℕ) (o : ℕ) → o < length t.operators → permits t s o ≡ true → applicable t s o ≡ true
+unfolding applicable operator_of
+is_applicable t s o below e = rw (lt-ltb o (length t.operators) below) e
 
 -- what a run answers for a list that leads somewhere
-pub leads-run :
+pub leads_run :
     {t : Task} {s numbers to : List ℕ} {c : ℕ}
     → Leads t s numbers to c
     → (p : Progress)
     → p.state ≡ s
     → run_on t p numbers ≡ answer t (record { state = to; steps = p.steps + length numbers; cost = p.cost + c }) ended
-unfolding run_on after-step next
-leads-run {t} (stays e z) p at = same_answer t (at ∙ e) (omega arith) (omega arith)
-leads-run {t} {c = c} (goes {s = s} {to = to} {numbers = rest} {o = o} {d = d} a l z) p at =
+unfolding run_on after_step next
+leads_run {t} (stays e z) p at = same_answer t (at ∙ e) (omega arith) (omega arith)
+leads_run {t} {c = c} (goes {s = s} {to = to} {numbers = rest} {o = o} {d = d} a l z) p at =
     let now : applicable t p.state o ≡ true = rw at a in
-    let below = lt-ltb o (length t.operators) (below-operators t p.state o now) in
+    let below = lt-ltb o (length t.operators) (below_operators t p.state o now) in
     let charged : charge t p.state o ≡ charge t s o = ap (λ (x : List ℕ). charge t x o) at in
     rw (below, now)
-    (leads-run l (after-step t p o) (ap (λ (x : List ℕ). next t x o) at)
+    (leads_run l (after_step t p o) (ap (λ (x : List ℕ). next t x o) at)
     ∙ same_answer t refl (omega arith) (omega arith))
 
 -- and that a run which is not stopped leads where it says
@@ -60,27 +60,27 @@ pub record LeadsOn (t : Task) (p : Progress) (numbers : List ℕ) (q : Progress)
   pub leads : Leads t p.state numbers q.state charged
   pub cost : p.cost + charged ≡ q.cost
 
-does-leads : {t : Task} {p q : Progress} {numbers : List ℕ} → Does t p numbers q → LeadsOn t p numbers q
-unfolding after-step next
-does-leads none = record { charged = 0; leads = stays refl refl; cost = omega arith }
-does-leads {t} {p} (more {o = o} below e d) =
-    let l = does-leads d in
+does_leads : {t : Task} {p q : Progress} {numbers : List ℕ} → Does t p numbers q → LeadsOn t p numbers q
+unfolding after_step next
+does_leads none = record { charged = 0; leads = stays refl refl; cost = omega arith }
+does_leads {t} {p} (more {o = o} below e d) =
+    let l = does_leads d in
     let sum = l.cost in
     record {
       charged = charge t p.state o + l.charged;
-      leads = goes (is-applicable t p.state o below e) l.leads refl;
+      leads = goes (is_applicable t p.state o below e) l.leads refl;
       cost = omega arith;
     }
 
-pub run-leads :
+pub run_leads :
     (t : Task) (s numbers : List ℕ)
-    → (plain-run t s numbers).stop ≡ ended
-    → let r = plain-run t s numbers in
+    → (plain_run t s numbers).stop ≡ ended
+    → let r = plain_run t s numbers in
     Leads t s numbers r.state r.cost
 unfolding answer
-run-leads t s numbers e =
+run_leads t s numbers e =
     let r = ended-run t s numbers e in
-    let l = does-leads r.done in
+    let l = does_leads r.done in
     let sum = l.cost in
     let total : r.at.cost ≡ l.charged = omega arith in
     rw (r.answers, total) l.leads
@@ -167,53 +167,53 @@ module _ {t : Task} where
   -- its numbers are all below O
   pub leads-below : {s p to : List ℕ} {c : ℕ} → Leads t s p to c → Below (length t.operators) p
   leads-below (stays e z) = nothing
-  leads-below (goes {s = s} {o = o} a l z) = number (below-operators t s o a) (leads-below l)
+  leads-below (goes {s = s} {o = o} a l z) = number (below_operators t s o a) (leads-below l)
 
 -- a plan is a list that leads from the initial state to one where the goal holds
 pub record Reaches (t : Task) (numbers : List ℕ) : Type 0 where
   pub at : List ℕ
-  pub leads : Leads t t.initial numbers at (cost-of t numbers)
-  pub goal : goal-holds t at ≡ true
+  pub leads : Leads t t.initial numbers at (cost_of t numbers)
+  pub goal : goal_holds t at ≡ true
 
 module _ (t : Task) (numbers : List ℕ) where
   pub plan-reaches : Plan t numbers → Reaches t numbers
-  unfolding goal-holds
+  unfolding goal_holds
   plan-reaches p =
-      let r = plain-run t t.initial numbers in
-      let h = (plan-exactly-if r).0 p in
+      let r = plain_run t t.initial numbers in
+      let h = (plan_exactly_if r).0 p in
       record {
         at = r.state;
-        leads = run-leads t t.initial numbers h.0;
-        goal = sym (goal-told t t.initial numbers) ∙ h.1;
+        leads = run_leads t t.initial numbers h.0;
+        goal = sym (goal_told t t.initial numbers) ∙ h.1;
       }
 
   pub reaches-plan :
-      {to : List ℕ} {c : ℕ} → Leads t t.initial numbers to c → goal-holds t to ≡ true → Plan t numbers × (cost-of t numbers ≡ c)
-  unfolding plain-run answer is-plan unstopped
+      {to : List ℕ} {c : ℕ} → Leads t t.initial numbers to c → goal_holds t to ≡ true → Plan t numbers × (cost_of t numbers ≡ c)
+  unfolding plain_run answer is_plan unstopped
   reaches-plan {to} {c} l g =
-      let told = leads-run l (start t.initial) refl in
+      let told = leads_run l (start t.initial) refl in
       let plan : Plan t numbers = rw told g in
       let from-none : 0 + c ≡ c = omega arith in
       (plan, ap (λ (r : Run). r.cost) told ∙ from-none)
 
 -- each state that a list comes to is one of V bits
-value-bits : (p q : Bool) {x : ℕ} → x ≤ 1 → cond p 1 (cond q 0 x) ≤ 1
-value-bits true q h = omega arith
-value-bits false true h = omega arith
-value-bits false false h = h
+value_bits : (p q : Bool) {x : ℕ} → x ≤ 1 → cond p 1 (cond q 0 x) ≤ 1
+value_bits true q h = omega arith
+value_bits false true h = omega arith
+value_bits false false h = h
 
-pub next-bits : (t : Task) {v : ℕ} {s : List ℕ} (o : ℕ) → Bits v s → Bits v (next t s o)
+pub next_bits : (t : Task) {v : ℕ} {s : List ℕ} (o : ℕ) → Bits v s → Bits v (next t s o)
 unfolding next apply value_after
-next-bits t {v} {s} o b =
+next_bits t {v} {s} o b =
     record {
-      size = length-after s (effect-of-operator t o) ∙ b.size;
+      size = length-after s (effect_of_operator t o) ∙ b.size;
       bits =
-          λ k below. let inside : k < length s = rw (length-after s (effect-of-operator t o)) at below in
-          rw (getD-upto (length s) (value_after s (effect-of-operator t o)) k 0 inside)
-          (value-bits (effcond s (sets k) (effect-of-operator t o)) (effcond s (clears k) (effect-of-operator t o))
+          λ k below. let inside : k < length s = rw (length-after s (effect_of_operator t o)) at below in
+          rw (getD-upto (length s) (value_after s (effect_of_operator t o)) k 0 inside)
+          (value_bits (effcond s (sets k) (effect_of_operator t o)) (effcond s (clears k) (effect_of_operator t o))
           (b.bits k inside));
     }
 
-pub leads-bits : {t : Task} {v : ℕ} {s p to : List ℕ} {c : ℕ} → Leads t s p to c → Bits v s → Bits v to
-leads-bits (stays e z) b = rw (← e) b
-leads-bits {t} (goes {o = o} a l z) b = leads-bits l (next-bits t o b)
+pub leads_bits : {t : Task} {v : ℕ} {s p to : List ℕ} {c : ℕ} → Leads t s p to c → Bits v s → Bits v to
+leads_bits (stays e z) b = rw (← e) b
+leads_bits {t} (goes {o = o} a l z) b = leads_bits l (next_bits t o b)

@@ -18,16 +18,16 @@ use mathlib.Core.List.Memᴰ.{append_right as among-right}
 use mathlib.Core.List.Memᴰ.{map as among-map}
 use mathlib.Core.List.Memᴰ.{of_map}
 use lib.ListN.{length}
-use Rattle.cheapest_plan.specs.Cheapest.{behind, lists_of, lists-upto}
+use Rattle.cheapest_plan.specs.Cheapest.{behind, lists_of, lists_upto}
 use Rattle.cheapest_plan.specs.Order.{FirstByNumbers, differ, agree}
 use Rattle.cheapest_plan.specs.Inner.Leads.{Below, nothing, number}
 
 -- every list of numbers below o stands in it
-behind-has :
+behind_has :
     {a : ℕ} {rest : List ℕ} (o : ℕ) {rests : List (List ℕ)} → a < o → Among rest rests → Among (a ∷ rest) (behind o rests)
 unfolding behind
-behind-has zero below m = absurd (not-suc-le-zero below)
-behind-has {a} {rest} (suc o) {rests} below m = go (dec_lt a o) (λ l. behind-has o l m)
+behind_has zero below m = absurd (not-suc-le-zero below)
+behind_has {a} {rest} (suc o) {rests} below m = go (dec_lt a o) (λ l. behind_has o l m)
   where
     go :
         Dec (a < o)
@@ -38,25 +38,25 @@ behind-has {a} {rest} (suc o) {rests} below m = go (dec_lt a o) (λ l. behind-ha
         let same : a ≡ o = omega arith in
         rw same (among-right (behind o rests) (among-map (λ (l : List ℕ). o ∷ l) m))
 
-lists-have : {o : ℕ} {p : List ℕ} → Below o p → Among p (lists_of o (length p))
+lists_have : {o : ℕ} {p : List ℕ} → Below o p → Among p (lists_of o (length p))
 unfolding lists_of
-lists-have nothing = here refl
-lists-have {o} (number below rest) = behind-has o below (lists-have rest)
+lists_have nothing = here refl
+lists_have {o} (number below rest) = behind_has o below (lists_have rest)
 
-pub upto-has : {o : ℕ} {p : List ℕ} (n : ℕ) → Below o p → length p ≤ n → Among p (lists-upto o n)
-unfolding lists-upto
-upto-has {o} {p} zero b short =
+pub upto_has : {o : ℕ} {p : List ℕ} (n : ℕ) → Below o p → length p ≤ n → Among p (lists_upto o n)
+unfolding lists_upto
+upto_has {o} {p} zero b short =
     let size : length p ≡ zero = omega arith in
-    rw size at (lists-have b)
-upto-has {o} {p} (suc n) b short = go (dec_lt n (length p)) (λ l. upto-has n b l)
+    rw size at (lists_have b)
+upto_has {o} {p} (suc n) b short = go (dec_lt n (length p)) (λ l. upto_has n b l)
   where
     go :
         Dec (n < length p)
-        → (length p ≤ n → Among p (lists-upto o n))
-        → Among p (lists-upto o n ++ lists_of o (suc n))
+        → (length p ≤ n → Among p (lists_upto o n))
+        → Among p (lists_upto o n ++ lists_of o (suc n))
     go (yes l) had =
         let size : length p ≡ suc n = omega arith in
-        among-right (lists-upto o n) (rw size at (lists-have b))
+        among-right (lists_upto o n) (rw size at (lists_have b))
     go (no l) had = among-left (lists_of o (suc n)) (had (omega arith))
 
 -- a list that stands behind a number below o
@@ -91,14 +91,14 @@ lists_length o (suc n) m =
     let f = front o m in
     ap length (sym f.is) ∙ ap suc (lists_length o n f.among)
 
-pub upto-length : (o n : ℕ) {p : List ℕ} → Among p (lists-upto o n) → length p ≤ n
-unfolding lists-upto
-upto-length o zero m = omega (arith, lists_length o zero m)
-upto-length o (suc n) {p} m = go (among_cases (lists-upto o n) m) (λ l. upto-length o n l)
+pub upto_length : (o n : ℕ) {p : List ℕ} → Among p (lists_upto o n) → length p ≤ n
+unfolding lists_upto
+upto_length o zero m = omega (arith, lists_length o zero m)
+upto_length o (suc n) {p} m = go (among_cases (lists_upto o n) m) (λ l. upto_length o n l)
   where
     go :
-        Among p (lists-upto o n) ⊎ Among p (lists_of o (suc n))
-        → (Among p (lists-upto o n) → length p ≤ n)
+        Among p (lists_upto o n) ⊎ Among p (lists_of o (suc n))
+        → (Among p (lists_upto o n) → length p ≤ n)
         → length p ≤ suc n
     go (inl l) lower = omega (arith, lower l)
     go (inr l) lower = omega (arith, lists_length o (suc n) l)
@@ -112,42 +112,42 @@ pub data Ordered : List (List ℕ) → Type 0 where
   ends : Ordered []
   then : {p : List ℕ} {rest : List (List ℕ)} → ((q : List ℕ) → Among q rest → Earlier p q) → Ordered rest → Ordered (p ∷ rest)
 
-ordered-append :
+ordered_append :
     {l m : List (List ℕ)}
     → Ordered l
     → Ordered m
     → ((p q : List ℕ) → Among p l → Among q m → Earlier p q)
     → Ordered (l ++ m)
-ordered-append ends y across = y
-ordered-append {m = m} (then {p = p} {rest = rest} each x) y across =
-    then (λ q k. go q (among_cases rest k)) (ordered-append x y (λ a b i j. across a b (there i) j))
+ordered_append ends y across = y
+ordered_append {m = m} (then {p = p} {rest = rest} each x) y across =
+    then (λ q k. go q (among_cases rest k)) (ordered_append x y (λ a b i j. across a b (there i) j))
   where
     go : (q : List ℕ) → Among q rest ⊎ Among q m → Earlier p q
     go q (inl i) = each q i
     go q (inr j) = across p q (here refl) j
 
-earlier-behind : (a : ℕ) {p q : List ℕ} → Earlier p q → Earlier (a ∷ p) (a ∷ q)
-earlier-behind a (fewer l) = fewer (omega arith)
-earlier-behind a (first f) = first (agree refl f)
+earlier_behind : (a : ℕ) {p q : List ℕ} → Earlier p q → Earlier (a ∷ p) (a ∷ q)
+earlier_behind a (fewer l) = fewer (omega arith)
+earlier_behind a (first f) = first (agree refl f)
 
-ordered-map : (a : ℕ) {rests : List (List ℕ)} → Ordered rests → Ordered (map (λ (l : List ℕ). a ∷ l) rests)
-ordered-map a ends = ends
-ordered-map a (then {p = p} {rest = rest} each x) =
-    then before (ordered-map a x)
+ordered_map : (a : ℕ) {rests : List (List ℕ)} → Ordered rests → Ordered (map (λ (l : List ℕ). a ∷ l) rests)
+ordered_map a ends = ends
+ordered_map a (then {p = p} {rest = rest} each x) =
+    then before (ordered_map a x)
   where
     before : (q : List ℕ) → Among q (map (λ (l : List ℕ). a ∷ l) rest) → Earlier (a ∷ p) q
     before q k =
         let f = of_map (λ (l : List ℕ). a ∷ l) rest k in
-        rw (← f.2) (earlier-behind a (each f.0 f.1))
+        rw (← f.2) (earlier_behind a (each f.0 f.1))
 
-ordered-behind :
+ordered_behind :
     (o : ℕ) {rests : List (List ℕ)}
     → Ordered rests
     → ((p q : List ℕ) → Among p rests → Among q rests → length p ≡ length q)
     → Ordered (behind o rests)
 unfolding behind
-ordered-behind zero x same = ends
-ordered-behind (suc o) {rests} x same = ordered-append (ordered-behind o x same) (ordered-map o x) across
+ordered_behind zero x same = ends
+ordered_behind (suc o) {rests} x same = ordered_append (ordered_behind o x same) (ordered_map o x) across
   where
     across : (p q : List ℕ) → Among p (behind o rests) → Among q (map (λ (l : List ℕ). o ∷ l) rests) → Earlier p q
     across p q i j =
@@ -155,15 +155,15 @@ ordered-behind (suc o) {rests} x same = ordered-append (ordered-behind o x same)
         let g = of_map (λ (l : List ℕ). o ∷ l) rests j in
         rw (← f.is, ← g.2) (first (differ f.below (same f.rest g.0 f.among g.1)))
 
-ordered-lists : (o n : ℕ) → Ordered (lists_of o n)
+ordered_lists : (o n : ℕ) → Ordered (lists_of o n)
 unfolding lists_of
-ordered-lists o zero = then (λ q k. absurd (none-among k)) ends
-ordered-lists o (suc n) =
-    ordered-behind o (ordered-lists o n) (λ p q i j. lists_length o n i ∙ sym (lists_length o n j))
+ordered_lists o zero = then (λ q k. absurd (none-among k)) ends
+ordered_lists o (suc n) =
+    ordered_behind o (ordered_lists o n) (λ p q i j. lists_length o n i ∙ sym (lists_length o n j))
 
-pub ordered-upto : (o n : ℕ) → Ordered (lists-upto o n)
-unfolding lists-upto
-ordered-upto o zero = ordered-lists o zero
-ordered-upto o (suc n) =
-    ordered-append (ordered-upto o n) (ordered-lists o (suc n))
-    (λ p q i j. fewer (omega (arith, upto-length o n i, lists_length o (suc n) j)))
+pub ordered_upto : (o n : ℕ) → Ordered (lists_upto o n)
+unfolding lists_upto
+ordered_upto o zero = ordered_lists o zero
+ordered_upto o (suc n) =
+    ordered_append (ordered_upto o n) (ordered_lists o (suc n))
+    (λ p q i j. fewer (omega (arith, upto_length o n i, lists_length o (suc n) j)))

@@ -13,15 +13,15 @@ use Rattle.cheapest_plan.specs.Order.{Before, cheaper, shorter}
 use Rattle.cheapest_plan.specs.Inner.Leads.{Leads}
 use Rattle.cheapest_plan.specs.Inner.States.{Bits, code}
 use Rattle.cheapest_plan.specs.Inner.Search.{NoLater, equal, before}
-use Rattle.cheapest_plan.proofs.Order.{no-later-transitive}
-use Rattle.cheapest_plan.proofs.Leads.{Halves, leads-append, leads-split, leads-once, leads-bits}
-use Rattle.cheapest_plan.proofs.States.{code_below, code-tells}
+use Rattle.cheapest_plan.proofs.Order.{no_later_transitive}
+use Rattle.cheapest_plan.proofs.Leads.{Halves, leads-append, leads-split, leads-once, leads_bits}
+use Rattle.cheapest_plan.proofs.States.{code_below, code_tells}
 use Rattle.cheapest_plan.proofs.Pigeonhole.{pigeonhole}
 
 -- the numbers in front cost no more than all
-front-cost :
+front_cost :
     {t : Task} {s at to : List ℕ} {c d : ℕ} (p q : List ℕ) → Leads t s p at c → Leads t s (p ++ q) to d → c ≤ d
-front-cost p q l m =
+front_cost p q l m =
     let h = leads-split p m in
     let once = (leads-once l h.leads).1 in
     let sum = h.sum in
@@ -33,7 +33,7 @@ pub record Fewer (t : Task) (s p to : List ℕ) (c : ℕ) : Type 0 where
   pub cost : ℕ
   pub leads : Leads t s numbers to cost
   pub steps : length numbers < length p
-  pub no-dearer : cost ≤ c
+  pub no_dearer : cost ≤ c
 
 module _ {t : Task} {s p to : List ℕ} {c : ℕ} (l : Leads t s p to c) where
   -- where the first k numbers lead, and the others from there
@@ -49,8 +49,8 @@ module _ {t : Task} {s p to : List ℕ} {c : ℕ} (l : Leads t s p to c) where
       let parts : take j p ≡ take i p ++ take (j - i) (drop i p) =
       let all : j ≡ i + (j - i) = omega arith in
       ap (λ (k : ℕ). take k p) all ∙ take-add i (j - i) p in
-      let less-cost : first.first ≤ second.first =
-      front-cost (take i p) (take (j - i) (drop i p)) first.leads (rw parts at second.leads) in
+      let less_cost : first.first ≤ second.first =
+      front_cost (take i p) (take (j - i) (drop i p)) first.leads (rw parts at second.leads) in
       record {
         numbers = take i p ++ drop j p;
         cost = first.first + second.second;
@@ -58,20 +58,20 @@ module _ {t : Task} {s p to : List ℕ} {c : ℕ} (l : Leads t s p to c) where
         steps =
             omega
             (arith, length-append (take i p) (drop j p), length-take-le i p (omega arith), length-drop j p);
-        no-dearer = omega arith;
+        no_dearer = omega arith;
       }
 
   -- it comes to some state twice
   pub leave-loop : (v : ℕ) → Bits v s → 2 ^ v ≤ length p → Fewer t s p to c
   leave-loop v bits long =
-      let width : (k : ℕ) → Bits v (halfway k).at = λ k. leads-bits (halfway k).leads bits in
+      let width : (k : ℕ) → Bits v (halfway k).at = λ k. leads_bits (halfway k).leads bits in
       let w =
       pigeonhole (2 ^ v) (suc (length p)) (λ k. code (halfway k).at)
       (λ k below. code_below v (halfway k).at (width k))
       (omega arith) in
       let inside = w.below in
       leave-out w.first w.second w.less (omega arith)
-      (code-tells v (halfway w.first).at (halfway w.second).at (width w.first) (width w.second) w.same)
+      (code_tells v (halfway w.first).at (halfway w.second).at (width w.first) (width w.second) w.same)
 
 -- a list of at most 2^V - 1 numbers that leads to the same state and is no later in 02's order
 pub record Short (t : Task) (v : ℕ) (s p to : List ℕ) (c : ℕ) : Type 0 where
@@ -79,14 +79,14 @@ pub record Short (t : Task) (v : ℕ) (s p to : List ℕ) (c : ℕ) : Type 0 whe
   pub cost : ℕ
   pub leads : Leads t s numbers to cost
   pub steps : length numbers ≤ 2 ^ v - 1
-  pub no-later : NoLater cost numbers c p
+  pub no_later : NoLater cost numbers c p
 
-fewer-before : {t : Task} {s p to : List ℕ} {c : ℕ} → (f : Fewer t s p to c) → Before f.cost f.numbers c p
-fewer-before {p = p} {c = c} f = go (dec_lt f.cost c)
+fewer_before : {t : Task} {s p to : List ℕ} {c : ℕ} → (f : Fewer t s p to c) → Before f.cost f.numbers c p
+fewer_before {p = p} {c = c} f = go (dec_lt f.cost c)
   where
     go : Dec (f.cost < c) → Before f.cost f.numbers c p
     go (yes l) = cheaper l
-    go (no l) = let most = f.no-dearer in shorter (omega arith) f.steps
+    go (no l) = let most = f.no_dearer in shorter (omega arith) f.steps
 
 through :
     {t : Task} {v : ℕ} {s p to : List ℕ} {c : ℕ}
@@ -99,14 +99,14 @@ through f h =
       cost = h.cost;
       leads = h.leads;
       steps = h.steps;
-      no-later = no-later-transitive h.no-later (before (fewer-before f));
+      no_later = no_later_transitive h.no_later (before (fewer_before f));
     }
 
 -- a loop is left out while there is one, n times at most
 module _ {t : Task} {v : ℕ} {s to : List ℕ} (bits : Bits v s) where
   short-enough : {p : List ℕ} {c : ℕ} → length p < 2 ^ v → Leads t s p to c → Short t v s p to c
   short-enough {p} {c} few l =
-      record { numbers = p; cost = c; leads = l; steps = omega arith; no-later = equal refl refl }
+      record { numbers = p; cost = c; leads = l; steps = omega arith; no_later = equal refl refl }
 
   shorten-by : (n : ℕ) {p : List ℕ} {c : ℕ} → length p ≤ n → Leads t s p to c → Short t v s p to c
   shorten-by zero {p} fits l =

@@ -55,15 +55,15 @@ lowered x y other = go (dec_lt y x)
     go (yes l) = under l (rw (lt-ltb y x l))
     go (no l) = over (omega arith) (rw (le-ltb y x (omega arith)))
 
-lower-below : {x y m : ℕ} → Lowered x y → x < suc m → y < suc m → lower x y < m
-lower-below (under l e) p q = omega arith
-lower-below (over l e) p q = omega arith
+lower_below : {x y m : ℕ} → Lowered x y → x < suc m → y < suc m → lower x y < m
+lower_below (under l e) p q = omega arith
+lower_below (over l e) p q = omega arith
 
-lower-same : {x y z : ℕ} → Lowered x y → Lowered x z → lower x y ≡ lower x z → y ≡ z
-lower-same (under l e) (under m f) p = omega arith
-lower-same (under l e) (over m f) p = absurd (omega arith)
-lower-same (over l e) (under m f) p = absurd (omega arith)
-lower-same (over l e) (over m f) p = omega arith
+lower_same : {x y z : ℕ} → Lowered x y → Lowered x z → lower x y ≡ lower x z → y ≡ z
+lower_same (under l e) (under m f) p = omega arith
+lower_same (under l e) (over m f) p = absurd (omega arith)
+lower_same (over l e) (under m f) p = absurd (omega arith)
+lower_same (over l e) (over m f) p = omega arith
 
 pub pigeonhole : (m n : ℕ) (f : ℕ → ℕ) → ((k : ℕ) → k < n → f k < m) → m < n → Twice f n
 pigeonhole zero n f bound less = absurd (not-suc-le-zero (bound 0 less))
@@ -79,7 +79,7 @@ pigeonhole (suc m) (suc n) f bound less = go (meet f (f n) n) (λ g. λ b. pigeo
     go (inr other) smaller =
         let low : (k : ℕ) → k < n → Lowered (f n) (f k) = λ k l. lowered (f n) (f k) (other k l) in
         let at : (k : ℕ) → k < n → lower (f n) (f k) < m =
-        λ k l. lower-below (low k l) (bound n (omega arith)) (bound k (omega arith)) in
+        λ k l. lower_below (low k l) (bound n (omega arith)) (bound k (omega arith)) in
         let w = smaller (λ k. lower (f n) (f k)) at in
         let below = w.below in
         let less = w.less in
@@ -88,5 +88,5 @@ pigeonhole (suc m) (suc n) f bound less = go (meet f (f n) n) (λ g. λ b. pigeo
           second = w.second;
           less = less;
           below = omega arith;
-          same = lower-same (low w.first (omega arith)) (low w.second below) w.same;
+          same = lower_same (low w.first (omega arith)) (low w.second below) w.same;
         }

@@ -5,7 +5,7 @@ use mathlib.Core.Path.{◌≡◌, refl, sym, ap, ◌∙◌}
 use mathlib.Core.List.{List}
 use lib.ListN.{length, get_or, set, length-set}
 use lib.Seq.{get_or-set_same, get_or-set_other}
-use Rattle.state_queue.specs.Inner.Queue.{key, queue-cost, Roomy, Queue, Nearly, Changed, Played}
+use Rattle.state_queue.specs.Inner.Queue.{key, queue_cost, Roomy, Queue, Nearly, Changed, Played}
 use Rattle.state_queue.proofs.Changes.{changed-nearly}
 use Rattle.cheapest_plan.specs.Inner.Tables.{MayQueue, Elsewhere, QueuedNow}
 
@@ -59,14 +59,14 @@ module _ (words : List ℕ) (n s cost steps step : ℕ) where
           lasts = λ x l ne. other (2 * n + x) (λ z. omega arith) (λ z. omega arith) (λ z. ne (omega arith));
         }
 
-    pub key-stored : key (stored words n s cost steps step) n s ≡ queue-cost cost * 4294967296 + steps
+    pub key-stored : key (stored words n s cost steps step) n s ≡ queue_cost cost * 4294967296 + steps
     unfolding key
     key-stored = rw (cost-stored, steps-stored) refl
 
 -- what stands elsewhere, once nodes have changed too
-pub elsewhere-played :
+pub elsewhere_played :
     {n s : ℕ} {before mid after : List ℕ} → Elsewhere n s before mid → Played n mid after → s < n → Elsewhere n s before after
-elsewhere-played {n} e p l =
+elsewhere_played {n} e p l =
     record {
       costs = λ x m ne. p.front x (omega arith) ∙ e.costs x m ne;
       steps = λ x m ne. p.front (n + x) (omega arith) ∙ e.steps x m ne;
@@ -90,8 +90,8 @@ module _ {n : ℕ} {words : List ℕ} {s cost steps : ℕ} (h : MayQueue n words
   queued-now p =
       record {
         queue = p.queue;
-        cost-now = p.front s (omega (arith, h.there)) ∙ cost-stored words n s cost steps step h.there room;
-        steps-now = p.front (n + s) (omega (arith, h.there)) ∙ steps-stored words n s cost steps step h.there room;
-        step-now = p.front (2 * n + s) (omega (arith, h.there)) ∙ step-stored words n s cost steps step h.there room;
-        elsewhere = elsewhere-played (stored-elsewhere words n s cost steps step h.there room) p h.there;
+        cost_now = p.front s (omega (arith, h.there)) ∙ cost-stored words n s cost steps step h.there room;
+        steps_now = p.front (n + s) (omega (arith, h.there)) ∙ steps-stored words n s cost steps step h.there room;
+        step_now = p.front (2 * n + s) (omega (arith, h.there)) ∙ step-stored words n s cost steps step h.there room;
+        elsewhere = elsewhere_played (stored-elsewhere words n s cost steps step h.there room) p h.there;
       }

@@ -10,57 +10,57 @@ use lib.Dec.{leb}
 use lib.ListN.{length, get_or, get_or-eq_default}
 use lib.Pow.{shl_exact, pow_mono}
 use borrow.Author.Tests.{le-leb, lt-leb, leb-true}
-use Rattle.task.specs.Table.{Lent, Operator, operator-width, task-of, operator-at}
+use Rattle.task.specs.Table.{Lent, Operator, operator_width, task_of, operator_at}
 use Rattle.task.specs.Check.{refusal, unless}
-use Rattle.task.specs.Rules.{no-operator}
-use Rattle.task.proofs.Charges.{charge-most}
-use Rattle.task.specs.Run.{charge-of, charge, operator-of}
+use Rattle.task.specs.Rules.{no_operator}
+use Rattle.task.proofs.Charges.{charge_most}
+use Rattle.task.specs.Run.{charge_of, charge, operator_of}
 use Rattle.task.proofs.Bounded.{and_left, and_right, length-upto, getD-upto}
 use Rattle.task.proofs.Held.{length-initial, length-effects, length-operators}
 use Rattle.task.proofs.Kept.{kept-rules}
-use Rattle.stepper.specs.Stepped.{first_of, step-scratch-kept}
-use Rattle.stepper.proofs.Refusing.{first, first-none, rest-none, unless-kept, tables-ready}
-use Rattle.cheapest_plan.specs.Planned.{few-variables, search-scratch-kept, search-refusal}
+use Rattle.stepper.specs.Stepped.{first_of, step_scratch_kept}
+use Rattle.stepper.proofs.Refusing.{first, first_none, rest_none, unless_kept, tables-ready}
+use Rattle.cheapest_plan.specs.Planned.{few_variables, search_scratch_kept, search_refusal}
 use Rattle.cheapest_plan.specs.Inner.Visits.{TaskIn}
 use Rattle.cheapest_plan.specs.Inner.Plans.{PlanReady}
 
 -- 2 to a number of variables
-pub few-states : {v : ℕ} → v ≤ 10 → 2 ^ v ≤ 1024
-few-states few = pow_mono few
+pub few_states : {v : ℕ} → v ≤ 10 → 2 ^ v ≤ 1024
+few_states few = pow_mono few
 
-pub states-shifted : (v : ℕ) → v ≤ 10 → (1 * 2 ^ v % 18446744073709551616 ≡ 2 ^ v) × (1 * 2 ^ v % 18446744073709551616 ≤ 1024)
-states-shifted v few =
+pub states_shifted : (v : ℕ) → v ≤ 10 → (1 * 2 ^ v % 18446744073709551616 ≡ 2 ^ v) × (1 * 2 ^ v % 18446744073709551616 ≤ 1024)
+states_shifted v few =
     let e : 1 * 2 ^ v % 18446744073709551616 ≡ 2 ^ v = shl_exact {a = 1} 1 v 64 (omega arith) (omega arith) ∙ one-mul (2 ^ v) in
-    (e, omega (arith, few-states few))
+    (e, omega (arith, few_states few))
 
-unless-rest : (b : Bool) (n rest : ℕ) → (n ≡ 0 → ⊥) → unless b n rest ≡ 0 → rest ≡ 0
-unless-rest true n rest d e = e
-unless-rest false n rest d e = absurd (d e)
+unless_rest : (b : Bool) (n rest : ℕ) → (n ≡ 0 → ⊥) → unless b n rest ≡ 0 → rest ≡ 0
+unless_rest true n rest d e = e
+unless_rest false n rest d e = absurd (d e)
 
 -- the ways out of `refused_early`
 module _ (l : Lent) (scratch words : List ℕ) (n : ℕ) (checked : n ≡ refusal l) where
-  pub refused-tables : (n ≡ 0 → ⊥) → n ≡ search-refusal l scratch words
-  unfolding search-refusal
+  pub refused-tables : (n ≡ 0 → ⊥) → n ≡ search_refusal l scratch words
+  unfolding search_refusal
   refused-tables d =
-      rw (← checked) (first n (unless (few-variables l.head) 21 (unless (search-scratch-kept l.head scratch words) 14 0)) d)
+      rw (← checked) (first n (unless (few_variables l.head) 21 (unless (search_scratch_kept l.head scratch words) 14 0)) d)
 
   module _ (passed : n ≡ 0) where
     none : refusal l ≡ 0
     none = sym checked ∙ passed
 
-    pub refused-variables : 10 < l.head.variables → 21 ≡ search-refusal l scratch words
-    unfolding search-refusal few-variables
+    pub refused-variables : 10 < l.head.variables → 21 ≡ search_refusal l scratch words
+    unfolding search_refusal few_variables
     refused-variables h = rw (none, lt-leb l.head.variables 10 h)
 
     module _ (few : l.head.variables ≤ 10) where
-      pub refused-bytes : length scratch < l.head.formulas + l.head.effects → 14 ≡ search-refusal l scratch words
-      unfolding search-refusal few-variables search-scratch-kept step-scratch-kept
+      pub refused-bytes : length scratch < l.head.formulas + l.head.effects → 14 ≡ search_refusal l scratch words
+      unfolding search_refusal few_variables search_scratch_kept step_scratch_kept
       refused-bytes h =
           rw (none, le-leb l.head.variables 10 few, lt-leb (l.head.formulas + l.head.effects) (length scratch) h)
 
       module _ (bytes : l.head.formulas + l.head.effects ≤ length scratch) {states : ℕ} (is : states ≡ 2 ^ l.head.variables) where
-        pub refused-words : length words < 4 * states → 14 ≡ search-refusal l scratch words
-        unfolding search-refusal few-variables search-scratch-kept step-scratch-kept
+        pub refused-words : length words < 4 * states → 14 ≡ search_refusal l scratch words
+        unfolding search_refusal few_variables search_scratch_kept step_scratch_kept
         refused-words h =
             rw (
               none,
@@ -69,9 +69,9 @@ module _ (l : Lent) (scratch words : List ℕ) (n : ℕ) (checked : n ≡ refusa
               lt-leb (4 * 2 ^ l.head.variables) (length words) (rw is at h),
             )
 
-        pub not-refused : 4 * states ≤ length words → 0 ≡ search-refusal l scratch words
-        unfolding search-refusal few-variables search-scratch-kept step-scratch-kept
-        not-refused h =
+        pub not_refused : 4 * states ≤ length words → 0 ≡ search_refusal l scratch words
+        unfolding search_refusal few_variables search_scratch_kept step_scratch_kept
+        not_refused h =
             rw (
               none,
               le-leb l.head.variables 10 few,
@@ -81,59 +81,59 @@ module _ (l : Lent) (scratch words : List ℕ) (n : ℕ) (checked : n ≡ refusa
 
 -- once none is given, a search may begin
 module _ (l : Lent) (words16 : (i : ℕ) → get_or l.operators i 0 < 65536) where
-  low-cost : (o : ℕ) → o < l.head.operators → (get_or (task-of l).operators o no-operator).cost ≤ 65535
-  unfolding task-of operator-at
+  low-cost : (o : ℕ) → o < l.head.operators → (get_or (task_of l).operators o no_operator).cost ≤ 65535
+  unfolding task_of operator_at
   low-cost o h =
-      rw (getD-upto l.head.operators (operator-at l.operators) o no-operator h) (omega (arith, words16 (operator-width * o + 2)))
+      rw (getD-upto l.head.operators (operator_at l.operators) o no_operator h) (omega (arith, words16 (operator_width * o + 2)))
 
-  module _ (scratch words : List ℕ) (passed : search-refusal l scratch words ≡ 0) where
+  module _ (scratch words : List ℕ) (passed : search_refusal l scratch words ≡ 0) where
     later : ℕ
-    later = unless (few-variables l.head) 21 (unless (search-scratch-kept l.head scratch words) 14 0)
+    later = unless (few_variables l.head) 21 (unless (search_scratch_kept l.head scratch words) 14 0)
 
     pub tables-passed : refusal l ≡ 0
-    unfolding search-refusal later
-    tables-passed = first-none (refusal l) later passed
+    unfolding search_refusal later
+    tables-passed = first_none (refusal l) later passed
 
-    pub variables-few : l.head.variables ≤ 10
-    unfolding search-refusal later few-variables
-    variables-few =
+    pub variables_few : l.head.variables ≤ 10
+    unfolding search_refusal later few_variables
+    variables_few =
         leb-true l.head.variables 10
-        (unless-kept (few-variables l.head) 21 (unless (search-scratch-kept l.head scratch words) 14 0) (omega arith)
-        (rest-none (refusal l) later passed))
+        (unless_kept (few_variables l.head) 21 (unless (search_scratch_kept l.head scratch words) 14 0) (omega arith)
+        (rest_none (refusal l) later passed))
 
-    pub cheap : (s : List ℕ) (o : ℕ) → charge (task-of l) s o ≤ 131070
-    unfolding charge operator-of
-    cheap s o = go (dec_lt o (length (task-of l).operators))
+    pub cheap : (s : List ℕ) (o : ℕ) → charge (task_of l) s o ≤ 131070
+    unfolding charge operator_of
+    cheap s o = go (dec_lt o (length (task_of l).operators))
       where
-        go : Dec (o < length (task-of l).operators) → charge-of (get_or (task-of l).operators o no-operator) ≤ 131070
+        go : Dec (o < length (task_of l).operators) → charge_of (get_or (task_of l).operators o no_operator) ≤ 131070
         go (yes h) =
-            charge-most (get_or (task-of l).operators o no-operator) (low-cost o (rw (length-operators l) at h))
+            charge_most (get_or (task_of l).operators o no_operator) (low-cost o (rw (length-operators l) at h))
             ((kept-rules l tables-passed).1.operator o h).percent
         go (no h) =
-            let outside : length (task-of l).operators ≤ o = omega arith in
-            rw (get_or-eq_default (task-of l).operators no-operator {n = o} outside) (charge-most no-operator (omega arith) (omega arith))
+            let outside : length (task_of l).operators ≤ o = omega arith in
+            rw (get_or-eq_default (task_of l).operators no_operator {n = o} outside) (charge_most no_operator (omega arith) (omega arith))
 
-    roomy : (step-scratch-kept l.head scratch && leb (4 * 2 ^ l.head.variables) (length words)) ≡ true
-    unfolding search-refusal later search-scratch-kept
+    roomy : (step_scratch_kept l.head scratch && leb (4 * 2 ^ l.head.variables) (length words)) ≡ true
+    unfolding search_refusal later search_scratch_kept
     roomy =
-        unless-kept (search-scratch-kept l.head scratch words) 14 0 (omega arith)
-        (unless-rest (few-variables l.head) 21 (unless (search-scratch-kept l.head scratch words) 14 0) (omega arith)
-        (rest-none (refusal l) later passed))
+        unless_kept (search_scratch_kept l.head scratch words) 14 0 (omega arith)
+        (unless_rest (few_variables l.head) 21 (unless (search_scratch_kept l.head scratch words) 14 0) (omega arith)
+        (rest_none (refusal l) later passed))
 
     pub bytes-there : l.head.formulas + l.head.effects ≤ length scratch
-    unfolding step-scratch-kept
+    unfolding step_scratch_kept
     bytes-there =
         leb-true (l.head.formulas + l.head.effects) (length scratch)
-        (and_left (step-scratch-kept l.head scratch) (leb (4 * 2 ^ l.head.variables) (length words)) roomy)
+        (and_left (step_scratch_kept l.head scratch) (leb (4 * 2 ^ l.head.variables) (length words)) roomy)
 
     pub words-there : 4 * 2 ^ l.head.variables ≤ length words
     words-there =
         leb-true (4 * 2 ^ l.head.variables) (length words)
-        (and_right (step-scratch-kept l.head scratch) (leb (4 * 2 ^ l.head.variables) (length words)) roomy)
+        (and_right (step_scratch_kept l.head scratch) (leb (4 * 2 ^ l.head.variables) (length words)) roomy)
 
-    unfoldable pub tables-in : TaskIn (task-of l) l.head l.formulas l.effects l.operators
-    unfolding task-of
-    tables-in =
+    unfoldable pub tables_in : TaskIn (task_of l) l.head l.formulas l.effects l.operators
+    unfolding task_of
+    tables_in =
         let rules = kept-rules l tables-passed in
         record {
           variables = length-initial l rules.0;
@@ -145,19 +145,19 @@ module _ (l : Lent) (words16 : (i : ℕ) → get_or l.operators i 0 < 65536) whe
           few = omega (arith, rules.1.limits.operators, length-operators l);
         }
 
-    unfoldable pub search-ready : PlanReady l.head l.initial l.formulas l.effects l.operators scratch words
-    unfolding task-of
-    search-ready =
+    unfoldable pub search_ready : PlanReady l.head l.initial l.formulas l.effects l.operators scratch words
+    unfolding task_of
+    search_ready =
         let rules = kept-rules l tables-passed in
         record {
-          t = task-of l;
-          tables = tables-in;
+          t = task_of l;
+          tables = tables_in;
           passes = rules.1;
           cheap = cheap;
           starts = refl;
-          few = variables-few;
+          few = variables_few;
           there = rules.0.initial;
           effects = omega (arith, rules.1.limits.effects, length-effects l);
           room = omega (arith, bytes-there);
-          words-room = words-there;
+          words_room = words-there;
         }

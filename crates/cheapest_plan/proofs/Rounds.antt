@@ -10,19 +10,19 @@ use lib.ListN.{length, get_or}
 use borrow.Author.Tests.{eq-eqb, ne_eqb}
 use Rattle.task.specs.declared.Head.{Head}
 use Rattle.task.specs.Table.{Task}
-use Rattle.task.specs.Run.{goal-holds}
+use Rattle.task.specs.Run.{goal_holds}
 use Rattle.state_queue.specs.Inner.Queue.{winner, Roomy, Queue, queued as Waits-there}
 use Rattle.state_queue.proofs.Changes.{root-state}
-use Rattle.cheapest_plan.specs.Cheapest.{no-plan, cheapest}
-use Rattle.cheapest_plan.specs.Inner.States.{Bits, state-of}
+use Rattle.cheapest_plan.specs.Cheapest.{no_plan, cheapest}
+use Rattle.cheapest_plan.specs.Inner.States.{Bits, state_of}
 use Rattle.cheapest_plan.specs.Inner.Search.{Status, unreached, queued, Searching, Changed}
-use Rattle.cheapest_plan.specs.Inner.Tables.{at-start, Says, says-unreached, says-queued, Holds, Ground, Zeros}
-use Rattle.cheapest_plan.specs.Inner.Visits.{TaskIn, Known, Begun, GoalReady, Visitable, Visited, at-goal, passed, Visits, Searchable, SearchEnd, no_end, first-end}
-use Rattle.cheapest_plan.proofs.States.{state-bits}
+use Rattle.cheapest_plan.specs.Inner.Tables.{at_start, Says, says_unreached, says_queued, Holds, Ground, Zeros}
+use Rattle.cheapest_plan.specs.Inner.Visits.{TaskIn, Known, Begun, GoalReady, Visitable, Visited, at_goal, passed, Visits, Searchable, SearchEnd, no_end, first_end}
+use Rattle.cheapest_plan.proofs.States.{state_bits}
 use Rattle.cheapest_plan.proofs.Search.{empty-queue}
 use Rattle.cheapest_plan.proofs.Searching.{begun}
 use Rattle.cheapest_plan.proofs.Holding.{update, updated, other-state}
-use Rattle.cheapest_plan.proofs.Visiting.{none-queued, queued-word}
+use Rattle.cheapest_plan.proofs.Visiting.{none-queued, queued_word}
 
 -- how many of the states below n are not taken
 unfoldable pub untaken : List ℕ → ℕ → ℕ
@@ -30,8 +30,8 @@ untaken words zero = 0
 untaken words (suc n) = untaken words n + cond (eqb (get_or words n 0) 0) 0 1
 
 -- one word
-one-no-more : (a b : ℕ) → (a ≡ 0 → b ≡ 0) → cond (eqb b 0) 0 1 ≤ cond (eqb a 0) 0 1
-one-no-more a b z = go (ℕ_discrete a 0) (ℕ_discrete b 0)
+one_no_more : (a b : ℕ) → (a ≡ 0 → b ≡ 0) → cond (eqb b 0) 0 1 ≤ cond (eqb a 0) 0 1
+one_no_more a b z = go (ℕ_discrete a 0) (ℕ_discrete b 0)
   where
     go : Dec (a ≡ 0) → Dec (b ≡ 0) → cond (eqb b 0) 0 1 ≤ cond (eqb a 0) 0 1
     go x (yes e) = rw (eq-eqb b 0 e) (omega arith)
@@ -49,7 +49,7 @@ module _ (before after : List ℕ) where
       omega (
         arith,
         untaken-no-more n (λ s l z. stay s (omega arith) z),
-        one-no-more (get_or before n 0) (get_or after n 0) (stay n (omega arith)),
+        one_no_more (get_or before n 0) (get_or after n 0) (stay n (omega arith)),
       )
 
   untaken-falls :
@@ -68,19 +68,19 @@ module _ (before after : List ℕ) where
       go (yes q) further =
           omega
           (arith, untaken-no-more n (λ x k y. stay x (omega arith) y), one_less (get_or before n 0) (get_or after n 0) (rw q at ne) (rw q at z))
-      go (no q) further = omega (arith, further (omega arith), one-no-more (get_or before n 0) (get_or after n 0) (stay n (omega arith)))
+      go (no q) further = omega (arith, further (omega arith), one_no_more (get_or before n 0) (get_or after n 0) (stay n (omega arith)))
 
 -- the first state of the queue, and the goal's test, once lists of the same length stand there
-pub state-below : {t : Task} {n s : ℕ} {words : List ℕ} → Known t n words → s ≡ winner words n 1 → 0 < n → s < n
-state-below k first some = rw first (root-state k.queue some)
+pub state_below : {t : Task} {n s : ℕ} {words : List ℕ} → Known t n words → s ≡ winner words n 1 → 0 < n → s < n
+state_below k first some = rw first (root-state k.queue some)
 
-pub goal-ready-on :
+pub goal_ready_on :
     {h : Head} {f state scratch state' scratch' : List ℕ}
     → GoalReady h f state scratch
     → length state' ≡ length state
     → length scratch' ≡ length scratch
     → GoalReady h f state' scratch'
-goal-ready-on g a b =
+goal_ready_on g a b =
     record {
       few = g.few;
       size = a ∙ g.size;
@@ -91,20 +91,20 @@ goal-ready-on g a b =
     }
 
 -- a round takes a state
-pub round-less :
+pub round_less :
     {h : Head} {f e o : List ℕ} {n s : ℕ} {before after : List ℕ} {r : Bool}
     → Visits h f e o n s before after r
     → r ≡ false
     → s < n
     → Waits-there (get_or before s 0) ≡ true
     → untaken after n < untaken before n
-round-less {n = n} {s = s} {before = before} {after = after} v no-goal l w =
-    untaken-falls before after n v.zeros.stay s l (queued-word (get_or before s 0) w).0 (v.gone no-goal)
+round_less {n = n} {s = s} {before = before} {after = after} v no_goal l w =
+    untaken-falls before after n v.zeros.stay s l (queued_word (get_or before s 0) w).0 (v.gone no_goal)
 
 -- the begin
 module _ {h : Head} {f e o : List ℕ} {n start : ℕ} (v : Searchable h f e o n start) where
-  at-initial : v.t.initial ≡ state-of (length v.t.initial) start
-  at-initial = v.initial ∙ ap (λ (k : ℕ). state-of k start) (sym v.tables.variables)
+  at-initial : v.t.initial ≡ state_of (length v.t.initial) start
+  at-initial = v.initial ∙ ap (λ (k : ℕ). state_of k start) (sym v.tables.variables)
 
   pub begun-known : {words : List ℕ} → Begun n start words → Known v.t n words
   begun-known {words} b =
@@ -120,7 +120,7 @@ module _ {h : Head} {f e o : List ℕ} {n start : ℕ} (v : Searchable h f e o n
     where
       change :
           Changed (length v.t.initial) (λ x. unreached) (update (λ x. unreached) start (queued [] 0))
-          (state-of (length v.t.initial) start)
+          (state_of (length v.t.initial) start)
           (queued [] 0)
       change = updated (length v.t.initial) v.ground.states (λ x. unreached) start (queued [] 0) v.there
 
@@ -129,14 +129,14 @@ module _ {h : Head} {f e o : List ℕ} {n start : ℕ} (v : Searchable h f e o n
           → s < n
           → Dec (s ≡ start)
           → Says (length v.t.initial) n (update (λ x. unreached) start (queued [] 0)) words s
-          (update (λ x. unreached) start (queued [] 0) (state-of (length v.t.initial) s))
+          (update (λ x. unreached) start (queued [] 0) (state_of (length v.t.initial) s))
       go s l (yes q) =
           rw (q, change.here)
-          (says-queued {p = []} {c = 0} b.cost (b.steps start v.there) (at-start refl (b.lasts start v.there)) (omega arith) (omega arith))
+          (says_queued {p = []} {c = 0} b.cost (b.steps start v.there) (at_start refl (b.lasts start v.there)) (omega arith) (omega arith))
       go s l (no q) =
-          rw (change.elsewhere (state-of (length v.t.initial) s) (state-bits (length v.t.initial) s)
+          rw (change.elsewhere (state_of (length v.t.initial) s) (state_bits (length v.t.initial) s)
           (other-state (length v.t.initial) v.ground.states start s v.there l q))
-          (says-unreached (b.others s l q))
+          (says_unreached (b.others s l q))
 
   module _ {words : List ℕ} (known : Known v.t n words) {s : ℕ} (first : s ≡ winner words n 1) where
     -- a round
@@ -146,12 +146,12 @@ module _ {h : Head} {f e o : List ℕ} {n start : ℕ} (v : Searchable h f e o n
     module _ (w : Waits-there (get_or words s 0) ≡ true) {after : List ℕ} where
       pub round-known : {r : Bool} → r ≡ false → Visited (visitable w) after r → Known v.t n after
       unfolding visitable
-      round-known e (at-goal g q) = let z : ◌≡◌ {A = Bool} true false = e in absurd (let x : ◌≡◌ {A = ℕ} 0 1 = cc in omega arith)
+      round-known e (at_goal g q) = let z : ◌≡◌ {A = Bool} true false = e in absurd (let x : ◌≡◌ {A = ℕ} 0 1 = cc in omega arith)
       round-known e (passed k) = k
 
       pub round-goal : {r : Bool} → r ≡ true → s < n → Visited (visitable w) after r → SearchEnd v.t n after s
       unfolding visitable
-      round-goal e l (at-goal g q) = rw q (first-end l known first w g)
+      round-goal e l (at_goal g q) = rw q (first_end l known first w g)
       round-goal e l (passed k) = absurd (let x : ◌≡◌ {A = ℕ} 0 1 = cc in omega arith)
 
     -- the end

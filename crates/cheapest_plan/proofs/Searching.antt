@@ -9,30 +9,30 @@ use mathlib.Core.List.{List, [], ◌∷◌, ◌++◌}
 use lib.ListN.{length}
 use Rattle.task.specs.Table.{Task}
 use Rattle.task.specs.Rules.{Checked}
-use Rattle.task.specs.Run.{goal-holds, applicable, charge}
+use Rattle.task.specs.Run.{goal_holds, applicable, charge}
 use Rattle.cheapest_plan.specs.Inner.Leads.{next, Leads, stays}
 use Rattle.cheapest_plan.specs.Inner.States.{Bits, code}
 use Rattle.cheapest_plan.specs.Inner.Search.{NoLater, equal, Status, unreached, queued, taken, Has, waits, stands, Reached, Searching, Changed, LeastKey}
-use Rattle.cheapest_plan.proofs.Order.{no-later-transitive}
-use Rattle.cheapest_plan.proofs.Leads.{leads-more, next-bits, below-operators}
-use Rattle.cheapest_plan.proofs.States.{code-tells}
+use Rattle.cheapest_plan.proofs.Order.{no_later_transitive}
+use Rattle.cheapest_plan.proofs.Leads.{leads-more, next_bits, below_operators}
+use Rattle.cheapest_plan.proofs.States.{code_tells}
 use Rattle.cheapest_plan.proofs.Search.{has_one, start-bits, least-key-best}
 
 -- two states are the same or not
-pub same-state : (v : ℕ) (x y : List ℕ) → Bits v x → Bits v y → Dec (x ≡ y)
-same-state v x y a b = go (ℕ_discrete (code x) (code y))
+pub same_state : (v : ℕ) (x y : List ℕ) → Bits v x → Bits v y → Dec (x ≡ y)
+same_state v x y a b = go (ℕ_discrete (code x) (code y))
   where
     go : Dec (code x ≡ code y) → Dec (x ≡ y)
-    go (yes e) = yes (code-tells v x y a b e)
+    go (yes e) = yes (code_tells v x y a b e)
     go (no n) = no (λ e. n (ap code e))
 
 -- the three cases of a status exclude each other
-not-unreached : {now : Status} {p : List ℕ} {c : ℕ} → now ≡ unreached → Has now p c → ⊥
-not-unreached e (waits f) = let z : ◌≡◌ {A = ℕ} 0 1 = cc in omega arith
-not-unreached e (stands f) = let z : ◌≡◌ {A = ℕ} 0 1 = cc in omega arith
+not_unreached : {now : Status} {p : List ℕ} {c : ℕ} → now ≡ unreached → Has now p c → ⊥
+not_unreached e (waits f) = let z : ◌≡◌ {A = ℕ} 0 1 = cc in omega arith
+not_unreached e (stands f) = let z : ◌≡◌ {A = ℕ} 0 1 = cc in omega arith
 
-not-both : {now : Status} {p q : List ℕ} {c d : ℕ} → now ≡ queued p c → now ≡ taken q d → ⊥
-not-both e f = let z : ◌≡◌ {A = ℕ} 0 1 = cc in omega arith
+not_both : {now : Status} {p q : List ℕ} {c d : ℕ} → now ≡ queued p c → now ≡ taken q d → ⊥
+not_both e f = let z : ◌≡◌ {A = ℕ} 0 1 = cc in omega arith
 
 module _ (t : Task) (passes : Checked t) where
   -- At the begin the initial state alone is reached, by the empty list.
@@ -43,10 +43,10 @@ module _ (t : Task) (passes : Checked t) where
       → Searching t status last (length t.operators)
   begun {status} last first others =
       record {
-        leads = λ s bits p c h. at s p c (same-state (length t.initial) s t.initial bits (start-bits t passes)) bits h;
+        leads = λ s bits p c h. at s p c (same_state (length t.initial) s t.initial bits (start-bits t passes)) bits h;
         best = λ s bits p c e q d l. absurd (none s p c bits e);
-        no-goal = λ s bits p c e. absurd (none s p c bits e);
-        start = record { numbers = []; cost = 0; has = waits first; no-later = equal refl refl };
+        no_goal = λ s bits p c e. absurd (none s p c bits e);
+        start = record { numbers = []; cost = 0; has = waits first; no_later = equal refl refl };
         follows = λ s bits p c e o a l. absurd (none s p c bits e);
       }
     where
@@ -59,14 +59,14 @@ module _ (t : Task) (passes : Checked t) where
       at s p c (yes e) bits h =
           let one = has_one (waits (ap status e ∙ first)) h in
           rw (← one.0) (stays (sym e) one.1)
-      at s p c (no n) bits h = absurd (not-unreached (others s bits n) h)
+      at s p c (no n) bits h = absurd (not_unreached (others s bits n) h)
 
       none : (s p : List ℕ) (c : ℕ) → Bits (length t.initial) s → status s ≡ taken p c → ⊥
-      none s p c bits e = go (same-state (length t.initial) s t.initial bits (start-bits t passes))
+      none s p c bits e = go (same_state (length t.initial) s t.initial bits (start-bits t passes))
         where
           go : Dec (s ≡ t.initial) → ⊥
-          go (yes f) = not-both (ap status f ∙ first) e
-          go (no n) = not-unreached (others s bits n) (stands e)
+          go (yes f) = not_both (ap status f ∙ first) e
+          go (no n) = not_unreached (others s bits n) (stands e)
 
 -- a state's status changes to one with a list that is no later than the one it had: what was reached stays reached
 module _
@@ -75,7 +75,7 @@ module _
     (improves : (r : List ℕ) (e : ℕ) → Has (status y) r e → NoLater c p e r)
   where
     still-reached : {d : ℕ} {q : List ℕ} (x : List ℕ) → Bits v x → Reached (status x) d q → Reached (after x) d q
-    still-reached {d} {q} x bits r = go (same-state v x y bits place)
+    still-reached {d} {q} x bits r = go (same_state v x y bits place)
       where
         go : Dec (x ≡ y) → Reached (after x) d q
         go (yes e) =
@@ -83,7 +83,7 @@ module _
               numbers = p;
               cost = c;
               has = rw (e, change.here) has;
-              no-later = no-later-transitive (improves r.numbers r.cost (rw e at r.has)) r.no-later;
+              no_later = no_later_transitive (improves r.numbers r.cost (rw e at r.has)) r.no_later;
             }
         go (no n) = rw (change.elsewhere x bits n) r
 
@@ -96,20 +96,20 @@ module _ (t : Task) (passes : Checked t) {status : List ℕ → Status} where
         → (p : List ℕ) (c : ℕ)
         → status s ≡ queued p c
         → LeastKey (length t.initial) status p c
-        → goal-holds t s ≡ false
+        → goal_holds t s ≡ false
         → Changed (length t.initial) status after s (taken p c)
         → Searching t after s 0
     taking s place p c is least not_yet change =
         record {
           leads = λ x bits q d h. leads x bits q d h (same x bits);
           best = λ x bits q d e. best x bits q d e (same x bits);
-          no-goal = λ x bits q d e. no-goal x bits q d e (same x bits);
+          no_goal = λ x bits q d e. no_goal x bits q d e (same x bits);
           start = still t.initial (start-bits t passes) searching.start;
           follows = λ x bits q d e o a l. follows x bits q d e o a l (same x bits);
         }
       where
         same : (x : List ℕ) → Bits (length t.initial) x → Dec (x ≡ s)
-        same x bits = same-state (length t.initial) x s bits place
+        same x bits = same_state (length t.initial) x s bits place
 
         still : {d : ℕ} {q : List ℕ} (x : List ℕ) → Bits (length t.initial) x → Reached (status x) d q → Reached (after x) d q
         still x bits r =
@@ -142,10 +142,10 @@ module _ (t : Task) (passes : Checked t) {status : List ℕ → Status} where
             rw (← one.0, ← one.1) (least-key-best t passes searching s p c is least r b (rw e at l))
         best x bits q d f (no n) r b l = searching.best x bits q d (sym (change.elsewhere x bits n) ∙ f) r b l
 
-        no-goal :
-            (x : List ℕ) → Bits (length t.initial) x → (q : List ℕ) (d : ℕ) → after x ≡ taken q d → Dec (x ≡ s) → goal-holds t x ≡ false
-        no-goal x bits q d f (yes e) = rw e not_yet
-        no-goal x bits q d f (no n) = searching.no-goal x bits q d (sym (change.elsewhere x bits n) ∙ f)
+        no_goal :
+            (x : List ℕ) → Bits (length t.initial) x → (q : List ℕ) (d : ℕ) → after x ≡ taken q d → Dec (x ≡ s) → goal_holds t x ≡ false
+        no_goal x bits q d f (yes e) = rw e not_yet
+        no_goal x bits q d f (no n) = searching.no_goal x bits q d (sym (change.elsewhere x bits n) ∙ f)
 
         follows :
             (x : List ℕ)
@@ -159,8 +159,8 @@ module _ (t : Task) (passes : Checked t) {status : List ℕ → Status} where
             → Reached (after (next t x o)) (d + charge t x o) (q ++ (o ∷ []))
         follows x bits q d f o a below (yes e) = absurd (let l = below e in omega arith)
         follows x bits q d f o a below (no n) =
-            still (next t x o) (next-bits t o bits)
-            (searching.follows x bits q d (sym (change.elsewhere x bits n) ∙ f) o a (λ e. below-operators t x o a))
+            still (next t x o) (next_bits t o bits)
+            (searching.follows x bits q d (sym (change.elsewhere x bits n) ∙ f) o a (λ e. below_operators t x o a))
 
   -- Operator k is stepped from the state that was taken last.
   module _ {s : List ℕ} {k : ℕ} (searching : Searching t status s k) (place : Bits (length t.initial) s) where
@@ -172,9 +172,9 @@ module _ (t : Task) (passes : Checked t) {status : List ℕ → Status} where
         record {
           leads = searching.leads;
           best = searching.best;
-          no-goal = searching.no-goal;
+          no_goal = searching.no_goal;
           start = searching.start;
-          follows = λ x bits p c e o a l. follows x bits p c e o a l (same-state (length t.initial) x s bits place) (dec_lt o k);
+          follows = λ x bits p c e o a l. follows x bits p c e o a l (same_state (length t.initial) x s bits place) (dec_lt o k);
         }
       where
         follows :
@@ -221,10 +221,10 @@ module _
 
     -- what is taken was taken
     was : (x : List ℕ) → Bits (length t.initial) x → (q : List ℕ) (d : ℕ) → after x ≡ taken q d → status x ≡ taken q d
-    was x bits q d e = go (same-state (length t.initial) x y bits place)
+    was x bits q d e = go (same_state (length t.initial) x y bits place)
       where
         go : Dec (x ≡ y) → status x ≡ taken q d
-        go (yes f) = absurd (not-both (ap after f ∙ change.here) e)
+        go (yes f) = absurd (not_both (ap after f ∙ change.here) e)
         go (no n) = sym (change.elsewhere x bits n) ∙ e
 
     leads-there :
@@ -242,13 +242,13 @@ module _
     pub requeued : Searching t after last k
     requeued =
         record {
-          leads = λ x bits q d h. leads-there x bits q d h (same-state (length t.initial) x y bits place);
+          leads = λ x bits q d h. leads-there x bits q d h (same_state (length t.initial) x y bits place);
           best = λ x bits q d e. searching.best x bits q d (was x bits q d e);
-          no-goal = λ x bits q d e. searching.no-goal x bits q d (was x bits q d e);
+          no_goal = λ x bits q d e. searching.no_goal x bits q d (was x bits q d e);
           start = still-reached change place (waits refl) better t.initial (start-bits t passes) searching.start;
           follows =
               λ x bits q d e o a l.
-              still-reached change place (waits refl) better (next t x o) (next-bits t o bits)
+              still-reached change place (waits refl) better (next t x o) (next_bits t o bits)
               (searching.follows x bits q d (was x bits q d e) o a l);
         }
 
@@ -268,7 +268,7 @@ module _
           numbers = r;
           cost = e;
           has = stands there;
-          no-later = searching.best (next t s k) (next-bits t k place) r e there (p ++ (k ∷ [])) (c + charge t s k) to-there;
+          no_later = searching.best (next t s k) (next_bits t k place) r e there (p ++ (k ∷ [])) (c + charge t s k) to-there;
         })
 
     -- the state is queued with the new list: it was not reached, or queued with a list that is later
@@ -279,9 +279,9 @@ module _
         → Changed (length t.initial) status after (next t s k) (queued (p ++ (k ∷ [])) (c + charge t s k))
         → Searching t after s (k + 1)
     queues {after} not_taken improves change =
-        kept t passes (requeued t passes searching (next t s k) (next-bits t k place) to-there not_taken improves change) place p c
+        kept t passes (requeued t passes searching (next t s k) (next_bits t k place) to-there not_taken improves change) place p c
         (change.elsewhere s place other ∙ is)
-        (record { numbers = p ++ (k ∷ []); cost = c + charge t s k; has = waits change.here; no-later = equal refl refl })
+        (record { numbers = p ++ (k ∷ []); cost = c + charge t s k; has = waits change.here; no_later = equal refl refl })
       where
         other : s ≡ next t s k → ⊥
         other e = not_taken p c (ap status (sym e) ∙ is)

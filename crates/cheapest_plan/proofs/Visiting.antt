@@ -12,60 +12,60 @@ use lib.Seq.{get_or-set_same, get_or-set_other, take_at}
 use borrow.Author.Tests.{lt-ltb, le-ltb, ltb-true, ltb-false}
 use Rattle.task.specs.declared.Head.{Head}
 use Rattle.task.specs.Bounded.{upto}
-use Rattle.task.specs.Table.{Task, Row, Operator, row_at, operator-at}
-use Rattle.task.specs.Rules.{no-operator}
+use Rattle.task.specs.Table.{Task, Row, Operator, row_at, operator_at}
+use Rattle.task.specs.Rules.{no_operator}
 use Rattle.task.specs.Semantics.{Effect, holds, apply}
-use Rattle.task.specs.Tree.{formula-of, effect_of}
-use Rattle.task.specs.Run.{goal-holds, operator-of, applicable, effect-of-operator}
+use Rattle.task.specs.Tree.{formula_of, effect_of}
+use Rattle.task.specs.Run.{goal_holds, operator_of, applicable, effect_of_operator}
 use Rattle.task.specs.Inner.Values.{bit, Values}
-use Rattle.task.proofs.Values.{values-none}
+use Rattle.task.proofs.Values.{values_none}
 use Rattle.task.proofs.Bounded.{length-upto, getD-upto}
 use Rattle.evaluating.specs.Inner.Values.{Valuable, Valued, rows_of}
-use Rattle.state_codes.specs.Inner.Masks.{Masked, next-code, RowMasks, Maskable}
+use Rattle.state_codes.specs.Inner.Masks.{Masked, next_code, RowMasks, Maskable}
 use Rattle.state_codes.proofs.Meaning.{row-masked, next-below, next-state}
-use Rattle.state_queue.specs.Inner.Queue.{key, queue-cost, winner, Roomy, Queue, Waits, Played, queued as Waits-there}
+use Rattle.state_queue.specs.Inner.Queue.{key, queue_cost, winner, Roomy, Queue, Waits, Played, queued as Waits-there}
 use Rattle.state_queue.proofs.Changes.{root-state, root-least, changed-waits}
-use Rattle.state_queue.proofs.Keys.{cost-taken, cost-else}
+use Rattle.state_queue.proofs.Keys.{cost_taken, cost_else}
 use Rattle.cheapest_plan.specs.Inner.Leads.{next}
-use Rattle.cheapest_plan.specs.Inner.States.{Bits, code, state-of}
-use Rattle.cheapest_plan.specs.Inner.Search.{KeyLess, less-cost, less-steps, Status, queued, taken, Has, waits, stands, Searching, Changed, LeastKey}
-use Rattle.cheapest_plan.specs.Inner.Tables.{Ends, at-start, by-step, most-cost, Says, says-taken, Holds, Ground, Stepping, Elsewhere, Zeros}
-use Rattle.cheapest_plan.specs.Inner.Visits.{TaskIn, Stage, SteppedTo, Expandable, Known, GoalReady, GoalTold, TakenNow, Visitable, Visited, at-goal, passed, Visits}
+use Rattle.cheapest_plan.specs.Inner.States.{Bits, code, state_of}
+use Rattle.cheapest_plan.specs.Inner.Search.{KeyLess, less_cost, less_steps, Status, queued, taken, Has, waits, stands, Searching, Changed, LeastKey}
+use Rattle.cheapest_plan.specs.Inner.Tables.{Ends, at_start, by_step, most_cost, Says, says_taken, Holds, Ground, Stepping, Elsewhere, Zeros}
+use Rattle.cheapest_plan.specs.Inner.Visits.{TaskIn, Stage, SteppedTo, Expandable, Known, GoalReady, GoalTold, TakenNow, Visitable, Visited, at_goal, passed, Visits}
 use Rattle.cheapest_plan.proofs.Leads.{leads-once}
-use Rattle.cheapest_plan.proofs.States.{state-bits, code_below, state-of-code}
+use Rattle.cheapest_plan.proofs.States.{state_bits, code_below, state_of_code}
 use Rattle.cheapest_plan.proofs.Search.{has_one}
 use Rattle.cheapest_plan.proofs.Searching.{taking}
-use Rattle.cheapest_plan.proofs.Holding.{update, updated, other-state, Stands, is-unreached, is-queued, is-taken, stands_at, ends_on, still-taken, holds-changed}
-use Rattle.cheapest_plan.proofs.Relaxing.{key-there}
+use Rattle.cheapest_plan.proofs.Holding.{update, updated, other-state, Stands, is_unreached, is_queued, is_taken, stands_at, ends_on, still-taken, holds-changed}
+use Rattle.cheapest_plan.proofs.Relaxing.{key_there}
 
 -- the goal's test
-told-bit : (b : Bool) → eqb (bit b) 1 ≡ b
+told_bit : (b : Bool) → eqb (bit b) 1 ≡ b
 unfolding bit
-told-bit true = refl
-told-bit false = refl
+told_bit true = refl
+told_bit false = refl
 
 module _ {h : Head} {f state scratch : List ℕ} (ready : GoalReady h f state scratch) (s : ℕ) where
-  pub goal-valuable : {now : List ℕ} → now ≡ state-of (length state) s → Valuable f 0 h.formulas now scratch
+  pub goal-valuable : {now : List ℕ} → now ≡ state_of (length state) s → Valuable f 0 h.formulas now scratch
   goal-valuable {now} e =
-      let size : length now ≡ h.variables = ap length e ∙ (state-bits (length state) s).size ∙ ready.size in
+      let size : length now ≡ h.variables = ap length e ∙ (state_bits (length state) s).size ∙ ready.size in
       record {
         there = ready.there;
         rule = λ i l. rw size (ready.rule i l);
-        state-bits = rw e (state-bits (length state) s).bits;
+        state_bits = rw e (state_bits (length state) s).bits;
         room = ready.room;
         order = omega arith;
-        below = values-none now (rows_of h.formulas f) scratch;
+        below = values_none now (rows_of h.formulas f) scratch;
       }
 
   pub goal-found :
-      {now after : List ℕ} → now ≡ state-of (length state) s → Valued f h.formulas now scratch after → GoalTold h f s after (eqb (get_or after h.goal 0) 1)
+      {now after : List ℕ} → now ≡ state_of (length state) s → Valued f h.formulas now scratch after → GoalTold h f s after (eqb (get_or after h.goal 0) 1)
   goal-found {now} {after} e v =
-      let at : now ≡ state-of h.variables s = e ∙ ap (λ (k : ℕ). state-of k s) ready.size in
+      let at : now ≡ state_of h.variables s = e ∙ ap (λ (k : ℕ). state_of k s) ready.size in
       record {
         told =
             ap (λ (x : ℕ). eqb x 1) (v.known.at h.goal ready.goal)
-            ∙ told-bit (holds now (formula-of (rows_of h.formulas f) h.goal))
-            ∙ ap (λ (x : List ℕ). holds x (formula-of (rows_of h.formulas f) h.goal)) at;
+            ∙ told_bit (holds now (formula_of (rows_of h.formulas f) h.goal))
+            ∙ ap (λ (x : List ℕ). holds x (formula_of (rows_of h.formulas f) h.goal)) at;
         values = rw (← at) v.known;
       }
 
@@ -94,41 +94,41 @@ module _ {n s : ℕ} {words : List ℕ} (roomy : Roomy n words) (queue : Queue w
         lasts = λ x l. p.front (2 * n + x) (omega arith) ∙ other (2 * n + x) (λ z. omega arith);
       }
 
-pub take-zeros : {n s : ℕ} {before after : List ℕ} → TakenNow n s before after → Zeros n before after
-take-zeros {n} {s} {before} {after} w = record { stay = λ x l z. go x l z (ℕ_discrete x s) }
+pub take_zeros : {n s : ℕ} {before after : List ℕ} → TakenNow n s before after → Zeros n before after
+take_zeros {n} {s} {before} {after} w = record { stay = λ x l z. go x l z (ℕ_discrete x s) }
   where
     go : (x : ℕ) → x < n → get_or before x 0 ≡ 0 → Dec (x ≡ s) → get_or after x 0 ≡ 0
     go x l z (yes q) = rw q w.word
     go x l z (no q) = w.costs x l q ∙ z
 
 -- whether a word is that of a state in the queue
-pub queued-word : (w : ℕ) → Waits-there w ≡ true → (w ≡ 0 → ⊥) × (w < 4294967295)
+pub queued_word : (w : ℕ) → Waits-there w ≡ true → (w ≡ 0 → ⊥) × (w < 4294967295)
 unfolding Waits-there
-queued-word w e =
-    let low : queue-cost w < 4294967294 = ltb-true (queue-cost w) 4294967294 e in
-    let some : w ≡ 0 → ⊥ = λ z. omega (arith, cost-taken w z) in
-    (some, omega (arith, cost-else w some))
+queued_word w e =
+    let low : queue_cost w < 4294967294 = ltb-true (queue_cost w) 4294967294 e in
+    let some : w ≡ 0 → ⊥ = λ z. omega (arith, cost_taken w z) in
+    (some, omega (arith, cost_else w some))
 
-pub unqueued-cost : (w : ℕ) → Waits-there w ≡ false → 4294967294 ≤ queue-cost w
+pub unqueued_cost : (w : ℕ) → Waits-there w ≡ false → 4294967294 ≤ queue_cost w
 unfolding Waits-there
-unqueued-cost w e = ltb-false (queue-cost w) 4294967294 e
+unqueued_cost w e = ltb-false (queue_cost w) 4294967294 e
 
 -- the words of a state that is queued
 pub record QueuedAt (v n : ℕ) (status : List ℕ → Status) (words : List ℕ) (s : ℕ) (p : List ℕ) (c : ℕ) : Type 0 where
   pub word : get_or words s 0 ≡ c + 1
   pub steps : get_or words (n + s) 0 ≡ length p
   pub ends : Ends v n status p (get_or words (2 * n + s) 0)
-  pub bound : c ≤ most-cost
+  pub bound : c ≤ most_cost
   pub few : length p ≤ 1024
 
 module _ {v n : ℕ} {status : List ℕ → Status} {words : List ℕ} (h : Holds v n status words) where
-  pub queued-at : (s : ℕ) → s < n → (p : List ℕ) (c : ℕ) → status (state-of v s) ≡ queued p c → QueuedAt v n status words s p c
-  queued-at s l p c is = go (stands_at (status (state-of v s)) (h.at s l))
+  pub queued-at : (s : ℕ) → s < n → (p : List ℕ) (c : ℕ) → status (state_of v s) ≡ queued p c → QueuedAt v n status words s p c
+  queued-at s l p c is = go (stands_at (status (state_of v s)) (h.at s l))
     where
-      go : Stands v n status words s (status (state-of v s)) → QueuedAt v n status words s p c
-      go (is-unreached e w) = let z : ◌≡◌ {A = ℕ} 0 1 = cc in absurd (omega arith)
-      go (is-taken q d e w) = let z : ◌≡◌ {A = ℕ} 0 1 = cc in absurd (omega arith)
-      go (is-queued q d e w m f x y) =
+      go : Stands v n status words s (status (state_of v s)) → QueuedAt v n status words s p c
+      go (is_unreached e w) = let z : ◌≡◌ {A = ℕ} 0 1 = cc in absurd (omega arith)
+      go (is_taken q d e w) = let z : ◌≡◌ {A = ℕ} 0 1 = cc in absurd (omega arith)
+      go (is_queued q d e w m f x y) =
           let one = has_one (waits e) (waits is) in
           record {
             word = w ∙ ap (λ (x : ℕ). x + 1) one.1;
@@ -142,41 +142,41 @@ module _ {v n : ℕ} {status : List ℕ → Status} {words : List ℕ} (h : Hold
   pub record IsQueued (s : ℕ) : Type 0 where
     pub p : List ℕ
     pub c : ℕ
-    pub is : status (state-of v s) ≡ queued p c
+    pub is : status (state_of v s) ≡ queued p c
     pub at : QueuedAt v n status words s p c
 
   pub waiting-at : (s : ℕ) → s < n → Waits-there (get_or words s 0) ≡ true → IsQueued s
-  waiting-at s l e = go (stands_at (status (state-of v s)) (h.at s l))
+  waiting-at s l e = go (stands_at (status (state_of v s)) (h.at s l))
     where
-      go : Stands v n status words s (status (state-of v s)) → IsQueued s
-      go (is-unreached f w) = absurd (omega (arith, queued-word (get_or words s 0) e))
-      go (is-taken q d f w) = absurd ((queued-word (get_or words s 0) e).0 w)
-      go (is-queued q d f w m g x y) = record { p = q; c = d; is = f; at = queued-at s l q d f }
+      go : Stands v n status words s (status (state_of v s)) → IsQueued s
+      go (is_unreached f w) = absurd (omega (arith, queued_word (get_or words s 0) e))
+      go (is_taken q d f w) = absurd ((queued_word (get_or words s 0) e).0 w)
+      go (is_queued q d f w m g x y) = record { p = q; c = d; is = f; at = queued-at s l q d f }
 
   module _ (size : n ≡ 2 ^ v) where
     -- by states in place of codes
     pub queued-state : (y : List ℕ) → Bits v y → (p : List ℕ) (c : ℕ) → status y ≡ queued p c → (code y < n) × QueuedAt v n status words (code y) p c
     queued-state y bits p c is =
         let below : code y < n = rw size (code_below v y bits) in
-        (below, queued-at (code y) below p c (ap status (state-of-code v y bits) ∙ is))
+        (below, queued-at (code y) below p c (ap status (state_of_code v y bits) ∙ is))
 
     module _ (queue : Queue words n) (some : 0 < n) where
       -- the root has the least key
       pub least-key : (s : ℕ) → s ≡ winner words n 1 → (p : List ℕ) (c : ℕ) → QueuedAt v n status words s p c → LeastKey v status p c
-      least-key s root p c first = record { none-less = λ y bits r e is k. go y r e (queued-state y bits r e is) k }
+      least-key s root p c first = record { none_less = λ y bits r e is k. go y r e (queued-state y bits r e is) k }
         where
           go : (y r : List ℕ) (e : ℕ) → (code y < n) × QueuedAt v n status words (code y) r e → KeyLess e r c p → ⊥
           go y r e (l, q) k =
               let a = root-least queue some (code y) l in
-              let b = key-there words n s c first.word in
-              let d = key-there words n (code y) e q.word in
+              let b = key_there words n s c first.word in
+              let d = key_there words n (code y) e q.word in
               let less : e * 4294967296 + length r < c * 4294967296 + length p = lesser k q.few in
               let f : key words n s ≤ key words n (code y) = rw root a in
               omega (arith, first.steps, q.steps)
             where
               lesser : KeyLess e r c p → length r ≤ 1024 → e * 4294967296 + length r < c * 4294967296 + length p
-              lesser (less-cost x) few = omega arith
-              lesser (less-steps x z) few = omega arith
+              lesser (less_cost x) few = omega arith
+              lesser (less_steps x z) few = omega arith
 
       -- where the root is not queued, nothing is
       pub none-queued :
@@ -190,14 +190,14 @@ module _ {v n : ℕ} {status : List ℕ → Status} {words : List ℕ} (h : Hold
       none-queued not y bits r e is =
           let q = queued-state y bits r e is in
           let a = root-least queue some (code y) q.0 in
-          let b = unqueued-cost (get_or words (winner words n 1) 0) not in
-          let c = cost-else (get_or words (code y) 0) (λ z. omega (arith, q.1.word)) in
+          let b = unqueued_cost (get_or words (winner words n 1) 0) not in
+          let c = cost_else (get_or words (code y) 0) (λ z. omega (arith, q.1.word)) in
           omega (arith, q.1)
 
 -- The first state of the queue.
 module _ {h : Head} {f e o : List ℕ} {n s : ℕ} {words : List ℕ} (v : Visitable h f e o n s words) (roomy : Roomy n words) where
-  abbrev at-state : List ℕ
-  at-state = state-of (length v.t.initial) s
+  abbrev at_state : List ℕ
+  at_state = state_of (length v.t.initial) s
 
   pub first_below : s < n
   first_below = rw v.first (root-state v.known.queue roomy.some)
@@ -211,46 +211,46 @@ module _ {h : Head} {f e o : List ℕ} {n s : ℕ} {words : List ℕ} (v : Visit
       first-queued.at
 
   -- the goal's test is the task's
-  goal-same : holds (state-of h.variables s) (formula-of (upto h.formulas (row_at f)) h.goal) ≡ goal-holds v.t at-state
-  unfolding goal-holds
+  goal-same : holds (state_of h.variables s) (formula_of (upto h.formulas (row_at f)) h.goal) ≡ goal_holds v.t at_state
+  unfolding goal_holds
   goal-same = rw (v.tables.variables, v.tables.formulas, v.tables.goal) refl
 
   pub visited-goal : {scratch : List ℕ} {r : Bool} → GoalTold h f s scratch r → r ≡ true → Visited v words true
-  visited-goal told e = at-goal (sym goal-same ∙ sym told.told ∙ e) refl
+  visited-goal told e = at_goal (sym goal-same ∙ sym told.told ∙ e) refl
 
   -- it is taken
   module _ {scratch : List ℕ} {r : Bool} (told : GoalTold h f s scratch r) (not-goal : r ≡ false) {mid : List ℕ} (now : TakenNow n s words mid) where
     pub visit-taken :
-        Stepping v.t n mid (state-of (length v.t.initial) s) 0 first-queued.p first-queued.c
+        Stepping v.t n mid (state_of (length v.t.initial) s) 0 first-queued.p first-queued.c
     visit-taken =
         record {
           status = update v.known.status s (taken first-queued.p first-queued.c);
           holds = holds-changed (length v.t.initial) v.ground.states first_below change none away v.known.holds says;
           queue = now.queue;
           searching =
-              taking v.t v.ground.passes v.known.searching at-state (state-bits (length v.t.initial) s) first-queued.p
+              taking v.t v.ground.passes v.known.searching at_state (state_bits (length v.t.initial) s) first-queued.p
               first-queued.c first-queued.is first-least (sym goal-same ∙ sym told.told ∙ not-goal) change;
-          is-taken = change.here;
+          is_taken = change.here;
           fresh = λ x u d l is. absurd (none-behind x u d l (ℕ_discrete x s) is);
         }
       where
         change :
             Changed (length v.t.initial) v.known.status
             (update v.known.status s (taken first-queued.p first-queued.c))
-            (state-of (length v.t.initial) s)
+            (state_of (length v.t.initial) s)
             (taken first-queued.p first-queued.c)
         change = updated (length v.t.initial) v.ground.states v.known.status s (taken first-queued.p first-queued.c) first_below
 
-        none : (p : List ℕ) (c : ℕ) → v.known.status (state-of (length v.t.initial) s) ≡ taken p c → ⊥
+        none : (p : List ℕ) (c : ℕ) → v.known.status (state_of (length v.t.initial) s) ≡ taken p c → ⊥
         none p c is = let q = first-queued.is in let z : ◌≡◌ {A = ℕ} 0 1 = cc in omega arith
 
         -- no list goes on from that of a state that is still queued
-        none_after : (x u d : ℕ) → x < n → v.known.status (state-of (length v.t.initial) x) ≡ queued (first-queued.p ++ (u ∷ [])) d → ⊥
+        none_after : (x u d : ℕ) → x < n → v.known.status (state_of (length v.t.initial) x) ≡ queued (first-queued.p ++ (u ∷ [])) d → ⊥
         none_after x u d l is = go (queued-at v.known.holds x l (first-queued.p ++ (u ∷ [])) d is).ends
           where
             go : Ends (length v.t.initial) n v.known.status (first-queued.p ++ (u ∷ [])) (get_or words (2 * n + x) 0) → ⊥
-            go (at-start q z) = omega (arith, ap length q, length-append first-queued.p (u ∷ []))
-            go (by-step parent w front e' below m was z q) =
+            go (at_start q z) = omega (arith, ap length q, length-append first-queued.p (u ∷ []))
+            go (by_step parent w front e' below m was z q) =
                 let size : length front ≡ length first-queued.p =
                 omega (arith, ap length q, length-append first-queued.p (u ∷ []), length-append front (w ∷ [])) in
                 let same : front ≡ first-queued.p =
@@ -259,21 +259,21 @@ module _ {h : Head} {f e o : List ℕ} {n s : ℕ} {words : List ℕ} (v : Visit
                 ∙ take_at first-queued.p (u ∷ []) (length first-queued.p) refl in
                 let k = length v.t.initial in
                 let one =
-                (leads-once (v.known.searching.leads (state-of k parent) (state-bits k parent) front e' (stands was))
-                (rw (← same) at (v.known.searching.leads at-state (state-bits k s) first-queued.p first-queued.c (waits first-queued.is)))).0 in
+                (leads-once (v.known.searching.leads (state_of k parent) (state_bits k parent) front e' (stands was))
+                (rw (← same) at (v.known.searching.leads at_state (state_bits k s) first-queued.p first-queued.c (waits first-queued.is)))).0 in
                 none front e' (ap v.known.status (sym one) ∙ was)
 
         none-behind :
             (x u d : ℕ)
             → x < n
             → Dec (x ≡ s)
-            → update v.known.status s (taken first-queued.p first-queued.c) (state-of (length v.t.initial) x) ≡ queued (first-queued.p ++ (u ∷ [])) d
+            → update v.known.status s (taken first-queued.p first-queued.c) (state_of (length v.t.initial) x) ≡ queued (first-queued.p ++ (u ∷ [])) d
             → ⊥
         none-behind x u d l (yes q) is = let f = change.here in let g = rw q at is in let z : ◌≡◌ {A = ℕ} 0 1 = cc in omega arith
         none-behind x u d l (no q) is =
             none_after x u d l
             (sym
-            (change.elsewhere (state-of (length v.t.initial) x) (state-bits (length v.t.initial) x)
+            (change.elsewhere (state_of (length v.t.initial) x) (state_bits (length v.t.initial) x)
             (other-state (length v.t.initial) v.ground.states s x first_below l q))
             ∙ is)
 
@@ -284,41 +284,41 @@ module _ {h : Head} {f e o : List ℕ} {n s : ℕ} {words : List ℕ} (v : Visit
             Says (length v.t.initial) n (update v.known.status s (taken first-queued.p first-queued.c)) mid s
             (taken first-queued.p first-queued.c)
         says =
-            says-taken {p = first-queued.p} now.word (now.steps s first_below ∙ first-queued.at.steps)
+            says_taken {p = first-queued.p} now.word (now.steps s first_below ∙ first-queued.at.steps)
             (rw (now.lasts s first_below)
             (ends_on (still-taken (length v.t.initial) v.ground.states first_below change none away) first-queued.at.ends))
 
     -- where its operators lead
     module _ (few : h.variables ≤ 10) {masks : List ℕ} (found : RowMasks e h.effects scratch masks) (room : h.formulas ≤ length scratch) (masks-room : h.effects ≤ length masks) where
-      pub operators-number : length v.t.operators ≡ h.operators
-      operators-number = ap length v.tables.operators ∙ length-upto h.operators (operator-at o)
+      pub operators_number : length v.t.operators ≡ h.operators
+      operators_number = ap length v.tables.operators ∙ length-upto h.operators (operator_at o)
 
-      pub operator-row : (i : ℕ) → i < h.operators → operator-of v.t i ≡ operator-at o i
-      unfolding operator-of
+      pub operator-row : (i : ℕ) → i < h.operators → operator_of v.t i ≡ operator_at o i
+      unfolding operator_of
       operator-row i l =
-          ap (λ (x : List Operator). get_or x i no-operator) v.tables.operators
-          ∙ getD-upto h.operators (operator-at o) i no-operator l
+          ap (λ (x : List Operator). get_or x i no_operator) v.tables.operators
+          ∙ getD-upto h.operators (operator_at o) i no_operator l
 
-      values : Values at-state (upto h.formulas (row_at f)) h.formulas scratch
+      values : Values at_state (upto h.formulas (row_at f)) h.formulas scratch
       values = rw v.tables.variables told.values
 
       pub operator-applies :
-          (i : ℕ) → i < h.operators → get_or scratch (operator-at o i).precondition 0 ≡ bit (applicable v.t at-state i)
+          (i : ℕ) → i < h.operators → get_or scratch (operator_at o i).precondition 0 ≡ bit (applicable v.t at_state i)
       unfolding applicable
       operator-applies i l =
-          let inside : i < length v.t.operators = rw operators-number l in
-          values.at (operator-at o i).precondition (v.tables.ready.operator i l).formula
+          let inside : i < length v.t.operators = rw operators_number l in
+          values.at (operator_at o i).precondition (v.tables.ready.operator i l).formula
           ∙ sym (rw (lt-ltb i (length v.t.operators) inside, operator-row i l, v.tables.formulas) refl)
 
       pub effect-masked :
           (i : ℕ)
           → i < h.operators
-          → Masked (length v.t.initial) at-state (effect_of (upto h.formulas (row_at f)) (upto h.effects (row_at e)) (operator-at o i).effect)
-          (get_or masks (operator-at o i).effect 0)
+          → Masked (length v.t.initial) at_state (effect_of (upto h.formulas (row_at f)) (upto h.effects (row_at e)) (operator_at o i).effect)
+          (get_or masks (operator_at o i).effect 0)
       effect-masked i l =
           row-masked (rw v.tables.variables few)
           (λ j m. rw v.tables.variables (v.tables.ready.effect j m))
-          values found (operator-at o i).effect (v.tables.ready.operator i l).changes
+          values found (operator_at o i).effect (v.tables.ready.operator i l).changes
 
       pub code-low : s < 2 ^ length v.t.initial
       code-low = rw (← v.ground.states) first_below
@@ -326,20 +326,20 @@ module _ {h : Head} {f e o : List ℕ} {n s : ℕ} {words : List ℕ} (v : Visit
       pub operator-leads :
           (i : ℕ)
           → i < h.operators
-          → state-of (length v.t.initial) (next-code s (get_or masks (operator-at o i).effect 0)) ≡ next v.t at-state i
-      unfolding next effect-of-operator
+          → state_of (length v.t.initial) (next_code s (get_or masks (operator_at o i).effect 0)) ≡ next v.t at_state i
+      unfolding next effect_of_operator
       operator-leads i l =
           next-state (rw v.tables.variables few) code-low (effect-masked i l)
           ∙ sym (rw (operator-row i l, v.tables.formulas, v.tables.effects) refl)
 
-      unfoldable pub visit-stage : Stage n o h.operators s (get_or words s 0) (get_or words (n + s) 0) scratch masks
-      visit-stage =
+      unfoldable pub visit_stage : Stage n o h.operators s (get_or words s 0) (get_or words (n + s) 0) scratch masks
+      visit_stage =
           record {
             t = v.t;
             ground = v.ground;
-            number = operators-number;
+            number = operators_number;
             few = v.tables.few;
-            there = v.tables.ready.operators-there;
+            there = v.tables.ready.operators_there;
             here = first_below;
             row = operator-row;
             precondition = λ i l. omega (arith, (v.tables.ready.operator i l).formula);
@@ -354,37 +354,37 @@ module _ {h : Head} {f e o : List ℕ} {n s : ℕ} {words : List ℕ} (v : Visit
           }
 
       pub visit-expandable : Roomy n mid → Expandable n o h.operators s (get_or words s 0) (get_or words (n + s) 0) scratch masks mid
-      unfolding visit-stage
-      visit-expandable r = record { roomy = r; stage = visit-stage; stepping = visit-taken }
+      unfolding visit_stage
+      visit-expandable r = record { roomy = r; stage = visit_stage; stepping = visit-taken }
 
-      pub visited-on : {after : List ℕ} → (SteppedTo visit-stage mid 0 → SteppedTo visit-stage after h.operators) → Visited v after false
-      unfolding visit-stage
+      pub visited-on : {after : List ℕ} → (SteppedTo visit_stage mid 0 → SteppedTo visit_stage after h.operators) → Visited v after false
+      unfolding visit_stage
       visited-on on =
           let x = on visit-taken in
           passed
           (record {
             status = x.status;
-            last = at-state;
+            last = at_state;
             holds = x.holds;
             queue = x.queue;
-            searching = rw operators-number x.searching;
+            searching = rw operators_number x.searching;
           })
 
 -- what the words of effects ask
-pub visit-maskable :
+pub visit_maskable :
     {h : Head} {f e o : List ℕ} {n s : ℕ} {words scratch masks : List ℕ}
     → Visitable h f e o n s words
     → h.variables ≤ 10
     → h.formulas ≤ length scratch
     → h.effects ≤ length masks
     → Maskable e h.effects scratch masks
-visit-maskable {h} v few room masks-room =
+visit_maskable {h} v few room masks-room =
     record {
       v = h.variables;
       f = h.formulas;
       few = few;
-      there = v.tables.ready.effects-there;
+      there = v.tables.ready.effects_there;
       rule = v.tables.ready.effect;
-      values-there = room;
+      values_there = room;
       room = masks-room;
     }

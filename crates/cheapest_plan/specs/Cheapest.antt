@@ -2,7 +2,7 @@
 -- operator numbers, compared from the front". All lists that can matter stand in a row, and the first of least cost is taken.
 use Rattle.std.specs.Prelude.{ℕ, zero, suc, ◌-◌, ◌^◌, Bool, true, cond, ◌&&◌, List, [], ◌∷◌, ◌++◌, map, length, leb}
 use Rattle.task.specs.Table.{Task}
-use Rattle.task.specs.Run.{Run, plain-run, is-plan}
+use Rattle.task.specs.Run.{Run, plain_run, is_plan}
 
 -- each of the lists behind the number 0, then each behind 1, .. then each behind o - 1
 unfoldable pub behind : (o : ℕ) → List (List ℕ) → List (List ℕ)
@@ -16,35 +16,35 @@ lists_of o zero = [] ∷ []
 lists_of o (suc n) = behind o (lists_of o n)
 
 -- Those of no number, then of one, .. then of n: the shorter first. Ordered by their numbers alone, 0 0 would come before 1, though 1 has fewer steps.
-unfoldable pub lists-upto : (o n : ℕ) → List (List ℕ)
-lists-upto o zero = lists_of o zero
-lists-upto o (suc n) = lists-upto o n ++ lists_of o (suc n)
+unfoldable pub lists_upto : (o n : ℕ) → List (List ℕ)
+lists_upto o zero = lists_of o zero
+lists_upto o (suc n) = lists_upto o n ++ lists_of o (suc n)
 
 -- a list of operator numbers and its cost; or that there is none
 pub data Pick : Type 0 where
-  no-plan : Pick
-  plan-of : (numbers : List ℕ) → (cost : ℕ) → Pick
+  no_plan : Pick
+  plan_of : (numbers : List ℕ) → (cost : ℕ) → Pick
 
-unfoldable pub no-dearer : ℕ → Pick → Bool
-no-dearer cost no-plan = true
-no-dearer cost (plan-of numbers other) = leb cost other
+unfoldable pub no_dearer : ℕ → Pick → Bool
+no_dearer cost no_plan = true
+no_dearer cost (plan_of numbers other) = leb cost other
 
 -- A list, unless it is no plan or a later one costs less. A later one that costs the same does not replace it: where operators 0 and 1 both reach
 -- the goal at cost 0, the answer is 0.
-unfoldable pub unless-later : (numbers : List ℕ) → Run → (later : Pick) → Pick
-unless-later numbers r later = cond (is-plan r && no-dearer r.cost later) (plan-of numbers r.cost) later
+unfoldable pub unless_later : (numbers : List ℕ) → Run → (later : Pick) → Pick
+unless_later numbers r later = cond (is_plan r && no_dearer r.cost later) (plan_of numbers r.cost) later
 
 -- the first plan of least cost among these lists
-unfoldable pub first-cheapest : Task → List (List ℕ) → Pick
-first-cheapest t [] = no-plan
-first-cheapest t (numbers ∷ lists) =
-    unless-later numbers (plain-run t t.initial numbers) (first-cheapest t lists)
+unfoldable pub first_cheapest : Task → List (List ℕ) → Pick
+first_cheapest t [] = no_plan
+first_cheapest t (numbers ∷ lists) =
+    unless_later numbers (plain_run t t.initial numbers) (first_cheapest t lists)
 
 -- No list of 2^V numbers or more needs to be looked at, since it comes to some state twice. One fewer would be too few: one variable that one
 -- operator sets needs 1 step, and a counter of V variables that one operator counts up needs 2^V - 1.
-abbrev pub most-steps : Task → ℕ
-most-steps t = 2 ^ length t.initial - 1
+abbrev pub most_steps : Task → ℕ
+most_steps t = 2 ^ length t.initial - 1
 
 -- The cheapest plan. That it is the least among lists of any length is no part of the definition but a theorem, `cheapest-is-least`.
 unfoldable pub cheapest : Task → Pick
-cheapest t = first-cheapest t (lists-upto (length t.operators) (most-steps t))
+cheapest t = first_cheapest t (lists_upto (length t.operators) (most_steps t))

@@ -1,7 +1,7 @@
 -- 02's order of plans (K1): less cost first; at the same cost fewer steps; at the same cost and steps the first by operator numbers.
 use Rattle.std.specs.Prelude.{ℕ, ◌<◌, ◌≡◌, true, List, ◌∷◌, length}
 use Rattle.task.specs.Table.{Task}
-use Rattle.task.specs.Run.{plain-run, is-plan}
+use Rattle.task.specs.Run.{plain_run, is_plan}
 
 -- Two lists of one length, "compared from the front": the first number in which they differ decides. 0 2 comes before 1 0.
 pub data FirstByNumbers : List ℕ → List ℕ → Type 0 where
@@ -16,12 +16,12 @@ pub data Before (c : ℕ) (p : List ℕ) (d : ℕ) (q : List ℕ) : Type 0 where
 
 -- these numbers are a plan from the initial state
 abbrev pub Plan : Task → List ℕ → Type 0
-Plan t numbers = is-plan (plain-run t t.initial numbers) ≡ true
+Plan t numbers = is_plan (plain_run t t.initial numbers) ≡ true
 
-abbrev pub cost-of : Task → List ℕ → ℕ
-cost-of t numbers = (plain-run t t.initial numbers).cost
+abbrev pub cost_of : Task → List ℕ → ℕ
+cost_of t numbers = (plain_run t t.initial numbers).cost
 
 -- The least plan: among the plans of any length none comes before it.
 pub record Least (t : Task) (numbers : List ℕ) : Type 0 where
   pub plan : Plan t numbers
-  pub none_before : (other : List ℕ) → Plan t other → Before (cost-of t other) other (cost-of t numbers) numbers → ⊥
+  pub none_before : (other : List ℕ) → Plan t other → Before (cost_of t other) other (cost_of t numbers) numbers → ⊥

@@ -1,4 +1,6 @@
 // The cheapest plan of a task of few variables: the call, and what it answers.
+#![tactic(auto)]
+
 mod begin;
 pub mod call;
 mod clear;
@@ -11,7 +13,7 @@ mod visits;
 mod writing;
 
 // A plan: refusal 0, its steps and its cost. Refused: the number, and nothing else.
-#[derive(Drop)]
+#[derive(Clone, Copy)]
 pub struct CheapestOutcome {
     pub refusal: u16,
     pub steps: u32,

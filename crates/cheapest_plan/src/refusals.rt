@@ -1,7 +1,7 @@
 // What refuses the call before it searches.
 ghost use Rattle.std.specs.Prelude.{◌^◌, ◌≤◌, ◌≡◌};
 ghost use Rattle.task.specs.Table.{lent};
-ghost use Rattle.cheapest_plan.specs.Planned.{search-refusal};
+ghost use Rattle.cheapest_plan.specs.Planned.{search_refusal};
 
 use crate::MOST_VARIABLES;
 use task::Head;
@@ -26,7 +26,7 @@ pub fn refused_early(
     scratch: &[u8],
     words: &[u32],
 ) -> u16
-    ensures { result ≡ search-refusal (lent head initial.now twins.now formulas.now effects.now operators.now) scratch.now words.now }
+    ensures { result ≡ search_refusal (lent head initial.now twins.now formulas.now effects.now operators.now) scratch.now words.now }
 {
     let number = check(head, initial, twins, formulas, effects, operators);
     if number != 0 {

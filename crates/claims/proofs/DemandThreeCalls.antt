@@ -10,29 +10,29 @@ use lib.Dec.{leb}
 use borrow.Author.Tests.{le-leb}
 use Rattle.task.specs.declared.Head.{Head}
 use Rattle.task.specs.Bounded.{every}
-use Rattle.task.specs.Table.{Lent, task-of}
+use Rattle.task.specs.Table.{Lent, task_of}
 use Rattle.task.specs.Words.{head_of}
-use Rattle.task.specs.Run.{Run, plain-run}
+use Rattle.task.specs.Run.{Run, plain_run}
 use Rattle.task.specs.Corresponding.{Corresponding}
-use Rattle.task.proofs.Bounded.{every-from}
+use Rattle.task.proofs.Bounded.{every_from}
 use Rattle.task.proofs.Held.{length-initial}
 use Rattle.task.proofs.Kept.{kept-rules}
 use Rattle.normal_form.specs.Finished.{finished}
 use Rattle.normal_form.specs.Alike.{Alike}
-use Rattle.normal_form.specs.Compiled.{Room, compiled-head, compiling, given}
+use Rattle.normal_form.specs.Compiled.{Room, compiled_head, compiling, given}
 use Rattle.normal_form.proofs.ShapePassed.{finished-variables}
 use Rattle.normal_form.proofs.Compiled.{given-compiles, given-task, given-head, given-passes}
-use Rattle.plan.specs.Outcome.{early-refusal, run-refusal, run-answer, ran}
-use Rattle.plan.proofs.Refusing.{not-refused, run-not-refused, run-ready, short-enough}
-use Rattle.claims.proofs.DemandThree.{given-runs-alike}
-use Rattle.claims.proofs.DemandTwoRuns.{run-is-the-plain-run}
+use Rattle.plan.specs.Outcome.{early_refusal, run_refusal, run_answer, ran}
+use Rattle.plan.proofs.Refusing.{not_refused, run-not-refused, run-ready, short-enough}
+use Rattle.claims.proofs.DemandThree.{given_runs_alike}
+use Rattle.claims.proofs.DemandTwoRuns.{run_is_the_plain_run}
 
-alike-answers : {originals : List ℕ} (r r' : Run) → Alike originals r r' → run-answer r ≡ run-answer r'
-unfolding run-answer
-alike-answers r r' a = rw (a.steps, a.cost, a.goal, a.stop)
+alike_answers : {originals : List ℕ} (r r' : Run) → Alike originals r r' → run_answer r ≡ run_answer r'
+unfolding run_answer
+alike_answers r r' a = rw (a.steps, a.cost, a.goal, a.stop)
 
-module _ (l : Lent) (room : Room) (h : Head) (success : (compiling l room).answer ≡ compiled-head h) where
-  width : (s numbers scratch : List ℕ) → run-refusal l s numbers scratch ≡ 0 → length s ≡ length (task-of l).initial
+module _ (l : Lent) (room : Room) (h : Head) (success : (compiling l room).answer ≡ compiled_head h) where
+  width : (s numbers scratch : List ℕ) → run_refusal l s numbers scratch ≡ 0 → length s ≡ length (task_of l).initial
   width s numbers scratch e =
       (run-ready l s numbers scratch e).state.size
       ∙ sym (length-initial l (kept-rules l (given-compiles l room h success).passes).0)
@@ -40,32 +40,32 @@ module _ (l : Lent) (room : Room) (h : Head) (success : (compiling l room).answe
   -- Where compiling succeeded and neither run is refused, they answer the same, steps, cost, goal and end, and their last states correspond.
   pub calls-alike :
       (s s' numbers scratch scratch' : List ℕ)
-      → Corresponding (task-of (given h (compiling l room))).originals s s'
-      → run-refusal l s numbers scratch ≡ 0
-      → run-refusal (given h (compiling l room)) s' numbers scratch' ≡ 0
+      → Corresponding (task_of (given h (compiling l room))).originals s s'
+      → run_refusal l s numbers scratch ≡ 0
+      → run_refusal (given h (compiling l room)) s' numbers scratch' ≡ 0
       → let w = ran l s numbers scratch in
       let w' = ran (given h (compiling l room)) s' numbers scratch' in
-      (w.answer ≡ w'.answer) × Corresponding (task-of (given h (compiling l room))).originals w.state w'.state
+      (w.answer ≡ w'.answer) × Corresponding (task_of (given h (compiling l room))).originals w.state w'.state
   calls-alike s s' numbers scratch scratch' states e e' =
-      let a = (given-runs-alike l room h success).runs s s' numbers (width s numbers scratch e) states in
-      rw (run-is-the-plain-run l s numbers scratch e, run-is-the-plain-run (given h (compiling l room)) s' numbers scratch' e')
-      (alike-answers (plain-run (task-of l) s numbers) (plain-run (task-of (given h (compiling l room))) s' numbers) a, a.states)
+      let a = (given_runs_alike l room h success).runs s s' numbers (width s numbers scratch e) states in
+      rw (run_is_the_plain_run l s numbers scratch e, run_is_the_plain_run (given h (compiling l room)) s' numbers scratch' e')
+      (alike_answers (plain_run (task_of l) s numbers) (plain_run (task_of (given h (compiling l room))) s' numbers) a, a.states)
 
   -- what a corresponding compiled state is: a byte a variable, 0 or 1
   wide :
       (s s' : List ℕ)
-      → length s ≡ length (task-of l).initial
-      → Corresponding (task-of (given h (compiling l room))).originals s s'
+      → length s ≡ length (task_of l).initial
+      → Corresponding (task_of (given h (compiling l room))).originals s s'
       → length s' ≡ h.variables
   unfolding head_of
   wide s s' w states =
-      let t = task-of l in
+      let t = task_of l in
       let e : length s' ≡ length s + length (finished t).originals = rw (given-task l room h success) at states.width in
       rw (given-head l room h success) (omega (arith, finished-variables t))
 
   bits :
       (s s' : List ℕ)
-      → Corresponding (task-of (given h (compiling l room))).originals s s'
+      → Corresponding (task_of (given h (compiling l room))).originals s s'
       → (v : ℕ)
       → v < length s'
       → get_or s' v 0 ≤ 1
@@ -82,16 +82,16 @@ module _ (l : Lent) (room : Room) (h : Head) (success : (compiling l room).answe
   -- A run that is not refused on the source's tables is not refused on the compiled ones either, scratch aside.
   pub compiled-run-not-refused :
       (s s' numbers scratch scratch' : List ℕ)
-      → Corresponding (task-of (given h (compiling l room))).originals s s'
-      → run-refusal l s numbers scratch ≡ 0
+      → Corresponding (task_of (given h (compiling l room))).originals s s'
+      → run_refusal l s numbers scratch ≡ 0
       → h.formulas + h.effects ≤ length scratch'
-      → run-refusal (given h (compiling l room)) s' numbers scratch' ≡ 0
+      → run_refusal (given h (compiling l room)) s' numbers scratch' ≡ 0
   compiled-run-not-refused s s' numbers scratch scratch' states e enough =
       let told : every (length s') (λ v. leb (get_or s' v 0) 1) ≡ true =
-      every-from (length s') (λ v. leb (get_or s' v 0) 1) (λ v b. le-leb (get_or s' v 0) 1 (bits s s' states v b))
+      every_from (length s') (λ v. leb (get_or s' v 0) 1) (λ v b. le-leb (get_or s' v 0) 1 (bits s s' states v b))
       in
-      let early : 0 ≡ early-refusal (given h (compiling l room)) s' scratch' =
-      not-refused (given h (compiling l room)) s' scratch' 0 (sym (given-passes l room h success)) refl
+      let early : 0 ≡ early_refusal (given h (compiling l room)) s' scratch' =
+      not_refused (given h (compiling l room)) s' scratch' 0 (sym (given-passes l room h success)) refl
       (wide s s' (width s numbers scratch e) states) true (sym told) refl enough
       in
       sym

@@ -6,25 +6,25 @@ use mathlib.Core.Logic.{◌↔◌}
 use mathlib.Core.List.{List}
 use lib.ListN.{get_or}
 use Rattle.task.specs.declared.Head.{Head}
-use Rattle.task.specs.Table.{Lent, Task, task-of}
+use Rattle.task.specs.Table.{Lent, Task, task_of}
 use Rattle.task.specs.Check.{refusal}
 use Rattle.task.specs.Words.{head_of, lent_of}
 use Rattle.task.specs.Rules.{LentWords}
 use Rattle.task.proofs.Kept.{kept-rules}
-use Rattle.task.proofs.Sixteen.{lent-rules}
+use Rattle.task.proofs.Sixteen.{lent_rules}
 use Rattle.task.specs.Semantics.{Formula, Atom, Effect, holds, effcond}
-use Rattle.task.specs.Tree.{formula-of}
-use Rattle.task.proofs.Words.{task-of-lent}
-use Rattle.normal_form.proofs.Demand.{finished-keeps}
+use Rattle.task.specs.Tree.{formula_of}
+use Rattle.task.proofs.Words.{task_of_lent}
+use Rattle.normal_form.proofs.Demand.{finished_keeps}
 use Rattle.normal_form.specs.Builder.{Polarity}
 use Rattle.normal_form.specs.Growth.{Steady}
 use Rattle.normal_form.specs.Image.{image}
 use Rattle.normal_form.specs.Conditions.{condition}
 use Rattle.normal_form.specs.Operators.{parts}
 use Rattle.normal_form.specs.Finished.{finished}
-use Rattle.normal_form.specs.Compiled.{Room, Fits, compiled-head, not-compiled, CompileOutcome, nothing-given, task-given, compiling, given}
+use Rattle.normal_form.specs.Compiled.{Room, Fits, compiled_head, not_compiled, CompileOutcome, nothing_given, task_given, compiling, given}
 use Rattle.normal_form.specs.Positive.{Positive, PositiveFormula, PositiveEffect}
-use Rattle.normal_form.proofs.Steady.{steady-image, steady-condition, steady-parts}
+use Rattle.normal_form.proofs.Steady.{steady_image, steady-condition, steady_parts}
 use Rattle.normal_form.proofs.ShapeFinished.{flat}
 use Rattle.normal_form.proofs.ShapePassed.{positive, finished-positive, finished-passes}
 use Rattle.normal_form.proofs.ShapePositive.{formula-positive}
@@ -33,28 +33,28 @@ use Rattle.normal_form.proofs.Compiled.{by-room, succeeds, given-compiles, fifte
 use Rattle.claims.specs.Statements.{Compiles, NormalForm}
 
 -- The compiled task passes the check, has no negation symbol anywhere in its formula table, and flat effects.
-pub compiled-is-normal : (t : Task) → Compiles t → NormalForm (lent_of (finished t))
-compiled-is-normal t c =
+pub compiled_is_normal : (t : Task) → Compiles t → NormalForm (lent_of (finished t))
+compiled_is_normal t c =
     record {
       passes = finished-passes t c.rules.checked c.room;
-      keeps = rw (task-of-lent (finished t)) (finished-keeps t c.rules c.room);
-      positive-rows = rw (task-of-lent (finished t)) (positive t c.rules.checked);
-      positive = rw (task-of-lent (finished t)) (finished-positive t c.rules.checked);
-      flat = λ o. rw (task-of-lent (finished t)) (flat t o);
+      keeps = rw (task_of_lent (finished t)) (finished_keeps t c.rules c.room);
+      positive_rows = rw (task_of_lent (finished t)) (positive t c.rules.checked);
+      positive = rw (task_of_lent (finished t)) (finished-positive t c.rules.checked);
+      flat = λ o. rw (task_of_lent (finished t)) (flat t o);
     }
 
 -- Compiling succeeds exactly if the tables pass, W is 0, scratch is long enough, and the finished task keeps the limits and fits what is lent.
-pub compiled-exactly-if :
+pub compiled_exactly_if :
     (l : Lent) (room : Room)
-    → (compiling l room).answer ≡ compiled-head (head_of (finished (task-of l)))
+    → (compiling l room).answer ≡ compiled_head (head_of (finished (task_of l)))
     ↔ (refusal l ≡ 0)
     × (l.head.twins ≡ 0)
     × (2 * l.head.formulas + 2 * l.head.effects ≤ room.scratch)
-    × Fits (finished (task-of l)) room
-unfolding task-given
-compiled-exactly-if l room = (
+    × Fits (finished (task_of l)) room
+unfolding task_given
+compiled_exactly_if l room = (
   λ e.
-      let c = given-compiles l room (head_of (finished (task-of l))) e in
+      let c = given-compiles l room (head_of (finished (task_of l))) e in
       (c.passes, c.untwinned, c.scratch, c.fits),
   λ p.
       ap (λ (o : CompileOutcome). o.answer)
@@ -62,22 +62,22 @@ compiled-exactly-if l room = (
 )
 
 -- Space: where nothing else refuses, 15 is given exactly if the finished task passes a limit or a lent table; never early.
-pub fifteen-exactly-if :
+pub fifteen_exactly_if :
     (l : Lent) (room : Room)
     → refusal l ≡ 0
     → l.head.twins ≡ 0
     → 2 * l.head.formulas + 2 * l.head.effects ≤ room.scratch
-    → (compiling l room).answer ≡ not-compiled 15
-    ↔ (Fits (finished (task-of l)) room → ⊥)
-unfolding nothing-given
-fifteen-exactly-if l room passed untwinned scratch = (
+    → (compiling l room).answer ≡ not_compiled 15
+    ↔ (Fits (finished (task_of l)) room → ⊥)
+unfolding nothing_given
+fifteen_exactly_if l room passed untwinned scratch = (
   fifteen l room,
   λ n. ap (λ (o : CompileOutcome). o.answer) (by-room l room passed untwinned scratch n),
 )
 
-module _ (l : Lent) (room : Room) (h : Head) (success : (compiling l room).answer ≡ compiled-head h) where
+module _ (l : Lent) (room : Room) (h : Head) (success : (compiling l room).answer ≡ compiled_head h) where
   -- A compiling that succeeds gives the compiled task: its head is answered, and its rows stand in the tables.
-  pub gives-compiled-task : (h ≡ head_of (finished (task-of l))) × (task-of (given h (compiling l room)) ≡ finished (task-of l))
+  pub gives-compiled-task : (h ≡ head_of (finished (task_of l))) × (task_of (given h (compiling l room)) ≡ finished (task_of l))
   gives-compiled-task = (given-head l room h success, given-task l room h success)
 
   -- What it gave passes the check, has no negation symbol anywhere in its formula table, and flat effects.
@@ -88,23 +88,23 @@ module _ (l : Lent) (room : Room) (h : Head) (success : (compiling l room).answe
         passes = given-passes l room h success;
         keeps =
             rw (given-task l room h success)
-            (finished-keeps (task-of l) (lent-rules l words (kept-rules l c.passes).0 (source-rules l room h success)) c.fits.limits);
-        positive-rows = given-positive l room h success;
+            (finished_keeps (task_of l) (lent_rules l words (kept-rules l c.passes).0 (source-rules l room h success)) c.fits.limits);
+        positive_rows = given-positive l room h success;
         positive =
-            rw (given-task l room h success) (finished-positive (task-of l) (source-rules l room h success));
+            rw (given-task l room h success) (finished-positive (task_of l) (source-rules l room h success));
         flat = given-flat l room h success;
       }
 
 -- Building only adds rows and twins, and building again in any later state gives the same row and adds nothing: of a formula's image or
 -- negated image, of an atom's effect condition or its dual, and of all that is built for a task.
-pub image-again : (n : ℕ) (p : Polarity) (f : Formula) → Steady (image n p f)
-image-again n p f = steady-image n p f
+pub image_again : (n : ℕ) (p : Polarity) (f : Formula) → Steady (image n p f)
+image_again n p f = steady_image n p f
 
-pub condition-again : (n : ℕ) (p : Polarity) (l : Atom) (e : Effect) → Steady (condition (image n) p l e)
-condition-again n p l e = steady-condition (image n) (steady-image n) p l e
+pub condition_again : (n : ℕ) (p : Polarity) (l : Atom) (e : Effect) → Steady (condition (image n) p l e)
+condition_again n p l e = steady-condition (image n) (steady_image n) p l e
 
-pub task-again : (t : Task) → Steady (parts t)
-task-again t = steady-parts t
+pub task_again : (t : Task) → Steady (parts t)
+task_again t = steady_parts t
 
 -- Positive means monotone: in a state where every variable that was 1 is still 1, a positive formula that held still holds, and so does an
 -- effect condition of a positive effect. "not v0" is lost where v0 becomes 1, so no formula with a negation symbol in force counts as positive.
@@ -121,7 +121,7 @@ module _ (s s' : List ℕ) (still : (v : ℕ) → get_or s v 0 ≡ 1 → get_or 
       (t : Task)
       → Positive t
       → (i : ℕ)
-      → holds s (formula-of t.formulas i) ≡ true
-      → holds s' (formula-of t.formulas i) ≡ true
+      → holds s (formula_of t.formulas i) ≡ true
+      → holds s' (formula_of t.formulas i) ≡ true
   positive-rows-are-monotone t rows i =
-      formula-monotone s s' still (formula-of t.formulas i) (formula-positive t rows i)
+      formula-monotone s s' still (formula_of t.formulas i) (formula-positive t rows i)

@@ -6,19 +6,19 @@ use mathlib.Core.Path.{◌≡◌, refl}
 use lib.ListN.{length}
 use Rattle.task.specs.Table.{Task}
 use Rattle.task.specs.Semantics.{Formula, negation, conjunction, disjunction, implication, equivalence, Atom, Effect, both, under, sets, clears}
-use Rattle.task.specs.Tree.{formula-of}
-use Rattle.task.specs.Run.{operator-of, effect-of-operator}
+use Rattle.task.specs.Tree.{formula_of}
+use Rattle.task.specs.Run.{operator_of, effect_of_operator}
 use Rattle.normal_form.specs.Builder.{St, Build, give, bind, each, start, Polarity, plain, negated, opposite}
 use Rattle.normal_form.specs.Growth.{Grows}
 use Rattle.normal_form.specs.Image.{image}
 use Rattle.normal_form.specs.Conditions.{condition}
-use Rattle.normal_form.specs.Operators.{Changes, changes-of, built-operator, parts}
+use Rattle.normal_form.specs.Operators.{Changes, changes_of, built_operator, parts}
 use Rattle.normal_form.specs.Finished.{built, finished}
-use Rattle.normal_form.proofs.Steady.{steady-image, steady-condition}
+use Rattle.normal_form.proofs.Steady.{steady_image, steady-condition}
 use Rattle.normal_form.proofs.ShapeSizes.{variable-grows, operator-grows}
-use Rattle.normal_form.proofs.Order.{image-stands, condition-stands}
-use Rattle.claims.proofs.Ordered.{pair-in-order, under-ordered, changes-ordered, behind-each, moment-from-start, moment-stands}
-use Rattle.claims.specs.Order.{PairInOrder, UnderInOrder, ChangesInOrder, behind, OperatorInOrder, state-before, TaskInOrder}
+use Rattle.normal_form.proofs.Order.{image_stands, condition-stands}
+use Rattle.claims.proofs.Ordered.{pair_in_order, under-ordered, changes-ordered, behind_each, moment-from-start, moment-stands}
+use Rattle.claims.specs.Order.{PairInOrder, UnderInOrder, ChangesInOrder, behind, OperatorInOrder, state_before, TaskInOrder}
 
 -- "a implies b" is (not a) or b, negated a and (not b). "a equivalent to b" is (a and b) or (not a and not b); negated, (a and not b) or (not a and
 -- b). "And" and "or", negated, follow De Morgan in the same order.
@@ -55,18 +55,18 @@ module _ (n : ℕ) (a b : Formula) where
 module _ (n : ℕ) (a b : Formula) (s : St) (from : Grows start s) where
   pub and-in-order : (p : Polarity) → PairInOrder p s (image n p a) (image n p b) (image n p (conjunction a b))
   unfolding image
-  and-in-order p = pair-in-order p s (steady-image n p a) (steady-image n p b) (image-stands n p a) from
+  and-in-order p = pair_in_order p s (steady_image n p a) (steady_image n p b) (image_stands n p a) from
 
   pub or-in-order : (p : Polarity) → PairInOrder (opposite p) s (image n p a) (image n p b) (image n p (disjunction a b))
   unfolding image
-  or-in-order p = pair-in-order (opposite p) s (steady-image n p a) (steady-image n p b) (image-stands n p a) from
+  or-in-order p = pair_in_order (opposite p) s (steady_image n p a) (steady_image n p b) (image_stands n p a) from
 
   -- not a, then b; negated a, then not b
   pub implies-in-order :
       (p : Polarity) → PairInOrder (opposite p) s (image n (opposite p) a) (image n p b) (image n p (implication a b))
   unfolding image
   implies-in-order p =
-      pair-in-order (opposite p) s (steady-image n (opposite p) a) (steady-image n p b) (image-stands n (opposite p) a) from
+      pair_in_order (opposite p) s (steady_image n (opposite p) a) (steady_image n p b) (image_stands n (opposite p) a) from
 
   -- (a and b), in it a first, then (not a and not b); negated (a and not b), then (not a and b)
   pub equivalent-in-order :
@@ -74,9 +74,9 @@ module _ (n : ℕ) (a b : Formula) (s : St) (from : Grows start s) where
       (image n plain (equivalence a b))
   unfolding image
   equivalent-in-order =
-      pair-in-order negated s (steady-image n plain (conjunction a b))
-      (steady-image n plain (conjunction (negation a) (negation b)))
-      (image-stands n plain (conjunction a b))
+      pair_in_order negated s (steady_image n plain (conjunction a b))
+      (steady_image n plain (conjunction (negation a) (negation b)))
+      (image_stands n plain (conjunction a b))
       from
 
   pub equivalent-negated-in-order :
@@ -84,9 +84,9 @@ module _ (n : ℕ) (a b : Formula) (s : St) (from : Grows start s) where
       (image n negated (equivalence a b))
   unfolding image
   equivalent-negated-in-order =
-      pair-in-order negated s (steady-image n plain (conjunction a (negation b)))
-      (steady-image n plain (conjunction (negation a) b))
-      (image-stands n plain (conjunction a (negation b)))
+      pair_in_order negated s (steady_image n plain (conjunction a (negation b)))
+      (steady_image n plain (conjunction (negation a) b))
+      (image_stands n plain (conjunction a (negation b)))
       from
 
 -- The effect condition of an atom l and its dual: of "both", left first; under a formula, the inner effect first.
@@ -96,64 +96,64 @@ module _ (n : ℕ) (p : Polarity) (l : Atom) (s : St) (from : Grows start s) whe
       → PairInOrder (opposite p) s (condition (image n) p l e) (condition (image n) p l f) (condition (image n) p l (both e f))
   unfolding condition
   both-in-order e f =
-      let steady = steady-condition (image n) (steady-image n) p l in
-      pair-in-order (opposite p) s (steady e) (steady f) (condition-stands (image n) (steady-image n) (image-stands n) p l e) from
+      let steady = steady-condition (image n) (steady_image n) p l in
+      pair_in_order (opposite p) s (steady e) (steady f) (condition-stands (image n) (steady_image n) (image_stands n) p l e) from
 
   pub under-in-order :
       (f : Formula) (e : Effect) → UnderInOrder p s (image n p f) (condition (image n) p l e) (condition (image n) p l (under f e))
-  under-in-order f e = under-ordered (image n) (steady-image n) (image-stands n) p l s from f e
+  under-in-order f e = under-ordered (image n) (steady_image n) (image_stands n) p l s from f e
 
 -- Of variable v under effect e: A, then D; if neither is row 0, then N, and D becomes "D and N".
-pub changes-in-order :
+pub changes_in_order :
     (n : ℕ) (e : Effect) (v : ℕ) (s : St)
     → Grows start s
     → ChangesInOrder s (condition (image n) plain (sets v) e) (condition (image n) plain (clears v) e) (condition (image n) negated (sets v) e)
-    (changes-of (image n) e v)
-changes-in-order n e v s from = changes-ordered (image n) (steady-image n) (image-stands n) e v s from
+    (changes_of (image n) e v)
+changes_in_order n e v s from = changes-ordered (image n) (steady_image n) (image_stands n) e v s from
 
 module _ (t : Task) where
   abbrev width : ℕ
   width = length t.initial
 
-  abbrev precondition-of : ℕ → Build ℕ
-  precondition-of o = image width plain (formula-of t.formulas (operator-of t o).precondition)
+  abbrev precondition_of : ℕ → Build ℕ
+  precondition_of o = image width plain (formula_of t.formulas (operator_of t o).precondition)
 
-  abbrev changes-at : ℕ → ℕ → Build Changes
-  changes-at o = changes-of (image width) (effect-of-operator t o)
+  abbrev changes_at : ℕ → ℕ → Build Changes
+  changes_at o = changes_of (image width) (effect_of_operator t o)
 
   abbrev goal : Build ℕ
-  goal = image width plain (formula-of t.formulas t.goal)
+  goal = image width plain (formula_of t.formulas t.goal)
 
   -- For each operator: its precondition, then each source variable upwards.
   pub operator-in-order :
       (o : ℕ) (s : St)
       → OperatorInOrder (length t.initial) s
-      (image (length t.initial) plain (formula-of t.formulas (operator-of t o).precondition))
-      (changes-of (image (length t.initial)) (effect-of-operator t o))
-      (built-operator t o s).st
+      (image (length t.initial) plain (formula_of t.formulas (operator_of t o).precondition))
+      (changes_of (image (length t.initial)) (effect_of_operator t o))
+      (built_operator t o s).st
   operator-in-order o s =
       record {
         begins = unfold each give in variable-grows t o 0 s (omega arith);
-        upwards = λ v h. rw (← behind-each (changes-at o) v (precondition-of o s).st) (variable-grows t o v s h);
+        upwards = λ v h. rw (← behind_each (changes_at o) v (precondition_of o s).st) (variable-grows t o v s h);
         ends = operator-ends;
       }
     where
-      operator-ends : (built-operator t o s).st ≡ behind (changes-at o) width (precondition-of o s).st
-      operator-ends = unfold built-operator bind give in behind-each (changes-at o) width (precondition-of o s).st
+      operator-ends : (built_operator t o s).st ≡ behind (changes_at o) width (precondition_of o s).st
+      operator-ends = unfold built_operator bind give in behind_each (changes_at o) width (precondition_of o s).st
 
   -- The operators in order; the goal is built last.
   pub task-in-order :
-      TaskInOrder (length t.operators) start (built-operator t)
-      (image (length t.initial) plain (formula-of t.formulas t.goal))
+      TaskInOrder (length t.operators) start (built_operator t)
+      (image (length t.initial) plain (formula_of t.formulas t.goal))
       (built t).st
   task-in-order =
       record {
-        in_order = λ o h. rw (← behind-each (built-operator t) o start) (operator-grows t o h);
+        in_order = λ o h. rw (← behind_each (built_operator t) o start) (operator-grows t o h);
         ends = task-ends;
       }
     where
-      task-ends : (built t).st ≡ (goal (behind (built-operator t) (length t.operators) start)).st
-      task-ends = unfold built parts bind give in rw (behind-each (built-operator t) (length t.operators) start)
+      task-ends : (built t).st ≡ (goal (behind (built_operator t) (length t.operators) start)).st
+      task-ends = unfold built parts bind give in rw (behind_each (built_operator t) (length t.operators) start)
 
   -- What building ends with are the finished task's rows and twins.
   pub building-is-finished : ((finished t).formulas ≡ (built t).st.rows) × ((finished t).originals ≡ (built t).st.twins)
@@ -166,12 +166,12 @@ module _ (t : Task) where
       → o < length t.operators
       → v < length t.initial
       → let n = length t.initial in
-      let e = effect-of-operator t o in
-      let s = state-before t o v in
+      let e = effect_of_operator t o in
+      let s = state_before t o v in
       ChangesInOrder s (condition (image n) plain (sets v) e) (condition (image n) plain (clears v) e) (condition (image n) negated (sets v) e)
-      (changes-of (image n) e v)
-      × Grows (changes-of (image n) e v s).st (built t).st
+      (changes_of (image n) e v)
+      × Grows (changes_of (image n) e v s).st (built t).st
   finished-in-order o v h k = (
-    changes-in-order (length t.initial) (effect-of-operator t o) v (state-before t o v) (moment-from-start t o v),
+    changes_in_order (length t.initial) (effect_of_operator t o) v (state_before t o v) (moment-from-start t o v),
     moment-stands t o v h k,
   )

@@ -3,10 +3,10 @@ use Prim.Native.Nat.{ℕ, ◌≤◌, ◌<◌}
 use native.Mathlib.Omega.{arith}
 use Rattle.file_format.proofs.Numbers.{Told, low, high}
 
-pub told-some : {n : ℕ} → Told n → 1 ≤ n
-told-some (low a b) = a
-told-some (high e) = omega arith
+pub told_some : {n : ℕ} → Told n → 1 ≤ n
+told_some (low a b) = a
+told_some (high e) = omega arith
 
-pub told-apart : {n : ℕ} → Told n → 12 < n → n < 24 → ⊥
-told-apart (low a b) p q = omega arith
-told-apart (high e) p q = omega arith
+pub told_apart : {n : ℕ} → Told n → 12 < n → n < 24 → ⊥
+told_apart (low a b) p q = omega arith
+told_apart (high e) p q = omega arith

@@ -9,36 +9,36 @@ use mathlib.Core.List.{List, [], append-nil}
 use lib.ListN.{length, get_or, take}
 use lib.Seq.{take-length}
 use borrow.Author.Tests.{ltb-true, lt-ltb}
-use Rattle.task.specs.Bounded.{upto, or_else, first-number}
-use Rattle.task.specs.Table.{Row, Operator, Task, formula-kind, effect-kind, row_at, operator-at, FormulaKind, false-kind, true-kind, variable-kind, not-kind, and-kind, or-kind, implies-kind, equivalent-kind, unknown-formula, EffectKind, empty-kind, set-kind, clear-kind, both-kind, under-kind, unknown-effect}
-use Rattle.task.specs.Check.{goal-kept, operator-kept, percent_kept, operator-number, unless}
+use Rattle.task.specs.Bounded.{upto, or_else, first_number}
+use Rattle.task.specs.Table.{Row, Operator, Task, formula_kind, effect_kind, row_at, operator_at, FormulaKind, false_kind, true_kind, variable_kind, not_kind, and_kind, or_kind, implies_kind, equivalent_kind, unknown_formula, EffectKind, empty_kind, set_kind, clear_kind, both_kind, under_kind, unknown_effect}
+use Rattle.task.specs.Check.{goal_kept, operator_kept, percent_kept, operator_number, unless}
 use Rattle.task.specs.Rules.{no_row, Rules}
-use Rattle.task.specs.Words.{words_of, operator-words, lent_of}
-use Rattle.task.proofs.Bounded.{first-at, length-upto, getD-upto}
-use Rattle.task.proofs.Sixteen.{rules-with-costs, words-lent}
-use Rattle.task.proofs.Words.{length-words, length-operator-words, rows-read, operators-read}
-use Rattle.task.proofs.RowRules.{formula-told, formula-passes, effect-told, effect-passes}
-use Rattle.task.proofs.Passed.{goal-tested}
-use Rattle.finite_domain.specs.Table.{FiniteLent, FiniteTask, finite-task-of, finite-formula-kind, finite-effect-kind}
-use Rattle.finite_domain.specs.Check.{finite-counts-kept, finite-long-enough, value-counts-kept, value-kept, initial-values-kept, finite-formula-kept, formula-value-kept, finite-formula-number}
-use Rattle.finite_domain.specs.Check.{finite-effect-kept, effect-value-kept, finite-effect-number, finite-formulas-number, finite-effects-number, finite-operators-number, finite-refusal}
+use Rattle.task.specs.Words.{words_of, operator_words, lent_of}
+use Rattle.task.proofs.Bounded.{first_at, length-upto, getD-upto}
+use Rattle.task.proofs.Sixteen.{rules_with_costs, words_lent}
+use Rattle.task.proofs.Words.{length_words, length_operator_words, rows_read, operators_read}
+use Rattle.task.proofs.RowRules.{formula_told, formula_passes, effect_told, effect_passes}
+use Rattle.task.proofs.Passed.{goal_tested}
+use Rattle.finite_domain.specs.Table.{FiniteLent, FiniteTask, finite_task_of, finite_formula_kind, finite_effect_kind}
+use Rattle.finite_domain.specs.Check.{finite_counts_kept, finite_long_enough, value_counts_kept, value_kept, initial_values_kept, finite_formula_kept, formula_value_kept, finite_formula_number}
+use Rattle.finite_domain.specs.Check.{finite_effect_kept, effect_value_kept, finite_effect_number, finite_formulas_number, finite_effects_number, finite_operators_number, finite_refusal}
 use Rattle.finite_domain.specs.Rules.{FiniteRules, FiniteCosts, FiniteLongEnough}
 use Rattle.finite_domain.proofs.Kept.{finite-kept-rules, finite-rules-kept, finite-costs}
-use Rattle.finite_domain.proofs.Passed.{finite-counts-tested, finite-lengths-tested, values-tested, initial-values-tested}
-use Rattle.claims.specs.Numbers.{Given, broken, keeps, no-rule-left}
-use Rattle.claims.specs.FiniteDomain.{FiniteWords, finite-tables, FiniteCounts, CountRule, FormulaPlace, EffectPlace, FormulaValue, EffectValue, RowByRow, row-breaks, rows-keep, finite-numbers}
-use Rattle.claims.proofs.Numbers.{given, below, parts-tested, percent-tested, first_found}
+use Rattle.finite_domain.proofs.Passed.{finite_counts_tested, finite-lengths-tested, values-tested, initial-values-tested}
+use Rattle.claims.specs.Numbers.{Given, broken, keeps, no_rule_left}
+use Rattle.claims.specs.FiniteDomain.{FiniteWords, finite_tables, FiniteCounts, CountRule, FormulaPlace, EffectPlace, FormulaValue, EffectValue, RowByRow, row_breaks, rows_keep, finite_numbers}
+use Rattle.claims.proofs.Numbers.{given, below, parts_tested, percent_tested, first_found}
 
 -- Of lent words, which are unsigned 16-bit: the check's number is 0 exactly if every lent table is long enough for its count, W is 0, and the task that the
 -- tables hold keeps the rules.
-pub finite-accepted-exactly-if :
+pub finite_accepted_exactly_if :
     (l : FiniteLent)
     → FiniteWords l
-    → finite-refusal l ≡ 0
+    → finite_refusal l ≡ 0
     ↔ FiniteLongEnough l
-    × FiniteRules (finite-task-of l)
-    × FiniteCosts (finite-task-of l)
-finite-accepted-exactly-if l words = (
+    × FiniteRules (finite_task_of l)
+    × FiniteCosts (finite_task_of l)
+finite_accepted_exactly_if l words = (
   λ e.
       let k = finite-kept-rules l e in
       (k.0, k.1, finite-costs l words.operators k.0),
@@ -49,14 +49,14 @@ finite-accepted-exactly-if l words = (
 module _ (t : FiniteTask) where
   rows-there : (rows : List Row) → upto (length rows) (row_at (words_of rows)) ≡ rows
   rows-there rows =
-      ap (λ (w : List ℕ). upto (length rows) (row_at w)) (sym (append-nil (words_of rows))) ∙ rows-read rows []
+      ap (λ (w : List ℕ). upto (length rows) (row_at w)) (sym (append-nil (words_of rows))) ∙ rows_read rows []
 
-  operators-there : (rows : List Operator) → upto (length rows) (operator-at (operator-words rows)) ≡ rows
-  operators-there rows =
-      ap (λ (w : List ℕ). upto (length rows) (operator-at w)) (sym (append-nil (operator-words rows))) ∙ operators-read rows []
+  operators_there : (rows : List Operator) → upto (length rows) (operator_at (operator_words rows)) ≡ rows
+  operators_there rows =
+      ap (λ (w : List ℕ). upto (length rows) (operator_at w)) (sym (append-nil (operator_words rows))) ∙ operators_read rows []
 
-  tables-hold : length t.initial ≡ length t.counts → finite-task-of (finite-tables t) ≡ t
-  unfolding finite-task-of
+  tables-hold : length t.initial ≡ length t.counts → finite_task_of (finite_tables t) ≡ t
+  unfolding finite_task_of
   tables-hold width =
       λ j.
       record {
@@ -64,27 +64,27 @@ module _ (t : FiniteTask) where
         initial = (ap (λ (k : ℕ). take k t.initial) (sym width) ∙ take-length t.initial) j;
         formulas = rows-there t.formulas j;
         effects = rows-there t.effects j;
-        operators = operators-there t.operators j;
+        operators = operators_there t.operators j;
         goal = t.goal;
       }
 
-  tables-long : length t.initial ≡ length t.counts → FiniteLongEnough (finite-tables t)
+  tables-long : length t.initial ≡ length t.counts → FiniteLongEnough (finite_tables t)
   tables-long width =
       record {
-        no-twins = refl;
+        no_twins = refl;
         counts = omega arith;
         initial = omega (arith, width);
-        formulas = omega (arith, length-words t.formulas);
-        effects = omega (arith, length-words t.effects);
-        operators = omega (arith, length-operator-words t.operators);
+        formulas = omega (arith, length_words t.formulas);
+        effects = omega (arith, length_words t.effects);
+        operators = omega (arith, length_operator_words t.operators);
       }
 
   -- a task of 01 with the same operators, whose words are bounded by 01's law
   abbrev all_true : ℕ → Row
   all_true i = record { kind = 1; a = 0; b = 0 }
 
-  abbrev all-empty : ℕ → Row
-  all-empty i = record { kind = 0; a = 0; b = 0 }
+  abbrev all_empty : ℕ → Row
+  all_empty i = record { kind = 0; a = 0; b = 0 }
 
   plain_rows : Task
   plain_rows =
@@ -92,31 +92,31 @@ module _ (t : FiniteTask) where
         initial = [];
         originals = [];
         formulas = upto (length t.formulas) all_true;
-        effects = upto (length t.effects) all-empty;
+        effects = upto (length t.effects) all_empty;
         operators = t.operators;
         goal = 0;
       }
 
   plain-rules : FiniteRules t → FiniteCosts t → Rules plain_rows
-  unfolding plain_rows formula-kind effect-kind
+  unfolding plain_rows formula_kind effect_kind
   plain-rules rules costs =
       let n = length t.formulas in
       let m = length t.effects in
       let there = length-upto n all_true in
-      let also = length-upto m all-empty in
-      rules-with-costs plain_rows
+      let also = length-upto m all_empty in
+      rules_with_costs plain_rows
       (record {
         limits =
             record {
               variables = omega arith;
               twins = omega arith;
-              one-formula = omega (arith, there, rules.limits.one-formula);
+              one_formula = omega (arith, there, rules.limits.one_formula);
               formulas = omega (arith, there, rules.limits.formulas);
               effects = omega (arith, also, rules.limits.effects);
               operators = rules.limits.operators;
             };
-        goal-is-formula = omega (arith, there, rules.limits.one-formula);
-        initial-bits = λ v h. absurd (not-suc-le-zero h);
+        goal_is_formula = omega (arith, there, rules.limits.one_formula);
+        initial_bits = λ v h. absurd (not-suc-le-zero h);
         twin = λ k h. absurd (not-suc-le-zero h);
         formula =
             λ i h.
@@ -125,25 +125,25 @@ module _ (t : FiniteTask) where
         effect =
             λ i h.
             let b : i < m = rw also at h in
-            rw (getD-upto m all-empty i no_row b) (refl, refl);
+            rw (getD-upto m all_empty i no_row b) (refl, refl);
         operator = λ i h. rw (there, also) (rules.operator i h);
       })
       (λ i h. omega (arith, costs.cost i h))
 
-  tables-words : FiniteRules t → FiniteCosts t → FiniteWords (finite-tables t)
+  tables-words : FiniteRules t → FiniteCosts t → FiniteWords (finite_tables t)
   tables-words rules costs =
-      record { operators = unfold plain_rows lent_of in (words-lent plain_rows (plain-rules rules costs)).operators }
+      record { operators = unfold plain_rows lent_of in (words_lent plain_rows (plain-rules rules costs)).operators }
 
   pub every-finite-task-accepted :
       FiniteRules t
       → FiniteCosts t
-      → FiniteWords (finite-tables t)
-      × (finite-refusal (finite-tables t) ≡ 0)
-      × (finite-task-of (finite-tables t) ≡ t)
+      → FiniteWords (finite_tables t)
+      × (finite_refusal (finite_tables t) ≡ 0)
+      × (finite_task_of (finite_tables t) ≡ t)
   every-finite-task-accepted rules costs =
       let held = tables-hold rules.width in (
         tables-words rules costs,
-        finite-rules-kept (finite-tables t) (tables-long rules.width) (rw held rules),
+        finite-rules-kept (finite_tables t) (tables-long rules.width) (rw held rules),
         held,
       )
 
@@ -163,8 +163,8 @@ module _
         go true f false g e = absurd (omega arith)
         go false f q g e = absurd (omega arith)
 
-    row-broken : (i k : ℕ) → row_number i ≡ suc k → Given (one i) (suc x) (Given (other i) (suc y) (λ n. ⊥)) (suc k)
-    row-broken i k e = go (a i) refl (b i) refl (unfold row_number in e)
+    row_broken : (i k : ℕ) → row_number i ≡ suc k → Given (one i) (suc x) (Given (other i) (suc y) (λ n. ⊥)) (suc k)
+    row_broken i k e = go (a i) refl (b i) refl (unfold row_number in e)
       where
         go :
             (p : Bool)
@@ -180,107 +180,107 @@ module _
     rows-given :
         (behind : ℕ → Type 0) (m : ℕ)
         → behind m
-        → RowByRow n one (suc x) other (suc y) behind (or_else (first-number n row_number) m)
+        → RowByRow n one (suc x) other (suc y) behind (or_else (first_number n row_number) m)
     unfolding or_else
-    rows-given behind m rest = go (first-number n row_number) refl
+    rows-given behind m rest = go (first_number n row_number) refl
       where
-        go : (r : ℕ) → first-number n row_number ≡ r → RowByRow n one (suc x) other (suc y) behind (or_else r m)
-        go zero q = rows-keep (λ i h. row-passed i (first-at n row_number q i h)) rest
+        go : (r : ℕ) → first_number n row_number ≡ r → RowByRow n one (suc x) other (suc y) behind (or_else r m)
+        go zero q = rows_keep (λ i h. row-passed i (first_at n row_number q i h)) rest
         go (suc r) q =
             let w = first_found n row_number r q in
-            row-breaks w.at w.below (λ k h. row-passed k (w.clear k h)) (row-broken w.at r w.here)
+            row_breaks w.at w.below (λ k h. row-passed k (w.clear k h)) (row_broken w.at r w.here)
 
 -- the tests of a row, kind by kind
-formula-place-tested : (v i : ℕ) (k : FormulaKind) (a b : ℕ) → finite-formula-kept v i k a b ≡ true ↔ FormulaPlace v i k a b
-unfolding finite-formula-kept
-formula-place-tested v i false-kind a b = (formula-told v i false-kind a b, formula-passes v i false-kind a b)
-formula-place-tested v i true-kind a b = (formula-told v i true-kind a b, formula-passes v i true-kind a b)
-formula-place-tested v i variable-kind a b = below a v
-formula-place-tested v i not-kind a b = (formula-told v i not-kind a b, formula-passes v i not-kind a b)
-formula-place-tested v i and-kind a b = (formula-told v i and-kind a b, formula-passes v i and-kind a b)
-formula-place-tested v i or-kind a b = (formula-told v i or-kind a b, formula-passes v i or-kind a b)
-formula-place-tested v i implies-kind a b = (formula-told v i implies-kind a b, formula-passes v i implies-kind a b)
-formula-place-tested v i equivalent-kind a b = (formula-told v i equivalent-kind a b, formula-passes v i equivalent-kind a b)
-formula-place-tested v i unknown-formula a b = (λ e. false≢true e, λ r. absurd r)
+formula_place_tested : (v i : ℕ) (k : FormulaKind) (a b : ℕ) → finite_formula_kept v i k a b ≡ true ↔ FormulaPlace v i k a b
+unfolding finite_formula_kept
+formula_place_tested v i false_kind a b = (formula_told v i false_kind a b, formula_passes v i false_kind a b)
+formula_place_tested v i true_kind a b = (formula_told v i true_kind a b, formula_passes v i true_kind a b)
+formula_place_tested v i variable_kind a b = below a v
+formula_place_tested v i not_kind a b = (formula_told v i not_kind a b, formula_passes v i not_kind a b)
+formula_place_tested v i and_kind a b = (formula_told v i and_kind a b, formula_passes v i and_kind a b)
+formula_place_tested v i or_kind a b = (formula_told v i or_kind a b, formula_passes v i or_kind a b)
+formula_place_tested v i implies_kind a b = (formula_told v i implies_kind a b, formula_passes v i implies_kind a b)
+formula_place_tested v i equivalent_kind a b = (formula_told v i equivalent_kind a b, formula_passes v i equivalent_kind a b)
+formula_place_tested v i unknown_formula a b = (λ e. false≢true e, λ r. absurd r)
 
-effect-place-tested : (v f i : ℕ) (k : EffectKind) (a b : ℕ) → finite-effect-kept v f i k a b ≡ true ↔ EffectPlace v f i k a b
-unfolding finite-effect-kept
-effect-place-tested v f i empty-kind a b = (effect-told v f i empty-kind a b, effect-passes v f i empty-kind a b)
-effect-place-tested v f i set-kind a b = below a v
-effect-place-tested v f i clear-kind a b = (λ e. false≢true e, λ r. absurd r)
-effect-place-tested v f i both-kind a b = (effect-told v f i both-kind a b, effect-passes v f i both-kind a b)
-effect-place-tested v f i under-kind a b = (effect-told v f i under-kind a b, effect-passes v f i under-kind a b)
-effect-place-tested v f i unknown-effect a b = (λ e. false≢true e, λ r. absurd r)
+effect_place_tested : (v f i : ℕ) (k : EffectKind) (a b : ℕ) → finite_effect_kept v f i k a b ≡ true ↔ EffectPlace v f i k a b
+unfolding finite_effect_kept
+effect_place_tested v f i empty_kind a b = (effect_told v f i empty_kind a b, effect_passes v f i empty_kind a b)
+effect_place_tested v f i set_kind a b = below a v
+effect_place_tested v f i clear_kind a b = (λ e. false≢true e, λ r. absurd r)
+effect_place_tested v f i both_kind a b = (effect_told v f i both_kind a b, effect_passes v f i both_kind a b)
+effect_place_tested v f i under_kind a b = (effect_told v f i under_kind a b, effect_passes v f i under_kind a b)
+effect_place_tested v f i unknown_effect a b = (λ e. false≢true e, λ r. absurd r)
 
 -- of a row that has no value
-no-formula-value : (counts : List ℕ) (k : FormulaKind) (a b : ℕ) → (k ≡ variable-kind → ⊥) → true ≡ true ↔ FormulaValue counts k a b
-no-formula-value counts k a b other = (λ e. record { below = λ q. absurd (other q) }, λ r. refl)
+no_formula_value : (counts : List ℕ) (k : FormulaKind) (a b : ℕ) → (k ≡ variable_kind → ⊥) → true ≡ true ↔ FormulaValue counts k a b
+no_formula_value counts k a b other = (λ e. record { below = λ q. absurd (other q) }, λ r. refl)
 
-no-effect-value : (counts : List ℕ) (k : EffectKind) (a b : ℕ) → (k ≡ set-kind → ⊥) → true ≡ true ↔ EffectValue counts k a b
-no-effect-value counts k a b other = (λ e. record { below = λ q. absurd (other q) }, λ r. refl)
+no_effect_value : (counts : List ℕ) (k : EffectKind) (a b : ℕ) → (k ≡ set_kind → ⊥) → true ≡ true ↔ EffectValue counts k a b
+no_effect_value counts k a b other = (λ e. record { below = λ q. absurd (other q) }, λ r. refl)
 
-formula-value-tested : (counts : List ℕ) (k : FormulaKind) (a b : ℕ) → formula-value-kept counts k a b ≡ true ↔ FormulaValue counts k a b
-unfolding formula-value-kept value-kept
-formula-value-tested counts false-kind a b = no-formula-value counts false-kind a b (λ q. let z : ◌≡◌ {A = ℕ} 0 1 = cc in omega arith)
-formula-value-tested counts true-kind a b = no-formula-value counts true-kind a b (λ q. let z : ◌≡◌ {A = ℕ} 0 1 = cc in omega arith)
-formula-value-tested counts variable-kind a b = (
+formula_value_tested : (counts : List ℕ) (k : FormulaKind) (a b : ℕ) → formula_value_kept counts k a b ≡ true ↔ FormulaValue counts k a b
+unfolding formula_value_kept value_kept
+formula_value_tested counts false_kind a b = no_formula_value counts false_kind a b (λ q. let z : ◌≡◌ {A = ℕ} 0 1 = cc in omega arith)
+formula_value_tested counts true_kind a b = no_formula_value counts true_kind a b (λ q. let z : ◌≡◌ {A = ℕ} 0 1 = cc in omega arith)
+formula_value_tested counts variable_kind a b = (
   λ e. record { below = λ q. ltb-true b (get_or counts a 0) e },
   λ r. lt-ltb b (get_or counts a 0) (r.below refl),
 )
-formula-value-tested counts not-kind a b = no-formula-value counts not-kind a b (λ q. let z : ◌≡◌ {A = ℕ} 0 1 = cc in omega arith)
-formula-value-tested counts and-kind a b = no-formula-value counts and-kind a b (λ q. let z : ◌≡◌ {A = ℕ} 0 1 = cc in omega arith)
-formula-value-tested counts or-kind a b = no-formula-value counts or-kind a b (λ q. let z : ◌≡◌ {A = ℕ} 0 1 = cc in omega arith)
-formula-value-tested counts implies-kind a b = no-formula-value counts implies-kind a b (λ q. let z : ◌≡◌ {A = ℕ} 0 1 = cc in omega arith)
-formula-value-tested counts equivalent-kind a b =
-    no-formula-value counts equivalent-kind a b (λ q. let z : ◌≡◌ {A = ℕ} 0 1 = cc in omega arith)
-formula-value-tested counts unknown-formula a b =
-    no-formula-value counts unknown-formula a b (λ q. let z : ◌≡◌ {A = ℕ} 0 1 = cc in omega arith)
+formula_value_tested counts not_kind a b = no_formula_value counts not_kind a b (λ q. let z : ◌≡◌ {A = ℕ} 0 1 = cc in omega arith)
+formula_value_tested counts and_kind a b = no_formula_value counts and_kind a b (λ q. let z : ◌≡◌ {A = ℕ} 0 1 = cc in omega arith)
+formula_value_tested counts or_kind a b = no_formula_value counts or_kind a b (λ q. let z : ◌≡◌ {A = ℕ} 0 1 = cc in omega arith)
+formula_value_tested counts implies_kind a b = no_formula_value counts implies_kind a b (λ q. let z : ◌≡◌ {A = ℕ} 0 1 = cc in omega arith)
+formula_value_tested counts equivalent_kind a b =
+    no_formula_value counts equivalent_kind a b (λ q. let z : ◌≡◌ {A = ℕ} 0 1 = cc in omega arith)
+formula_value_tested counts unknown_formula a b =
+    no_formula_value counts unknown_formula a b (λ q. let z : ◌≡◌ {A = ℕ} 0 1 = cc in omega arith)
 
-effect-value-tested : (counts : List ℕ) (k : EffectKind) (a b : ℕ) → effect-value-kept counts k a b ≡ true ↔ EffectValue counts k a b
-unfolding effect-value-kept value-kept
-effect-value-tested counts empty-kind a b = no-effect-value counts empty-kind a b (λ q. let z : ◌≡◌ {A = ℕ} 0 1 = cc in omega arith)
-effect-value-tested counts set-kind a b = (
+effect_value_tested : (counts : List ℕ) (k : EffectKind) (a b : ℕ) → effect_value_kept counts k a b ≡ true ↔ EffectValue counts k a b
+unfolding effect_value_kept value_kept
+effect_value_tested counts empty_kind a b = no_effect_value counts empty_kind a b (λ q. let z : ◌≡◌ {A = ℕ} 0 1 = cc in omega arith)
+effect_value_tested counts set_kind a b = (
   λ e. record { below = λ q. ltb-true b (get_or counts a 0) e },
   λ r. lt-ltb b (get_or counts a 0) (r.below refl),
 )
-effect-value-tested counts clear-kind a b = no-effect-value counts clear-kind a b (λ q. let z : ◌≡◌ {A = ℕ} 0 1 = cc in omega arith)
-effect-value-tested counts both-kind a b = no-effect-value counts both-kind a b (λ q. let z : ◌≡◌ {A = ℕ} 0 1 = cc in omega arith)
-effect-value-tested counts under-kind a b = no-effect-value counts under-kind a b (λ q. let z : ◌≡◌ {A = ℕ} 0 1 = cc in omega arith)
-effect-value-tested counts unknown-effect a b = no-effect-value counts unknown-effect a b (λ q. let z : ◌≡◌ {A = ℕ} 0 1 = cc in omega arith)
+effect_value_tested counts clear_kind a b = no_effect_value counts clear_kind a b (λ q. let z : ◌≡◌ {A = ℕ} 0 1 = cc in omega arith)
+effect_value_tested counts both_kind a b = no_effect_value counts both_kind a b (λ q. let z : ◌≡◌ {A = ℕ} 0 1 = cc in omega arith)
+effect_value_tested counts under_kind a b = no_effect_value counts under_kind a b (λ q. let z : ◌≡◌ {A = ℕ} 0 1 = cc in omega arith)
+effect_value_tested counts unknown_effect a b = no_effect_value counts unknown_effect a b (λ q. let z : ◌≡◌ {A = ℕ} 0 1 = cc in omega arith)
 
 -- the numbers of the rows, and what stands behind them
-or-else-joined : (a b m : ℕ) → or_else (or_else a b) m ≡ or_else a (or_else b m)
+or_else_joined : (a b m : ℕ) → or_else (or_else a b) m ≡ or_else a (or_else b m)
 unfolding or_else
-or-else-joined zero b m = refl
-or-else-joined (suc a) b m = refl
+or_else_joined zero b m = refl
+or_else_joined (suc a) b m = refl
 
-finite-first :
+finite_first :
     (a b c d e : Bool) (r m : ℕ)
     → or_else (unless a 6 (unless b 7 (unless c 5 (unless d 25 (unless e 26 r))))) m
     ≡ unless a 6 (unless b 7 (unless c 5 (unless d 25 (unless e 26 (or_else r m)))))
 unfolding or_else
-finite-first false b c d e r m = refl
-finite-first true false c d e r m = refl
-finite-first true true false d e r m = refl
-finite-first true true true false e r m = refl
-finite-first true true true true false r m = refl
-finite-first true true true true true r m = refl
+finite_first false b c d e r m = refl
+finite_first true false c d e r m = refl
+finite_first true true false d e r m = refl
+finite_first true true true false e r m = refl
+finite_first true true true true false r m = refl
+finite_first true true true true true r m = refl
 
 module _ (l : FiniteLent) where
-  counts-given : finite-counts-kept l.head ≡ true ↔ FiniteCounts l.head
+  counts-given : finite_counts_kept l.head ≡ true ↔ FiniteCounts l.head
   counts-given = (
     λ e.
-        let c = (finite-counts-tested l.head).0 e in
-        record { variables = c.0; no-twins = c.1; limits = c.2 },
-    λ r. (finite-counts-tested l.head).1 (r.variables, r.no-twins, r.limits),
+        let c = (finite_counts_tested l.head).0 e in
+        record { variables = c.0; no_twins = c.1; limits = c.2 },
+    λ r. (finite_counts_tested l.head).1 (r.variables, r.no_twins, r.limits),
   )
 
-  lengths-given : l.head.twins ≡ 0 → finite-long-enough l ≡ true ↔ FiniteLongEnough l
-  lengths-given no-twins = (
+  lengths-given : l.head.twins ≡ 0 → finite_long_enough l ≡ true ↔ FiniteLongEnough l
+  lengths-given no_twins = (
     λ e.
         let r = (finite-lengths-tested l).0 e in
         record {
-          no-twins = no-twins;
+          no_twins = no_twins;
           counts = r.counts;
           initial = r.initial;
           formulas = r.formulas;
@@ -298,7 +298,7 @@ module _ (l : FiniteLent) where
         }),
   )
 
-  values-given : value-counts-kept l ≡ true ↔ ((a : ℕ) → a < l.head.variables → CountRule (get_or l.counts a 0))
+  values-given : value_counts_kept l ≡ true ↔ ((a : ℕ) → a < l.head.variables → CountRule (get_or l.counts a 0))
   values-given = (
     λ e a h.
         let r = (values-tested l).0 e a h in
@@ -307,41 +307,41 @@ module _ (l : FiniteLent) where
   )
 
   -- the tables' own numbers, and what stands behind them
-  pub finite-given : (behind : ℕ → Type 0) (m : ℕ) → behind m → finite-numbers l behind (or_else (finite-refusal l) m)
-  unfolding finite-refusal finite-formulas-number finite-effects-number finite-operators-number finite-formula-number finite-effect-number operator-number row_number
+  pub finite-given : (behind : ℕ → Type 0) (m : ℕ) → behind m → finite_numbers l behind (or_else (finite_refusal l) m)
+  unfolding finite_refusal finite_formulas_number finite_effects_number finite_operators_number finite_formula_number finite_effect_number operator_number row_number
   finite-given behind m rest =
       let v = l.head.variables in
       let f = l.head.formulas in
       let e = l.head.effects in
       rw (
-        finite-first (finite-counts-kept l.head) (goal-kept l.head) (finite-long-enough l) (value-counts-kept l) (initial-values-kept l)
-            (or_else (finite-formulas-number l) (or_else (finite-effects-number l) (finite-operators-number l))) m,
-        or-else-joined (finite-formulas-number l) (or_else (finite-effects-number l) (finite-operators-number l)) m,
-        or-else-joined (finite-effects-number l) (finite-operators-number l) m,
+        finite_first (finite_counts_kept l.head) (goal_kept l.head) (finite_long_enough l) (value_counts_kept l) (initial_values_kept l)
+            (or_else (finite_formulas_number l) (or_else (finite_effects_number l) (finite_operators_number l))) m,
+        or_else_joined (finite_formulas_number l) (or_else (finite_effects_number l) (finite_operators_number l)) m,
+        or_else_joined (finite_effects_number l) (finite_operators_number l) m,
       )
-      (given (finite-counts-kept l.head) 6 _ counts-given (λ r6.
-      given (goal-kept l.head) 7 _ (goal-tested l.head) (λ r7.
-      given (finite-long-enough l) 5 _ (lengths-given r6.no-twins) (λ r5.
-      given (value-counts-kept l) 25 _ values-given (λ r25.
-      given (initial-values-kept l) 26 _ (initial-values-tested l) (λ r26.
+      (given (finite_counts_kept l.head) 6 _ counts-given (λ r6.
+      given (goal_kept l.head) 7 _ (goal_tested l.head) (λ r7.
+      given (finite_long_enough l) 5 _ (lengths-given r6.no_twins) (λ r5.
+      given (value_counts_kept l) 25 _ values-given (λ r25.
+      given (initial_values_kept l) 26 _ (initial-values-tested l) (λ r26.
       rows-given f 9 25
-      (λ i. let r = row_at l.formulas i in finite-formula-kept v i (finite-formula-kind r.kind) r.a r.b)
-      (λ i. let r = row_at l.formulas i in formula-value-kept l.counts (finite-formula-kind r.kind) r.a r.b)
+      (λ i. let r = row_at l.formulas i in finite_formula_kept v i (finite_formula_kind r.kind) r.a r.b)
+      (λ i. let r = row_at l.formulas i in formula_value_kept l.counts (finite_formula_kind r.kind) r.a r.b)
       _ _
-      (λ i. let r = row_at l.formulas i in formula-place-tested v i (finite-formula-kind r.kind) r.a r.b)
-      (λ i. let r = row_at l.formulas i in formula-value-tested l.counts (finite-formula-kind r.kind) r.a r.b)
+      (λ i. let r = row_at l.formulas i in formula_place_tested v i (finite_formula_kind r.kind) r.a r.b)
+      (λ i. let r = row_at l.formulas i in formula_value_tested l.counts (finite_formula_kind r.kind) r.a r.b)
       _ _
       (rows-given e 10 25
-      (λ i. let r = row_at l.effects i in finite-effect-kept v f i (finite-effect-kind r.kind) r.a r.b)
-      (λ i. let r = row_at l.effects i in effect-value-kept l.counts (finite-effect-kind r.kind) r.a r.b)
+      (λ i. let r = row_at l.effects i in finite_effect_kept v f i (finite_effect_kind r.kind) r.a r.b)
+      (λ i. let r = row_at l.effects i in effect_value_kept l.counts (finite_effect_kind r.kind) r.a r.b)
       _ _
-      (λ i. let r = row_at l.effects i in effect-place-tested v f i (finite-effect-kind r.kind) r.a r.b)
-      (λ i. let r = row_at l.effects i in effect-value-tested l.counts (finite-effect-kind r.kind) r.a r.b)
+      (λ i. let r = row_at l.effects i in effect_place_tested v f i (finite_effect_kind r.kind) r.a r.b)
+      (λ i. let r = row_at l.effects i in effect_value_tested l.counts (finite_effect_kind r.kind) r.a r.b)
       _ _
-      (rows-given l.head.operators 11 23 (λ i. operator-kept f e (operator-at l.operators i)) (λ i. percent_kept (operator-at l.operators i))
+      (rows-given l.head.operators 11 23 (λ i. operator_kept f e (operator_at l.operators i)) (λ i. percent_kept (operator_at l.operators i))
       _ _
-      (λ i. parts-tested f e (operator-at l.operators i))
-      (λ i. percent-tested (operator-at l.operators i))
+      (λ i. parts_tested f e (operator_at l.operators i))
+      (λ i. percent_tested (operator_at l.operators i))
       _ _ rest))))))))
 
 alone : (n : ℕ) → or_else n 0 ≡ n
@@ -350,5 +350,5 @@ alone zero = refl
 alone (suc n) = refl
 
 -- The check of finite-domain tables.
-pub finite-check-gives-the-first : (l : FiniteLent) → finite-numbers l no-rule-left (finite-refusal l)
-finite-check-gives-the-first l = rw (alone (finite-refusal l)) at (finite-given l no-rule-left 0 refl)
+pub finite_check_gives_the_first : (l : FiniteLent) → finite_numbers l no_rule_left (finite_refusal l)
+finite_check_gives_the_first l = rw (alone (finite_refusal l)) at (finite-given l no_rule_left 0 refl)

@@ -11,23 +11,23 @@ use lib.Dec.{ltb, eqb}
 use borrow.Author.Tests.{ltb-true, lt-ltb, le-ltb, eqb-true}
 use Rattle.task.specs.declared.Head.{Head}
 use Rattle.task.specs.Bounded.{every}
-use Rattle.task.specs.Table.{task-of}
-use Rattle.task.specs.Run.{applicable, Progress, plain-run, is-plan}
-use Rattle.task.proofs.Bounded.{and_left, and_right, and_both, every-at, every-from, every-same}
+use Rattle.task.specs.Table.{task_of}
+use Rattle.task.specs.Run.{applicable, Progress, plain_run, is_plan}
+use Rattle.task.proofs.Bounded.{and_left, and_right, and_both, every_at, every_from, every_same}
 use Rattle.normal_form.specs.Finished.{finished}
-use Rattle.normal_form.specs.Compiled.{Room, compiled-head, compiling, given}
+use Rattle.normal_form.specs.Compiled.{Room, compiled_head, compiling, given}
 use Rattle.normal_form.proofs.Compiled.{given-task as given-compiled}
 use Rattle.normal_form.proofs.Demand.{outside}
-use Rattle.finite_domain.specs.Table.{FiniteLent, FiniteTask, finite-task-of}
+use Rattle.finite_domain.specs.Table.{FiniteLent, FiniteTask, finite_task_of}
 use Rattle.finite_domain.specs.Rules.{FiniteRules}
-use Rattle.finite_domain.specs.Meaning.{FiniteEffect, becomes, finite-both, finite-holds, finite-effcond, clash, consistent, finite-apply}
-use Rattle.finite_domain.specs.Tree.{finite-formula-of}
-use Rattle.finite_domain.specs.Run.{finite-operator-of, finite-effect-of-operator, finite-applicable, finite-charge, finite-after-step, finite-run-on, finite-run}
+use Rattle.finite_domain.specs.Meaning.{FiniteEffect, becomes, finite_both, finite_holds, finite_effcond, clash, consistent, finite_apply}
+use Rattle.finite_domain.specs.Tree.{finite_formula_of}
+use Rattle.finite_domain.specs.Run.{finite_operator_of, finite_effect_of_operator, finite_applicable, finite_charge, finite_after_step, finite_run_on, finite_run}
 use Rattle.translation.specs.Flags.{flags_of, OneFlagEach}
 use Rattle.translation.specs.Translated.{translated}
 use Rattle.translation.specs.Translating.{translating}
-use Rattle.translation.proofs.States.{finite-apply-at, length-finite-apply, initial-state}
-use Rattle.translation.proofs.EffectMeaning.{value_found, value-kept}
+use Rattle.translation.proofs.States.{finite_apply_at, length_finite_apply, initial_state}
+use Rattle.translation.proofs.EffectMeaning.{value_found, value_kept}
 use Rattle.translation.proofs.Passed.{translated-initial, translated-operators}
 use Rattle.translation.proofs.Alike.{same-applicable, translated-alike, translated-alike-initial}
 use Rattle.translation.proofs.BothStages.{compiled-alike, compiled-initial, compiled-alike-initial}
@@ -35,80 +35,80 @@ use Rattle.claims.specs.FiniteDomain.{FiniteWords, Translates, FiniteOutside, Fi
 use Rattle.claims.proofs.FiniteDomainTranslating.{given-task, given-translates}
 
 -- A number outside the task.
-finite-outside : (t : FiniteTask) (o : ℕ) → length t.operators ≤ o → FiniteOutside t o
-unfolding finite-applicable finite-run-on
-finite-outside t o h =
+finite_outside : (t : FiniteTask) (o : ℕ) → length t.operators ≤ o → FiniteOutside t o
+unfolding finite_applicable finite_run_on
+finite_outside t o h =
     let e : ltb o (length t.operators) ≡ false = le-ltb o (length t.operators) h in
     record { nowhere = λ s. rw e; met = λ p rest. rw e }
 
 -- One claim about every list of operator numbers and all answers, from every state.
-pub finite-runs-alike : (t : FiniteTask) → FiniteRules t → FiniteRunsAlike t (translated t)
-finite-runs-alike t rules =
+pub finite_runs_alike : (t : FiniteTask) → FiniteRules t → FiniteRunsAlike t (translated t)
+finite_runs_alike t rules =
     record {
       runs = λ s numbers state. translated-alike t rules s state numbers;
       initially = translated-initial t;
-      initial-state = initial-state t rules;
+      initial_state = initial_state t rules;
       outside =
           λ o h.
           let there : length (translated t).operators ≤ o = rw (translated-operators t) h in
-          (finite-outside t o h, (outside (translated t) o there).0);
+          (finite_outside t o h, (outside (translated t) o there).0);
     }
 
 -- "Initial flags have exactly one 1 per variable", and so have the flags that any run of the translated task leaves, whatever the numbers.
-pub one-flag-for-each-variable :
+pub one_flag_for_each_variable :
     (t : FiniteTask)
     → FiniteRules t
     → (numbers : List ℕ)
-    → OneFlagEach t.counts (plain-run (translated t) (translated t).initial numbers).state
-one-flag-for-each-variable t rules numbers = (translated-alike-initial t rules numbers).one_each
+    → OneFlagEach t.counts (plain_run (translated t) (translated t).initial numbers).state
+one_flag_for_each_variable t rules numbers = (translated-alike-initial t rules numbers).one_each
 
 -- The same through both stages. The compiled task's limits are not needed.
-pub through-both-stages : (t : FiniteTask) → Translates t → BothStagesAlike t (finished (translated t))
-through-both-stages t c =
+pub through_both_stages : (t : FiniteTask) → Translates t → BothStagesAlike t (finished (translated t))
+through_both_stages t c =
     record {
       runs = λ s k numbers state states. compiled-alike t c.rules c.room s k state states numbers;
       initially = compiled-initial t c.rules c.room;
-      initial-state = initial-state t c.rules;
+      initial_state = initial_state t c.rules;
       outside =
           λ o h.
           let there : length (translated t).operators ≤ o = rw (translated-operators t) h in
-          (finite-outside t o h, (outside (translated t) o there).1);
+          (finite_outside t o h, (outside (translated t) o there).1);
     }
 
 -- What the users read off it: from the initial states a list is a plan of the task exactly if it is one of the compiled task of its translation, and costs the
 -- same.
-pub same-plans-through-both :
+pub same_plans_through_both :
     (t : FiniteTask)
     → Translates t
     → (numbers : List ℕ)
-    → let r = finite-run t t.initial numbers in
-    let r' = plain-run (finished (translated t)) (finished (translated t)).initial numbers in
-    (is-plan r ≡ is-plan r') × (r.cost ≡ r'.cost)
-same-plans-through-both t c numbers =
+    → let r = finite_run t t.initial numbers in
+    let r' = plain_run (finished (translated t)) (finished (translated t)).initial numbers in
+    (is_plan r ≡ is_plan r') × (r.cost ≡ r'.cost)
+same_plans_through_both t c numbers =
     let a = (compiled-alike-initial t c.rules c.room numbers).answers in
     (a.plan, a.cost)
 
 -- Of the calls: the tables that translating gave run alike, and so do those that compiling gave of them.
-module _ (l : FiniteLent) (words : FiniteWords l) (room : Room) (h : Head) (success : (translating l room).answer ≡ compiled-head h) where
-  pub given-finite-runs-alike : FiniteRunsAlike (finite-task-of l) (task-of (given h (translating l room)))
+module _ (l : FiniteLent) (words : FiniteWords l) (room : Room) (h : Head) (success : (translating l room).answer ≡ compiled_head h) where
+  pub given-finite-runs-alike : FiniteRunsAlike (finite_task_of l) (task_of (given h (translating l room)))
   given-finite-runs-alike =
-      rw (given-task l room h success) (finite-runs-alike (finite-task-of l) (given-translates l room h success words).rules)
+      rw (given-task l room h success) (finite_runs_alike (finite_task_of l) (given-translates l room h success words).rules)
 
   pub through-both-calls :
       (room' : Room) (h' : Head)
       → let flagged = given h (translating l room) in
-      (compiling flagged room').answer ≡ compiled-head h'
-      → BothStagesAlike (finite-task-of l) (task-of (given h' (compiling flagged room')))
+      (compiling flagged room').answer ≡ compiled_head h'
+      → BothStagesAlike (finite_task_of l) (task_of (given h' (compiling flagged room')))
   through-both-calls room' h' compiled =
       rw (given-compiled (given h (translating l room)) room' h' compiled, given-task l room h success)
-      (through-both-stages (finite-task-of l) (given-translates l room h success words))
+      (through_both_stages (finite_task_of l) (given-translates l room h success words))
 
 -- A step that would give a variable two values.
 module _ (t : FiniteTask) (s : List ℕ) (o : ℕ) where
   e : FiniteEffect
-  e = finite-effect-of-operator t o
+  e = finite_effect_of_operator t o
 
-  clashes : (a d d' : ℕ) → finite-effcond s a d e ≡ true → finite-effcond s a d' e ≡ true → clash s e a d d' ≡ true
+  clashes : (a d d' : ℕ) → finite_effcond s a d e ≡ true → finite_effcond s a d' e ≡ true → clash s e a d d' ≡ true
   unfolding clash
   clashes a d d' p q = and_both p q
 
@@ -119,40 +119,40 @@ module _ (t : FiniteTask) (s : List ℕ) (o : ℕ) where
       → a < length t.counts
       → d < d'
       → d' < get_or t.counts a 0
-      → finite-effcond s a d e ≡ true
-      → finite-effcond s a d' e ≡ true
+      → finite_effcond s a d e ≡ true
+      → finite_effcond s a d' e ≡ true
       → ⊥
   unfolding consistent
   no-two-in-order a d d' ok h low high p q =
       let one =
-      every-at d' (λ d. not (clash s e a d d'))
-      (every-at (get_or t.counts a 0) (λ d'. every d' (λ d. not (clash s e a d d')))
-      (every-at (length t.counts) (λ a. every (get_or t.counts a 0) (λ d'. every d' (λ d. not (clash s e a d d')))) ok a h)
+      every_at d' (λ d. not (clash s e a d d'))
+      (every_at (get_or t.counts a 0) (λ d'. every d' (λ d. not (clash s e a d d')))
+      (every_at (length t.counts) (λ a. every (get_or t.counts a 0) (λ d'. every d' (λ d. not (clash s e a d d')))) ok a h)
       d' high)
       d low
       in
       false≢true (sym (ap not (clashes a d d' p q)) ∙ one)
 
-  consistent-no-two : consistent t.counts s (finite-effect-of-operator t o) ≡ true → TwoValues t s o → ⊥
+  consistent-no-two : consistent t.counts s (finite_effect_of_operator t o) ≡ true → TwoValues t s o → ⊥
   unfolding e
   consistent-no-two ok w = go (dec_lt w.one w.other)
     where
       go : Dec (w.one < w.other) → ⊥
-      go (yes h) = no-two-in-order w.variable w.one w.other ok w.there h w.other-below w.gives_one w.gives_other
+      go (yes h) = no-two-in-order w.variable w.one w.other ok w.there h w.other_below w.gives_one w.gives_other
       go (no n) =
           no-two-in-order w.variable w.other w.one ok w.there (omega (arith, n, w.differ)) w.one_below
           w.gives_other w.gives_one
 
-  no-two-consistent : (TwoValues t s o → ⊥) → consistent t.counts s (finite-effect-of-operator t o) ≡ true
+  no-two-consistent : (TwoValues t s o → ⊥) → consistent t.counts s (finite_effect_of_operator t o) ≡ true
   unfolding consistent clash
   no-two-consistent none =
-      every-from (length t.counts) (λ a. every (get_or t.counts a 0) (λ d'. every d' (λ d. not (clash s f a d d')))) (λ a h.
-      every-from (get_or t.counts a 0) (λ d'. every d' (λ d. not (clash s f a d d'))) (λ d' high.
-      every-from d' (λ d. not (clash s f a d d')) (λ d low.
-      apart a d d' h low high (finite-effcond s a d f) refl (finite-effcond s a d' f) refl)))
+      every_from (length t.counts) (λ a. every (get_or t.counts a 0) (λ d'. every d' (λ d. not (clash s f a d d')))) (λ a h.
+      every_from (get_or t.counts a 0) (λ d'. every d' (λ d. not (clash s f a d d'))) (λ d' high.
+      every_from d' (λ d. not (clash s f a d d')) (λ d low.
+      apart a d d' h low high (finite_effcond s a d f) refl (finite_effcond s a d' f) refl)))
     where
       f : FiniteEffect
-      f = finite-effect-of-operator t o
+      f = finite_effect_of_operator t o
 
       apart :
           (a d d' : ℕ)
@@ -160,10 +160,10 @@ module _ (t : FiniteTask) (s : List ℕ) (o : ℕ) where
           → d < d'
           → d' < get_or t.counts a 0
           → (p : Bool)
-          → finite-effcond s a d f ≡ p
+          → finite_effcond s a d f ≡ p
           → (q : Bool)
-          → finite-effcond s a d' f ≡ q
-          → not (finite-effcond s a d f && finite-effcond s a d' f) ≡ true
+          → finite_effcond s a d' f ≡ q
+          → not (finite_effcond s a d f && finite_effcond s a d' f) ≡ true
       apart a d d' h low high true x true y =
           absurd
           (none
@@ -173,7 +173,7 @@ module _ (t : FiniteTask) (s : List ℕ) (o : ℕ) where
             other = d';
             there = h;
             one_below = omega arith;
-            other-below = high;
+            other_below = high;
             differ = λ z. omega arith;
             gives_one = x;
             gives_other = y;
@@ -182,15 +182,15 @@ module _ (t : FiniteTask) (s : List ℕ) (o : ℕ) where
       apart a d d' h low high false x q y = rw x
 
   applicable-parts :
-      finite-applicable t s o ≡ true
+      finite_applicable t s o ≡ true
       → (o < length t.operators)
-      × (finite-holds s (finite-formula-of t.formulas (finite-operator-of t o).precondition) ≡ true)
-      × (consistent t.counts s (finite-effect-of-operator t o) ≡ true)
-  unfolding finite-applicable
+      × (finite_holds s (finite_formula_of t.formulas (finite_operator_of t o).precondition) ≡ true)
+      × (consistent t.counts s (finite_effect_of_operator t o) ≡ true)
+  unfolding finite_applicable
   applicable-parts q =
       let inside = ltb o (length t.operators) in
-      let pre = finite-holds s (finite-formula-of t.formulas (finite-operator-of t o).precondition) in
-      let single = consistent t.counts s (finite-effect-of-operator t o) in
+      let pre = finite_holds s (finite_formula_of t.formulas (finite_operator_of t o).precondition) in
+      let single = consistent t.counts s (finite_effect_of_operator t o) in
       let rest = and_right inside (pre && single) q in (
         ltb-true o (length t.operators) (and_left inside (pre && single) q),
         and_left pre single rest,
@@ -198,8 +198,8 @@ module _ (t : FiniteTask) (s : List ℕ) (o : ℕ) where
       )
 
   -- An operator is applicable exactly if its number is one of the task's, its precondition holds and no variable would get two values.
-  pub applicable-exactly-if : finite-applicable t s o ≡ true ↔ MayBeDone t s o
-  unfolding finite-applicable
+  pub applicable-exactly-if : finite_applicable t s o ≡ true ↔ MayBeDone t s o
+  unfolding finite_applicable
   applicable-exactly-if = (
     λ q.
         let p = applicable-parts q in
@@ -207,41 +207,41 @@ module _ (t : FiniteTask) (s : List ℕ) (o : ℕ) where
     λ m. and_both (lt-ltb o (length t.operators) m.inside) (and_both m.precondition (no-two-consistent m.single)),
   )
 
-  two-not-applicable : TwoValues t s o → finite-applicable t s o ≡ false
-  two-not-applicable w = go (finite-applicable t s o) refl
+  two-not-applicable : TwoValues t s o → finite_applicable t s o ≡ false
+  two-not-applicable w = go (finite_applicable t s o) refl
     where
-      go : (b : Bool) → finite-applicable t s o ≡ b → finite-applicable t s o ≡ false
+      go : (b : Bool) → finite_applicable t s o ≡ b → finite_applicable t s o ≡ false
       go true q = absurd (consistent-no-two (applicable-parts q).2 w)
       go false q = q
 
 -- What is assigned in a consistent step stands afterwards, and every other value stays.
-consistent-changes :
+consistent_changes :
     (t : FiniteTask) (s : List ℕ) (o : ℕ)
     → (TwoValues t s o → ⊥)
-    → FiniteChanged t.counts s (finite-effect-of-operator t o) (finite-apply t.counts s (finite-effect-of-operator t o))
-consistent-changes t s o single =
+    → FiniteChanged t.counts s (finite_effect_of_operator t o) (finite_apply t.counts s (finite_effect_of_operator t o))
+consistent_changes t s o single =
     record {
-      width = length-finite-apply counts s f;
+      width = length_finite_apply counts s f;
       assigned =
           λ a d h low e.
-          finite-apply-at counts s f a h
-          ∙ value_found (get_or counts a 0) (λ d. finite-effcond s a d f) (get_or s a 0) d low e (λ j below q. only a d j h low below e q (ℕ_discrete j d));
-      kept = λ a h none. finite-apply-at counts s f a h ∙ value-kept (get_or counts a 0) (λ d. finite-effcond s a d f) (get_or s a 0) none;
+          finite_apply_at counts s f a h
+          ∙ value_found (get_or counts a 0) (λ d. finite_effcond s a d f) (get_or s a 0) d low e (λ j below q. only a d j h low below e q (ℕ_discrete j d));
+      kept = λ a h none. finite_apply_at counts s f a h ∙ value_kept (get_or counts a 0) (λ d. finite_effcond s a d f) (get_or s a 0) none;
     }
   where
     counts : List ℕ
     counts = t.counts
 
     f : FiniteEffect
-    f = finite-effect-of-operator t o
+    f = finite_effect_of_operator t o
 
     only :
         (a d j : ℕ)
         → a < length t.counts
         → d < get_or t.counts a 0
         → j < get_or t.counts a 0
-        → finite-effcond s a d (finite-effect-of-operator t o) ≡ true
-        → finite-effcond s a j (finite-effect-of-operator t o) ≡ true
+        → finite_effcond s a d (finite_effect_of_operator t o) ≡ true
+        → finite_effcond s a j (finite_effect_of_operator t o) ≡ true
         → Dec (j ≡ d)
         → j ≡ d
     only a d j h low below e q (yes same) = same
@@ -254,62 +254,62 @@ consistent-changes t s o single =
           other = d;
           there = h;
           one_below = below;
-          other-below = low;
+          other_below = low;
           differ = differ;
           gives_one = q;
           gives_other = e;
         }))
 
 -- An applicable operator is carried out, all variables changing at once, and its charge is added.
-pub finite-step-is-applied : (t : FiniteTask) (p : Progress) (o : ℕ) → MayBeDone t p.state o → FiniteStepDone t p o
-unfolding finite-run-on finite-after-step finite-charge
-finite-step-is-applied t p o m =
+pub finite_step_is_applied : (t : FiniteTask) (p : Progress) (o : ℕ) → MayBeDone t p.state o → FiniteStepDone t p o
+unfolding finite_run_on finite_after_step finite_charge
+finite_step_is_applied t p o m =
     record {
-      after = finite-after-step t p o;
-      state = consistent-changes t p.state o m.single;
+      after = finite_after_step t p o;
+      state = consistent_changes t p.state o m.single;
       steps = refl;
       cost = refl;
       goes_on = λ rest. rw (lt-ltb o (length t.operators) m.inside, (applicable-exactly-if t p.state o).1 m);
     }
 
 -- "A step that would give a variable two values is not applicable": a run stops there with 18, whatever stands behind it ..
-pub clash-stops :
+pub clash_stops :
     (t : FiniteTask) (p : Progress) (o : ℕ) → o < length t.operators → TwoValues t p.state o → StopsHere t p o
-unfolding finite-run-on
-clash-stops t p o h w =
+unfolding finite_run_on
+clash_stops t p o h w =
     let e = two-not-applicable t p.state o w in
-    record { not-applicable = e; stops = λ rest. rw (lt-ltb o (length t.operators) h, e) }
+    record { not_applicable = e; stops = λ rest. rw (lt-ltb o (length t.operators) h, e) }
 
 -- .. and so does the run of the translated task, from the state's flags.
-pub clash-not-applicable-in-flags :
+pub clash_not_applicable_in_flags :
     (t : FiniteTask)
     → FiniteRules t
     → (s : List ℕ) (o : ℕ)
     → o < length t.operators
     → TwoValues t s o
     → applicable (translated t) (flags_of t.counts s) o ≡ false
-clash-not-applicable-in-flags t rules s o h w = same-applicable t rules s o h ∙ two-not-applicable t s o w
+clash_not_applicable_in_flags t rules s o h w = same-applicable t rules s o h ∙ two-not-applicable t s o w
 
 -- The same value twice is none: an effect joined with itself gives a variable two values exactly if the effect does, and "a becomes d, and a becomes d" never.
 module _ (counts s : List ℕ) where
-  twice_same : (f : FiniteEffect) (a d : ℕ) → finite-effcond s a d (finite-both f f) ≡ finite-effcond s a d f
-  unfolding finite-effcond
-  twice_same f a d = go (finite-effcond s a d f)
+  twice_same : (f : FiniteEffect) (a d : ℕ) → finite_effcond s a d (finite_both f f) ≡ finite_effcond s a d f
+  unfolding finite_effcond
+  twice_same f a d = go (finite_effcond s a d f)
     where
       go : (b : Bool) → (b || b) ≡ b
       go true = refl
       go false = refl
 
-  pub same-value-twice-is-none : (f : FiniteEffect) → consistent counts s (finite-both f f) ≡ consistent counts s f
+  pub same-value-twice-is-none : (f : FiniteEffect) → consistent counts s (finite_both f f) ≡ consistent counts s f
   unfolding consistent clash
   same-value-twice-is-none f =
-      every-same (length counts) _ _ (λ a h.
-      every-same (get_or counts a 0) _ _ (λ d' high.
-      every-same d' _ _ (λ d low.
+      every_same (length counts) _ _ (λ a h.
+      every_same (get_or counts a 0) _ _ (λ d' high.
+      every_same d' _ _ (λ d low.
       rw (twice_same f a d, twice_same f a d') refl)))
 
-  one_value : (a d x y y' : ℕ) → y < y' → (finite-effcond s x y (becomes a d) && finite-effcond s x y' (becomes a d)) ≡ false
-  unfolding finite-effcond
+  one_value : (a d x y y' : ℕ) → y < y' → (finite_effcond s x y (becomes a d) && finite_effcond s x y' (becomes a d)) ≡ false
+  unfolding finite_effcond
   one_value a d x y y' h = go (eqb x a) (eqb y d) refl (eqb y' d) refl
     where
       go : (b p : Bool) → eqb y d ≡ p → (q : Bool) → eqb y' d ≡ q → ((b && p) && (b && q)) ≡ false
@@ -321,10 +321,10 @@ module _ (counts s : List ℕ) where
   one-assignment : (a d : ℕ) → consistent counts s (becomes a d) ≡ true
   unfolding consistent clash
   one-assignment a d =
-      every-from (length counts) _ (λ x h.
-      every-from (get_or counts x 0) _ (λ y' high.
-      every-from y' _ (λ y low.
+      every_from (length counts) _ (λ x h.
+      every_from (get_or counts x 0) _ (λ y' high.
+      every_from y' _ (λ y low.
       rw (one_value a d x y y' low) refl)))
 
-  pub same-assignment-twice : (a d : ℕ) → consistent counts s (finite-both (becomes a d) (becomes a d)) ≡ true
+  pub same-assignment-twice : (a d : ℕ) → consistent counts s (finite_both (becomes a d) (becomes a d)) ≡ true
   same-assignment-twice a d = same-value-twice-is-none (becomes a d) ∙ one-assignment a d

@@ -8,26 +8,26 @@ use mathlib.Core.List.{List, [], ◌∷◌}
 use lib.ListN.{length, get_or, set}
 use lib.Seq.{get_or-set_same, get_or-set_other}
 use borrow.Author.Tests.{lt-ltb, le-leb}
-use Rattle.task.specs.Table.{Lent, operator-width, task-of}
-use Rattle.task.specs.Rules.{no-operator, LongEnough}
-use Rattle.task.specs.Run.{operator-of, charge-of, charge}
+use Rattle.task.specs.Table.{Lent, operator_width, task_of}
+use Rattle.task.specs.Rules.{no_operator, LongEnough}
+use Rattle.task.specs.Run.{operator_of, charge_of, charge}
 use Rattle.task.proofs.Held.{length-operators, operator-held}
 use Rattle.operator_records.specs.declared.OperatorRecord.{OperatorRecord}
-use Rattle.operator_records.specs.Change.{number_of, with-percent, changed, change-by, change}
-use Rattle.operator_records.specs.Rows.{as-operator, no_record, row-record, with-record}
-use Rattle.claims.specs.OperatorRecords.{OneChanged, percent-changed}
-use Rattle.operator_records.proofs.Rows.{record-inside, read_back, own-record, one-operator}
+use Rattle.operator_records.specs.Change.{number_of, with_percent, changed, change_by, change}
+use Rattle.operator_records.specs.Rows.{as_operator, no_record, row_record, with_record}
+use Rattle.claims.specs.OperatorRecords.{OneChanged, percent_changed}
+use Rattle.operator_records.proofs.Rows.{record_inside, read_back, own_record, one_operator}
 
-changes-one : (rs : List OperatorRecord) (number percent : ℕ) → number < length rs → OneChanged rs (changed rs number percent) number percent
+changes_one : (rs : List OperatorRecord) (number percent : ℕ) → number < length rs → OneChanged rs (changed rs number percent) number percent
 unfolding changed
-changes-one [] number percent h = absurd (omega arith)
-changes-one (r ∷ rs) zero percent h = record { size = refl; here = refl; others = others }
+changes_one [] number percent h = absurd (omega arith)
+changes_one (r ∷ rs) zero percent h = record { size = refl; here = refl; others = others }
   where
-    others : (k : ℕ) → k ≢ 0 → get_or (with-percent percent r ∷ rs) k no_record ≡ get_or (r ∷ rs) k no_record
+    others : (k : ℕ) → k ≢ 0 → get_or (with_percent percent r ∷ rs) k no_record ≡ get_or (r ∷ rs) k no_record
     others zero apart = absurd (apart refl)
     others (suc k) apart = refl
-changes-one (r ∷ rs) (suc number) percent h =
-    let rest = changes-one rs number percent (omega arith) in
+changes_one (r ∷ rs) (suc number) percent h =
+    let rest = changes_one rs number percent (omega arith) in
     record { size = ap suc rest.size; here = rest.here; others = others rest }
   where
     others :
@@ -39,44 +39,44 @@ changes-one (r ∷ rs) (suc number) percent h =
     others rest (suc k) apart = rest.others k (λ q. apart (ap suc q))
 
 -- A number inside the list and a percent of at most 200 are taken.
-pub change-is-made :
+pub change_is_made :
     (rs : List OperatorRecord) (number percent : ℕ)
     → number < length rs
     → percent ≤ 200
     → ((change rs number percent).answer ≡ 0) × OneChanged rs (change rs number percent).records number percent
-unfolding change number_of change-by
-change-is-made rs number percent inside few =
-    rw (lt-ltb number (length rs) inside, le-leb percent 200 few) (refl, changes-one rs number percent inside)
+unfolding change number_of change_by
+change_is_made rs number percent inside few =
+    rw (lt-ltb number (length rs) inside, le-leb percent 200 few) (refl, changes_one rs number percent inside)
 
 -- A record that goes back to its row is read there again, and a row's own record changes nothing.
-pub record-comes-back :
+pub record_comes_back :
     (table : List ℕ) (i : ℕ) (r : OperatorRecord)
-    → operator-width * i + operator-width ≤ length table
-    → row-record (with-record table i r) i ≡ r
-record-comes-back table i r h = read_back table i r h
+    → operator_width * i + operator_width ≤ length table
+    → row_record (with_record table i r) i ≡ r
+record_comes_back table i r h = read_back table i r h
 
-pub own-record-changes-nothing : (table : List ℕ) (i : ℕ) → with-record table i (row-record table i) ≡ table
-own-record-changes-nothing table i = own-record table i
+pub own_record_changes_nothing : (table : List ℕ) (i : ℕ) → with_record table i (row_record table i) ≡ table
+own_record_changes_nothing table i = own_record table i
 
 -- In a run: operator i is charged by the new percent, and every other operator as before.
 module _ (l : Lent) (i percent : ℕ) (long : LongEnough l) (below : i < l.head.operators) where
-  operators-are : (task-of (percent-changed l i percent)).operators ≡ set (task-of l).operators i (as-operator (with-percent percent (row-record l.operators i)))
-  unfolding task-of
-  operators-are = one-operator l.head.operators l.operators i _ long.operators below
+  operators-are : (task_of (percent_changed l i percent)).operators ≡ set (task_of l).operators i (as_operator (with_percent percent (row_record l.operators i)))
+  unfolding task_of
+  operators-are = one_operator l.head.operators l.operators i _ long.operators below
 
   pub charged-by-the-new-percent :
-      (s : List ℕ) → charge (task-of (percent-changed l i percent)) s i ≡ ((operator-of (task-of l) i).cost * percent + 50) / 100
-  unfolding charge charge-of operator-of
+      (s : List ℕ) → charge (task_of (percent_changed l i percent)) s i ≡ ((operator_of (task_of l) i).cost * percent + 50) / 100
+  unfolding charge charge_of operator_of
   charged-by-the-new-percent s =
-      let inside : operator-width * i + operator-width ≤ length l.operators = omega (arith, long.operators) in
+      let inside : operator_width * i + operator_width ≤ length l.operators = omega (arith, long.operators) in
       rw (
         operators-are,
-        get_or-set_same (task-of l).operators i _ no-operator (rw (length-operators l) below),
-        ← record-inside l.operators i inside,
+        get_or-set_same (task_of l).operators i _ no_operator (rw (length-operators l) below),
+        ← record_inside l.operators i inside,
         operator-held l i below,
       )
       refl
 
-  pub others-charged-as-before : (s : List ℕ) (k : ℕ) → k ≢ i → charge (task-of (percent-changed l i percent)) s k ≡ charge (task-of l) s k
-  unfolding charge operator-of
-  others-charged-as-before s k apart = rw (operators-are, get_or-set_other (task-of l).operators i k _ no-operator apart) refl
+  pub others-charged-as-before : (s : List ℕ) (k : ℕ) → k ≢ i → charge (task_of (percent_changed l i percent)) s k ≡ charge (task_of l) s k
+  unfolding charge operator_of
+  others-charged-as-before s k apart = rw (operators-are, get_or-set_other (task_of l).operators i k _ no_operator apart) refl

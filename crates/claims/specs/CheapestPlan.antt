@@ -1,26 +1,26 @@
 -- What is claimed of the cheapest plan (02, K1), over lists of operator numbers of any length.
 use Rattle.std.specs.Prelude.{ℕ, ◌+◌, ◌-◌, ◌*◌, ◌^◌, ◌≤◌, ◌≡◌, List, length, get_or, take, drop}
-use Rattle.task.specs.Table.{Lent, Task, task-of}
+use Rattle.task.specs.Table.{Lent, Task, task_of}
 use Rattle.task.specs.Rules.{Checked, Rules, LongEnough}
-use Rattle.file_format.specs.Bytes.{file-of}
+use Rattle.file_format.specs.Bytes.{file_of}
 use Rattle.file_format.specs.Reading.{accepted, reading}
-use Rattle.cheapest_plan.specs.Order.{FirstByNumbers, Plan, cost-of, Least}
+use Rattle.cheapest_plan.specs.Order.{FirstByNumbers, Plan, cost_of, Least}
 use Rattle.cheapest_plan.specs.Planned.{Planned}
 use Rattle.entry_tables.specs.Own.{own}
-use Rattle.layouts.specs.Layout.{low-bytes, numbers_of}
+use Rattle.layouts.specs.Layout.{low_bytes, numbers_of}
 use Rattle.run_entry.specs.Entry.{RunEntry}
 use Rattle.plan_entry.specs.Entry.{PlanEntry}
-use Rattle.claims.specs.Numbers.{Given, no-rule-left, tables-numbers, FileNumber}
+use Rattle.claims.specs.Numbers.{Given, no_rule_left, tables_numbers, FileNumber}
 use Rattle.claims.specs.Zero.{AllZero, ZeroPast}
 
 -- "the plan of least cost from the initial state; among those the one with fewest steps; among those the first by operator numbers, compared from the
 -- front"
 pub record CheapestPlan (t : Task) (numbers : List ℕ) (cost : ℕ) : Type 0 where
   pub plan : Plan t numbers
-  pub charged : cost ≡ cost-of t numbers
-  pub least-cost : (other : List ℕ) → Plan t other → cost ≤ cost-of t other
-  pub fewest-steps : (other : List ℕ) → Plan t other → cost-of t other ≡ cost → length numbers ≤ length other
-  pub first : (other : List ℕ) → Plan t other → cost-of t other ≡ cost → FirstByNumbers other numbers → ⊥
+  pub charged : cost ≡ cost_of t numbers
+  pub least_cost : (other : List ℕ) → Plan t other → cost ≤ cost_of t other
+  pub fewest_steps : (other : List ℕ) → Plan t other → cost_of t other ≡ cost → length numbers ≤ length other
+  pub first : (other : List ℕ) → Plan t other → cost_of t other ≡ cost → FirstByNumbers other numbers → ⊥
   pub short : length numbers ≤ 2 ^ length t.initial - 1
 
 -- what a call that is not refused tells: the steps and the cost of the cheapest plan, whose numbers stand in front of the buffer
@@ -43,29 +43,29 @@ pub record HasPlan (t : Task) : Type 0 where
 pub record PlanFits (t : Task) (n : ℕ) : Type 0 where
   pub fits : (numbers : List ℕ) → Least t numbers → length numbers ≤ n
 
-abbrev pub plan-numbers : Lent → (plan scratch words : List ℕ) → ℕ → Type 0
-plan-numbers l plan scratch words =
-    tables-numbers l
+abbrev pub plan_numbers : Lent → (plan scratch words : List ℕ) → ℕ → Type 0
+plan_numbers l plan scratch words =
+    tables_numbers l
     (Given (l.head.variables ≤ 10) 21
     (Given (SearchRoom l scratch words) 14
-    (Given (HasPlan (task-of l)) 22 (Given (PlanFits (task-of l) (length plan)) 23 no-rule-left))))
+    (Given (HasPlan (task_of l)) 22 (Given (PlanFits (task_of l) (length plan)) 23 no_rule_left))))
 
 pub record PlanKept (l : Lent) (plan scratch words : List ℕ) : Type 0 where
-  pub tables : LongEnough l × Checked (task-of l)
-  pub few-variables : l.head.variables ≤ 10
+  pub tables : LongEnough l × Checked (task_of l)
+  pub few_variables : l.head.variables ≤ 10
   pub room : SearchRoom l scratch words
-  pub exists : HasPlan (task-of l)
-  pub output : PlanFits (task-of l) (length plan)
+  pub exists : HasPlan (task_of l)
+  pub output : PlanFits (task_of l) (length plan)
 
 -- What the call leaves: after a refusal 0 steps, cost 0 and a buffer of 0; after success 0 past the plan; both scratches 0 always
 pub record NoPlanGiven (n : ℕ) (o : Planned) : Type 0 where
   pub no_steps : o.answer.steps ≡ 0
-  pub no-cost : o.answer.cost ≡ 0
+  pub no_cost : o.answer.cost ≡ 0
   pub plan : AllZero n o.plan
 
 pub record PlanLeaves (plan scratch words : List ℕ) (o : Planned) : Type 0 where
-  pub after-refusal : (o.answer.refusal ≡ 0 → ⊥) → NoPlanGiven (length plan) o
-  pub after-success : o.answer.refusal ≡ 0 → ZeroPast o.answer.steps (length plan) o.plan
+  pub after_refusal : (o.answer.refusal ≡ 0 → ⊥) → NoPlanGiven (length plan) o
+  pub after_success : o.answer.refusal ≡ 0 → ZeroPast o.answer.steps (length plan) o.plan
   pub bytes : AllZero (length scratch) o.scratch
   pub states : AllZero (length words) o.words
 
@@ -73,18 +73,18 @@ pub record PlanLeaves (plan scratch words : List ℕ) (o : Planned) : Type 0 whe
 pub record PlanBytesFit (t : Task) (o : ℕ) : Type 0 where
   pub fits : (numbers : List ℕ) → Least t numbers → 2 * length numbers ≤ o
 
-abbrev pub plan-entry-numbers : (file : List ℕ) → (o r : ℕ) → ℕ → Type 0
-plan-entry-numbers file o r =
+abbrev pub plan_entry_numbers : (file : List ℕ) → (o r : ℕ) → ℕ → Type 0
+plan_entry_numbers file o r =
     FileNumber file
     (λ t.
     Given (length t.initial ≤ 10) 21
-    (Given (12 ≤ r) 20 (Given (HasPlan t) 22 (Given (PlanBytesFit t o) 23 no-rule-left))))
+    (Given (12 ≤ r) 20 (Given (HasPlan t) 22 (Given (PlanBytesFit t o) 23 no_rule_left))))
 
 pub record PlanEntryKept (file : List ℕ) (o r : ℕ) : Type 0 where
   pub task : Task
-  pub same : file ≡ file-of task
+  pub same : file ≡ file_of task
   pub rules : Rules task
-  pub few-variables : length task.initial ≤ 10
+  pub few_variables : length task.initial ≤ 10
   pub result : 12 ≤ r
   pub exists : HasPlan task
   pub output : PlanBytesFit task o
@@ -102,19 +102,19 @@ pub record PlanForC (file : List ℕ) (o r : ℕ) (w : PlanEntry) : Type 0 where
   pub cost : ℕ
   pub cheapest : CheapestPlan task numbers cost
   pub written : numbers_of (take (2 * length numbers) w.out) ≡ numbers
-  pub steps : take 4 w.result ≡ low-bytes 4 (length numbers)
-  pub charged : take 8 (drop 4 w.result) ≡ low-bytes 8 cost
-  pub few-steps : length numbers ≤ 1023
+  pub steps : take 4 w.result ≡ low_bytes 4 (length numbers)
+  pub charged : take 8 (drop 4 w.result) ≡ low_bytes 8 cost
+  pub few_steps : length numbers ≤ 1023
   pub out : ZeroPast (2 * length numbers) o w.out
   pub result : ZeroPast 12 r w.result
 
 pub record PlanEntryLeaves (file : List ℕ) (o r : ℕ) (w : PlanEntry) : Type 0 where
-  pub after-refusal : (w.number ≡ 0 → ⊥) → NoPlanForC o r w
-  pub after-success : w.number ≡ 0 → PlanForC file o r w
+  pub after_refusal : (w.number ≡ 0 → ⊥) → NoPlanForC o r w
+  pub after_success : w.number ≡ 0 → PlanForC file o r w
 
 -- The numbers that were given, run by pnf_run: it is told to be a plan, of the same steps and cost.
 pub record PlanRuns (w : PlanEntry) (run : RunEntry) : Type 0 where
   pub number : run.number ≡ 0
   pub plan : get_or run.result 13 0 ≡ 1
-  pub same-steps : take 4 run.result ≡ take 4 w.result
-  pub same-cost : take 8 (drop 4 run.result) ≡ take 8 (drop 4 w.result)
+  pub same_steps : take 4 run.result ≡ take 4 w.result
+  pub same_cost : take 8 (drop 4 run.result) ≡ take 8 (drop 4 w.result)

@@ -1,6 +1,6 @@
 -- What reading and writing say of each other, from what the two calls answer: a field for each thing that is the same.
 use Rattle.std.specs.Prelude.{ℕ, ◌*◌, ◌≡◌, List, length, take}
-use Rattle.task.specs.Table.{Lent, operator-width}
+use Rattle.task.specs.Table.{Lent, operator_width}
 use Rattle.task_file.specs.declared.ReadAnswer.TheVariants.{Read}
 use Rattle.task_file.specs.Outcome.{ReadOutcome}
 use Rattle.task_writer.specs.declared.WriteAnswer.TheVariants.{Written}
@@ -13,7 +13,7 @@ pub record SameTables (l : Lent) (o : ReadOutcome) : Type 0 where
   pub twins : take l.head.twins o.twins ≡ take l.head.twins l.twins
   pub formulas : take (3 * l.head.formulas) o.formulas ≡ take (3 * l.head.formulas) l.formulas
   pub effects : take (3 * l.head.effects) o.effects ≡ take (3 * l.head.effects) l.effects
-  pub operators : take (operator-width * l.head.operators) o.operators ≡ take (operator-width * l.head.operators) l.operators
+  pub operators : take (operator_width * l.head.operators) o.operators ≡ take (operator_width * l.head.operators) l.operators
 
 -- A writing answers the length of a file, and gives its bytes.
 pub record SameFile (file : List ℕ) (o : WriteOutcome) : Type 0 where

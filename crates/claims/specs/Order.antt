@@ -3,12 +3,12 @@
 use Rattle.std.specs.Prelude.{ℕ, zero, suc, ◌+◌, ◌≤◌, ◌<◌, ◌≡◌, ◌⊎◌, List, length, get_or}
 use Rattle.task.specs.Table.{Row, Task}
 use Rattle.task.specs.Rules.{no_row}
-use Rattle.task.specs.Tree.{formula-of}
-use Rattle.task.specs.Run.{operator-of, effect-of-operator}
+use Rattle.task.specs.Tree.{formula_of}
+use Rattle.task.specs.Run.{operator_of, effect_of_operator}
 use Rattle.normal_form.specs.Builder.{St, Build, start, Polarity, plain, negated}
 use Rattle.normal_form.specs.Growth.{Grows}
 use Rattle.normal_form.specs.Image.{image}
-use Rattle.normal_form.specs.Operators.{Changes, changes-of, Built, built-operator}
+use Rattle.normal_form.specs.Operators.{Changes, changes_of, Built, built_operator}
 
 -- Built from s, a step's row is new: its number is not below the number of rows that stand.
 abbrev pub New : St → Build ℕ → Type 0
@@ -39,8 +39,8 @@ JoinsBy negated = Joins 5 1 0
 
 -- A join adds its row at most, and no twin; where a side is a constant it adds nothing.
 pub record JoinAdds (left right : ℕ) (before after : St) : Type 0 where
-  pub one-row : length after.rows ≤ length before.rows + 1
-  pub no-twin : after.twins ≡ before.twins
+  pub one_row : length after.rows ≤ length before.rows + 1
+  pub no_twin : after.twins ≡ before.twins
   pub folded : (left < 2) ⊎ (right < 2) → after ≡ before
 
 -- A joined pair is built left, right, then the join; both sides also where the join folds. With the right side left out there, "false and not v0" breaks
@@ -51,22 +51,22 @@ pub record PairInOrder (p : Polarity) (s : St) (left right whole : Build ℕ) : 
   pub joins : (u : St) → Grows (whole s).st u → JoinsBy p u.rows (left u).value (right u).value (whole u).value
 
 -- the row that ends an effect condition: false; dually, true
-abbrev pub nothing-under : Polarity → ℕ
-nothing-under plain = 0
-nothing-under negated = 1
+abbrev pub nothing_under : Polarity → ℕ
+nothing_under plain = 0
+nothing_under negated = 1
 
 -- An effect condition under a formula: that of the inner effect is built first. If it is false (dually true), so is the answer and nothing else is
 -- built; else the formula's image is next, and the two are joined, the formula left. With the formula first, "(set v0 under v1) under v2" from the
 -- start breaks it: v2 is row 2, and v1 row 3.
 pub record UnderInOrder (p : Polarity) (s : St) (formula inner whole : Build ℕ) : Type 0 where
   pub begins : Grows (inner s).st (whole s).st
-  pub ends : (inner s).value ≡ nothing-under p → whole s ≡ inner s
-  pub order : ((inner s).value ≡ nothing-under p → ⊥) → InOrder s inner formula (whole s).st
+  pub ends : (inner s).value ≡ nothing_under p → whole s ≡ inner s
+  pub order : ((inner s).value ≡ nothing_under p → ⊥) → InOrder s inner formula (whole s).st
   pub adds :
-      ((inner s).value ≡ nothing-under p → ⊥)
+      ((inner s).value ≡ nothing_under p → ⊥)
       → JoinAdds (formula (inner s).st).value (inner s).value (formula (inner s).st).st (whole s).st
   pub joins :
-      ((inner s).value ≡ nothing-under p → ⊥)
+      ((inner s).value ≡ nothing_under p → ⊥)
       → (u : St)
       → Grows (whole s).st u
       → JoinsBy p u.rows (formula u).value (inner u).value (whole u).value
@@ -75,7 +75,7 @@ pub record UnderInOrder (p : Polarity) (s : St) (formula inner whole : Build ℕ
 -- before D, "set v1 under v0, and clear v1 under v2" from the start breaks it: A is row 2, v0's twin row 3, and v2 row 4.
 pub record ChangesInOrder (s : St) (A D N : Build ℕ) (whole : Build Changes) : Type 0 where
   pub order : InOrder s A D (whole s).st
-  pub sets-under : (u : St) → Grows (whole s).st u → (whole u).value.adds ≡ (A u).value
+  pub sets_under : (u : St) → Grows (whole s).st u → (whole u).value.adds ≡ (A u).value
   pub ends : ((A s).value ≡ 0) ⊎ ((D (A s).st).value ≡ 0) → (whole s).st ≡ (D (A s).st).st
   pub stays :
       ((A s).value ≡ 0) ⊎ ((D (A s).st).value ≡ 0)
@@ -107,12 +107,12 @@ pub record OperatorInOrder (n : ℕ) (s : St) (precondition : Build ℕ) (change
   pub ends : end ≡ behind changes n (precondition s).st
 
 -- the state in which variable v of operator o is built
-unfoldable pub state-before : Task → (o v : ℕ) → St
-state-before t o v =
+unfoldable pub state_before : Task → (o v : ℕ) → St
+state_before t o v =
     let n = length t.initial in
-    let s = behind (built-operator t) o start in
-    behind (changes-of (image n) (effect-of-operator t o)) v
-    (image n plain (formula-of t.formulas (operator-of t o).precondition) s).st
+    let s = behind (built_operator t) o start in
+    behind (changes_of (image n) (effect_of_operator t o)) v
+    (image n plain (formula_of t.formulas (operator_of t o).precondition) s).st
 
 -- A task's building from s to `end`: its operators in order, then the goal; nothing else. With the goal first, a goal "not v1" and an operator that
 -- requires "not v0" break it: v1's twin is met before v0's.

@@ -1,9 +1,9 @@
 -- What the demands claim, as records: a field for each sentence.
 use Rattle.std.specs.Prelude.{ℕ, ◌<◌, ◌≤◌, ◌≡◌, false, List, length, get_or}
-use Rattle.task.specs.Table.{Lent, Task, task-of}
+use Rattle.task.specs.Table.{Lent, Task, task_of}
 use Rattle.task.specs.Check.{refusal}
 use Rattle.task.specs.Rules.{Limits, Rules}
-use Rattle.task.specs.Run.{effect-of-operator, plain-run}
+use Rattle.task.specs.Run.{effect_of_operator, plain_run}
 use Rattle.task.specs.Corresponding.{Corresponding}
 use Rattle.normal_form.specs.Finished.{finished}
 use Rattle.normal_form.specs.Positive.{Positive, PositiveTask}
@@ -24,10 +24,10 @@ pub record Compiles (t : Task) : Type 0 where
 -- preconditions and the effect conditions; every operator's effect is flat.
 pub record NormalForm (l : Lent) : Type 0 where
   pub passes : refusal l ≡ 0
-  pub keeps : Rules (task-of l)
-  pub positive-rows : Positive (task-of l)
-  pub positive : PositiveTask (task-of l)
-  pub flat : (o : ℕ) → Flat (effect-of-operator (task-of l) o)
+  pub keeps : Rules (task_of l)
+  pub positive_rows : Positive (task_of l)
+  pub positive : PositiveTask (task_of l)
+  pub flat : (o : ℕ) → Flat (effect_of_operator (task_of l) o)
 
 -- Demand 3, of a source task and its compiled task.
 pub record RunsAlike (source compiled : Task) : Type 0 where
@@ -37,7 +37,7 @@ pub record RunsAlike (source compiled : Task) : Type 0 where
       (s s' numbers : List ℕ)
       → length s ≡ length source.initial
       → Corresponding compiled.originals s s'
-      → Alike compiled.originals (plain-run source s numbers) (plain-run compiled s' numbers)
+      → Alike compiled.originals (plain_run source s numbers) (plain_run compiled s' numbers)
   -- The two initial states correspond.
   pub initially : Corresponding compiled.originals source.initial compiled.initial
   -- In corresponding states no compiled operator sets and clears a variable together, an original or a twin, whatever its precondition says.

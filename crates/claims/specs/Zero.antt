@@ -3,8 +3,8 @@
 -- a call, over its answer and its buffers at exit.
 use Rattle.std.specs.Prelude.{ℕ, ◌+◌, ◌*◌, ◌≤◌, ◌<◌, ◌≡◌, Bool, false, List, length, get_or}
 use Rattle.task.specs.declared.Head.{Head}
-use Rattle.task.specs.Table.{Task, operator-width}
-use Rattle.file_format.specs.Bytes.{file-of}
+use Rattle.task.specs.Table.{Task, operator_width}
+use Rattle.file_format.specs.Bytes.{file_of}
 use Rattle.file_format.specs.Reading.{Lengths, accepted, reading}
 use Rattle.task_file.specs.declared.ReadAnswer.TheVariants.{Read, Refused}
 use Rattle.task_file.specs.Outcome.{ReadOutcome}
@@ -14,7 +14,7 @@ use Rattle.stepper.specs.Stepped.{Stepped}
 use Rattle.plan.specs.declared.outcome.End.TheVariants.{Refused as RunRefused}
 use Rattle.plan.specs.Outcome.{Ran}
 use Rattle.normal_form.specs.Finished.{finished}
-use Rattle.normal_form.specs.Compiled.{Room, compiled-head, not-compiled, CompileOutcome}
+use Rattle.normal_form.specs.Compiled.{Room, compiled_head, not_compiled, CompileOutcome}
 use Rattle.entry_tables.specs.Own.{own}
 use Rattle.layouts.specs.Layout.{Laid}
 use Rattle.run_entry.specs.Entry.{RunEntry}
@@ -44,16 +44,16 @@ pub record TaskRead (l : Lengths) (h : Head) (o : ReadOutcome) : Type 0 where
   pub twins : ZeroPast h.twins l.twins o.twins
   pub formulas : ZeroPast (3 * h.formulas) l.formulas o.formulas
   pub effects : ZeroPast (3 * h.effects) l.effects o.effects
-  pub operators : ZeroPast (operator-width * h.operators) l.operators o.operators
+  pub operators : ZeroPast (operator_width * h.operators) l.operators o.operators
 
 pub record ReadLeaves (l : Lengths) (o : ReadOutcome) : Type 0 where
-  pub after-refusal : (n : ℕ) → o.answer ≡ Refused n → NoTaskRead l o
-  pub after-success : (h : Head) → o.answer ≡ Read h → TaskRead l h o
+  pub after_refusal : (n : ℕ) → o.answer ≡ Refused n → NoTaskRead l o
+  pub after_success : (h : Head) → o.answer ≡ Read h → TaskRead l h o
 
 -- write: into n bytes
 pub record WriteLeaves (n : ℕ) (o : WriteOutcome) : Type 0 where
-  pub after-refusal : (k : ℕ) → o.answer ≡ NotWritten k → AllZero n o.out
-  pub after-success : (k : ℕ) → o.answer ≡ Written k → ZeroPast k n o.out
+  pub after_refusal : (k : ℕ) → o.answer ≡ NotWritten k → AllZero n o.out
+  pub after_success : (k : ℕ) → o.answer ≡ Written k → ZeroPast k n o.out
 
 -- compile: the tables as in read
 pub record NoTaskCompiled (room : Room) (o : CompileOutcome) : Type 0 where
@@ -68,30 +68,30 @@ pub record TaskCompiled (room : Room) (h : Head) (o : CompileOutcome) : Type 0 w
   pub twins : ZeroPast h.twins room.twins o.twins
   pub formulas : ZeroPast (3 * h.formulas) room.formulas o.formulas
   pub effects : ZeroPast (3 * h.effects) room.effects o.effects
-  pub operators : ZeroPast (operator-width * h.operators) room.operators o.operators
+  pub operators : ZeroPast (operator_width * h.operators) room.operators o.operators
 
 pub record CompileLeaves (room : Room) (o : CompileOutcome) : Type 0 where
-  pub after-refusal : (n : ℕ) → o.answer ≡ not-compiled n → NoTaskCompiled room o
-  pub after-success : (h : Head) → o.answer ≡ compiled-head h → TaskCompiled room h o
+  pub after_refusal : (n : ℕ) → o.answer ≡ not_compiled n → NoTaskCompiled room o
+  pub after_success : (h : Head) → o.answer ≡ compiled_head h → TaskCompiled room h o
   pub scratch : AllZero room.scratch o.scratch
 
 -- step and run, refused: the state unchanged, 0 steps, cost 0 and no goal
 pub record NothingDone (before after : List ℕ) (steps cost : ℕ) (goal : Bool) : Type 0 where
   pub state : after ≡ before
   pub no_steps : steps ≡ 0
-  pub no-cost : cost ≡ 0
-  pub no-goal : goal ≡ false
+  pub no_cost : cost ≡ 0
+  pub no_goal : goal ≡ false
 
 -- step: a number other than 0 is a refusal, 17 and 18 among them
 pub record StepLeaves (before lent : List ℕ) (o : Stepped) : Type 0 where
-  pub after-refusal :
+  pub after_refusal :
       (o.answer.refusal ≡ 0 → ⊥)
       → NothingDone before o.state o.answer.steps o.answer.cost o.answer.goal
   pub scratch : AllZero (length lent) o.scratch
 
 -- run: a run that 17 or 18 stops is not refused
 pub record RunLeaves (before lent : List ℕ) (o : Ran) : Type 0 where
-  pub after-refusal :
+  pub after_refusal :
       (n : ℕ)
       → o.answer.end ≡ RunRefused n
       → NothingDone before o.state o.answer.steps o.answer.cost o.answer.goal
@@ -108,13 +108,13 @@ pub record LayoutGiven (file : List ℕ) (n : ℕ) (o : Laid) : Type 0 where
       + 2 * length task.originals
       + 6 * length task.formulas
       + 6 * length task.effects
-      + 2 * (operator-width * length task.operators))
+      + 2 * (operator_width * length task.operators))
       n
       o.bytes
 
 pub record ReadEntryLeaves (file : List ℕ) (n : ℕ) (o : Laid) : Type 0 where
-  pub after-refusal : (o.number ≡ 0 → ⊥) → AllZero n o.bytes
-  pub after-success : o.number ≡ 0 → LayoutGiven file n o
+  pub after_refusal : (o.number ≡ 0 → ⊥) → AllZero n o.bytes
+  pub after_success : o.number ≡ 0 → LayoutGiven file n o
 
 -- pnf_compile: a task was read, its compiled task's file was given, and the file's length in 4 bytes
 pub record NoFileGiven (out-size result-size : ℕ) (o : CompileEntry) : Type 0 where
@@ -124,23 +124,23 @@ pub record NoFileGiven (out-size result-size : ℕ) (o : CompileEntry) : Type 0 
 pub record FileGiven (file : List ℕ) (out-size result-size : ℕ) (o : CompileEntry) : Type 0 where
   pub task : Task
   pub read : reading own file ≡ accepted task
-  pub out : ZeroPast (length (file-of (finished task))) out-size o.out
+  pub out : ZeroPast (length (file_of (finished task))) out-size o.out
   pub result : ZeroPast 4 result-size o.result
 
 pub record CompileEntryLeaves (file : List ℕ) (out-size result-size : ℕ) (o : CompileEntry) : Type 0 where
-  pub after-refusal : (o.number ≡ 0 → ⊥) → NoFileGiven out-size result-size o
-  pub after-success : o.number ≡ 0 → FileGiven file out-size result-size o
+  pub after_refusal : (o.number ≡ 0 → ⊥) → NoFileGiven out-size result-size o
+  pub after_success : o.number ≡ 0 → FileGiven file out-size result-size o
 
 -- pnf_run: every number but these is a refusal; a run's result takes 16 bytes, also after a stop
 pub data RunNumber (number : ℕ) : Type 0 where
   not_stopped : number ≡ 0 → RunNumber number
-  stopped-outside : number ≡ 17 → RunNumber number
-  stopped-not-applicable : number ≡ 18 → RunNumber number
+  stopped_outside : number ≡ 17 → RunNumber number
+  stopped_not_applicable : number ≡ 18 → RunNumber number
 
 pub record NoRunGiven (before : List ℕ) (n : ℕ) (o : RunEntry) : Type 0 where
   pub state : o.state ≡ before
   pub result : AllZero n o.result
 
 pub record RunEntryLeaves (before : List ℕ) (n : ℕ) (o : RunEntry) : Type 0 where
-  pub after-refusal : (RunNumber o.number → ⊥) → NoRunGiven before n o
+  pub after_refusal : (RunNumber o.number → ⊥) → NoRunGiven before n o
   pub after_run : RunNumber o.number → ZeroPast 16 n o.result

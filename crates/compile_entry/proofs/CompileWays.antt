@@ -2,39 +2,39 @@
 use Prim.Native.Nat.{ℕ}
 use mathlib.Core.Path.{◌≡◌, ap, ◌∙◌, subst}
 use mathlib.Core.List.{List}
-use Rattle.task.specs.Table.{Lent, task-of}
+use Rattle.task.specs.Table.{Lent, task_of}
 use Rattle.file_format.specs.Reading.{Lengths, Verdict, rejected, reading}
-use Rattle.entry_tables.proofs.Reading.{ReadAs, same-reading}
-use Rattle.compiled_file.specs.Filed.{no-file, compiled-file, CompileGives}
-use Rattle.compile_entry.specs.Entry.{compile-entry-by, compile-entry}
+use Rattle.entry_tables.proofs.Reading.{ReadAs, same_reading}
+use Rattle.compiled_file.specs.Filed.{no_file, compiled_file, CompileGives}
+use Rattle.compile_entry.specs.Entry.{compile_entry_by, compile_entry}
 
 -- the two ways out by the file
-pub compile-read :
+pub compile_read :
     {m : Lengths} {file : List ℕ} (o n : ℕ) {l : Lent} {r : ℕ} {out result : List ℕ}
     → ReadAs m file l
-    → CompileGives (compiled-file (task-of l) o n) r out result
-    → CompileGives (compile-entry-by (reading m file) o n) r out result
-unfolding compile-entry-by
-compile-read o n t g = rw t.read g
+    → CompileGives (compiled_file (task_of l) o n) r out result
+    → CompileGives (compile_entry_by (reading m file) o n) r out result
+unfolding compile_entry_by
+compile_read o n t g = rw t.read g
 
-pub compile-no-file :
+pub compile_no_file :
     (m : Lengths) (file : List ℕ) (o n : ℕ) {k number r : ℕ} {out result : List ℕ}
     → reading m file ≡ rejected k
     → number ≡ k
-    → CompileGives (no-file number o n) r out result
-    → CompileGives (compile-entry-by (reading m file) o n) r out result
-unfolding compile-entry-by
-compile-no-file m file o n e same none =
+    → CompileGives (no_file number o n) r out result
+    → CompileGives (compile_entry_by (reading m file) o n) r out result
+unfolding compile_entry_by
+compile_no_file m file o n e same none =
     rw e (record { told = none.told ∙ same; written = none.written; held = none.held })
 
 -- through tables of any lengths, any answer but 5 is the entry's
-pub compile-settled :
+pub compile_settled :
     (m : Lengths) (file : List ℕ) (o n : ℕ) {r : ℕ} {out result : List ℕ}
     → (r ≡ 5 → ⊥)
-    → CompileGives (compile-entry-by (reading m file) o n) r out result
-    → CompileGives (compile-entry file o n) r out result
-unfolding compile-entry compile-entry-by
-compile-settled m file o n {r} {out} {result} d g =
-    subst (λ (x : Verdict). CompileGives (compile-entry-by x o n) r out result)
-    (same-reading m file (λ e. d (g.told ∙ ap (λ (x : Verdict). (compile-entry-by x o n).number) e)))
+    → CompileGives (compile_entry_by (reading m file) o n) r out result
+    → CompileGives (compile_entry file o n) r out result
+unfolding compile_entry compile_entry_by
+compile_settled m file o n {r} {out} {result} d g =
+    subst (λ (x : Verdict). CompileGives (compile_entry_by x o n) r out result)
+    (same_reading m file (λ e. d (g.told ∙ ap (λ (x : Verdict). (compile_entry_by x o n).number) e)))
     g

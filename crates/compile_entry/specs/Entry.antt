@@ -2,11 +2,11 @@
 use Rattle.std.specs.Prelude.{ℕ, List}
 use Rattle.file_format.specs.Reading.{Verdict, accepted, rejected, reading}
 use Rattle.entry_tables.specs.Own.{own}
-use Rattle.compiled_file.specs.Filed.{CompileEntry, no-file, compiled-file}
+use Rattle.compiled_file.specs.Filed.{CompileEntry, no_file, compiled_file}
 
-unfoldable pub compile-entry-by : Verdict → (out result : ℕ) → CompileEntry
-compile-entry-by (accepted t) o r = compiled-file t o r
-compile-entry-by (rejected k) o r = no-file k o r
+unfoldable pub compile_entry_by : Verdict → (out result : ℕ) → CompileEntry
+compile_entry_by (accepted t) o r = compiled_file t o r
+compile_entry_by (rejected k) o r = no_file k o r
 
-unfoldable pub compile-entry : List ℕ → (out result : ℕ) → CompileEntry
-compile-entry file o r = compile-entry-by (reading own file) o r
+unfoldable pub compile_entry : List ℕ → (out result : ℕ) → CompileEntry
+compile_entry file o r = compile_entry_by (reading own file) o r

@@ -1,4 +1,6 @@
 // Compiling a task file for C: into the compiled task's file.
+#![tactic(auto)]
+
 mod call;
 
 pub use call::compile;

@@ -12,35 +12,35 @@ use Rattle.formula_builder.specs.Inner.Held.{Store, store}
 use Rattle.atom_sets.specs.Inner.Sets.{sets_end}
 use Rattle.atom_sets.specs.Inner.Finds.{FindsSets, FoundSets}
 use Rattle.conditions.specs.Inner.Conditions.{column, EffectSource, Columns, Noted}
-use Rattle.conditions.proofs.Rows.{both-lower, under-lower, known-kind}
-use Rattle.conditions.proofs.Alone.{atom-within, sets-right}
-use Rattle.conditions.proofs.Notes.{noted-blank}
+use Rattle.conditions.proofs.Rows.{both-lower, under-lower, known_kind}
+use Rattle.conditions.proofs.Alone.{atom_within, sets-right}
+use Rattle.conditions.proofs.Notes.{noted_blank}
 use Rattle.effect_batches.specs.Inner.Firsts.{First, FindsFirst}
 use Rattle.variable_changes.specs.Inner.Stands.{Leaves}
 use Rattle.building.specs.declared.Progress.{Progress}
-use Rattle.building.specs.Inner.Taken.{size-at, Begun, Taken, TakesGoal, TookGoal, FromStart}
+use Rattle.building.specs.Inner.Taken.{size_at, Begun, Taken, TakesGoal, TookGoal, FromStart}
 use Rattle.building.proofs.Begun.{taken_none, goal-asks, goal-taken}
 use Rattle.compile_parts.specs.declared.Counts.{Counts}
 use Rattle.compile_parts.specs.Inner.Batches.{Known, TakesBatch}
 use Rattle.compile_parts.specs.Inner.Builds.{Builds}
 
 -- every word of a table that is all 0
-pub zero-at : (n j : ℕ) → ◌≡◌ {A = ℕ} (get_or (replicate n 0) j 0) 0
-zero-at zero j = refl
-zero-at (suc n) zero = refl
-zero-at (suc n) (suc j) = zero-at n j
+pub zero_at : (n j : ℕ) → ◌≡◌ {A = ℕ} (get_or (replicate n 0) j 0) 0
+zero_at zero j = refl
+zero_at (suc n) zero = refl
+zero_at (suc n) (suc j) = zero_at n j
 
 module _ {c : Counts} {formulas effects operators originals scratch notes built records : List ℕ}
     (b : Builds c formulas effects operators originals scratch notes built records) where
   rules : EffectSource c.frame effects scratch
-  rules = b.blank.effect-source
+  rules = b.blank.effect_source
 
-  kind-most : (i : ℕ) → i < c.frame.effects → (row_at effects i).kind ≤ 4
-  kind-most i h = go (ℕ_discrete (row_at effects i).kind 4)
+  kind_most : (i : ℕ) → i < c.frame.effects → (row_at effects i).kind ≤ 4
+  kind_most i h = go (ℕ_discrete (row_at effects i).kind 4)
     where
       go : Dec ((row_at effects i).kind ≡ 4) → (row_at effects i).kind ≤ 4
       go (yes k) = omega (arith, k)
-      go (no k) = omega (arith, known-kind c.frame formulas effects scratch rules i h k)
+      go (no k) = omega (arith, known_kind c.frame formulas effects scratch rules i h k)
 
   pub finds : FindsSets c.frame effects notes
   finds =
@@ -48,14 +48,14 @@ module _ {c : Counts} {formulas effects operators originals scratch notes built 
         words = rules.words;
         limit = rules.limit;
         variables = omega (arith, b.blank.variables);
-        room = b.notes-space;
+        room = b.notes_space;
         both = λ i h k. both-lower c.frame formulas effects scratch rules i h k;
         under = λ i h k. (under-lower c.frame formulas effects scratch rules i h k).1;
         atom = λ i h some low.
-            atom-within c.frame effects scratch rules i h
+            atom_within c.frame effects scratch rules i h
             (record { kind = (row_at effects i).kind; a = (row_at effects i).a; b = (row_at effects i).b }) refl some
             (λ z. omega (arith, z, low)) (λ z. omega (arith, z, low));
-        known = kind-most;
+        known = kind_most;
       }
 
   pub finds-first : FindsFirst c.frame effects operators c.operators (replicate 4096 0)
@@ -70,7 +70,7 @@ module _ {c : Counts} {formulas effects operators originals scratch notes built 
             };
         roots = record { limit = b.limit; words = b.words; effect = b.effect };
         words = omega (arith, rules.limit, length-replicate {A = ℕ} 4096 0);
-        blank = zero-at 4096;
+        blank = zero_at 4096;
       }
 
   -- `first` is found, and has as many words as before
@@ -90,23 +90,23 @@ module _ {c : Counts} {formulas effects operators originals scratch notes built 
   -- The notes of the pass over sets are right at any state, since no row has a column and nothing is kept yet.
   module _ {named : List ℕ} (s : FoundSets c.frame effects notes named) (same : length named ≡ length notes) where
     pub none_kept : (j : ℕ) → sets_end c.frame ≤ j → get_or named j 0 ≡ 0
-    none_kept j h = s.behind j h ∙ b.blank-notes j
+    none_kept j h = s.behind j h ∙ b.blank_notes j
 
     pub notes-room : sets_end c.frame ≤ length named
-    notes-room = omega (arith, b.notes-space, same)
+    notes-room = omega (arith, b.notes_space, same)
 
     no-columns : Columns c.frame named
     unfolding column
     no-columns =
         record {
           words = notes-room;
-          apart = λ d e _ h some _. absurd (omega (arith, some, s.ahead e (omega (arith, h)) ∙ b.blank-notes e));
+          apart = λ d e _ h some _. absurd (omega (arith, some, s.ahead e (omega (arith, h)) ∙ b.blank_notes e));
         }
 
     pub noted : (t : St) → Noted c.frame formulas effects named t
     noted t =
-        noted-blank formulas t (sets-right c.frame effects scratch named rules s.sets) no-columns
-        (λ j _ h. s.ahead j h ∙ b.blank-notes j) none_kept
+        noted_blank formulas t (sets-right c.frame effects scratch named rules s.sets) no-columns
+        (λ j _ h. s.ahead j h ∙ b.blank_notes j) none_kept
 
   pub first_taken :
       {before table records : List ℕ} {p : Progress}
@@ -122,7 +122,7 @@ module _ {c : Counts} {formulas effects operators originals scratch notes built 
       → length named ≡ length notes
       → length kept ≡ length records
       → Taken c.frame formulas effects operators s memo kept p
-      → Leaves p.full c.frame formulas effects named (size-at p) s
+      → Leaves p.full c.frame formulas effects named (size_at p) s
       → (p.operators ≡ 0 → (j : ℕ) → sets_end c.frame ≤ j → get_or named j 0 ≡ 0)
       → TakesBatch c formulas effects operators first named s memo kept p
   next-batch n h long same k l blank =
@@ -132,7 +132,7 @@ module _ {c : Counts} {formulas effects operators originals scratch notes built 
               known = n;
               next = h;
               along = record { stood = k.done; leaves = l };
-              notes-space = omega (arith, b.notes-space, long);
+              notes_space = omega (arith, b.notes_space, long);
               blank = blank;
             };
         taken = k;

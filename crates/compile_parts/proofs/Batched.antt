@@ -5,45 +5,45 @@ use mathlib.Core.Path.{◌≡◌, sym, ◌∙◌}
 use mathlib.Core.Bool.{false}
 use mathlib.Core.List.{List}
 use lib.ListN.{length}
-use Rattle.task.specs.Table.{operator-at}
+use Rattle.task.specs.Table.{operator_at}
 use Rattle.normal_form.specs.Builder.{St, plain, start}
 use Rattle.normal_form.specs.Growth.{Grows}
-use Rattle.normal_form.proofs.Growth.{grows-refl}
+use Rattle.normal_form.proofs.Growth.{grows_refl}
 use Rattle.formula_builder.specs.declared.Frame.{Frame}
 use Rattle.formula_builder.specs.Inner.Held.{Store, held}
-use Rattle.images.specs.Inner.Images.{image-at}
-use Rattle.images.proofs.Memos.{steady-image-at}
+use Rattle.images.specs.Inner.Images.{image_at}
+use Rattle.images.proofs.Memos.{steady_image_at}
 use Rattle.variable_changes.specs.Inner.Stands.{Leaves}
-use Rattle.variable_changes.proofs.Standing.{leaves-same}
-use Rattle.operators.specs.Inner.Operator.{operators-built, operator-here, operator-built, all-changes}
+use Rattle.variable_changes.proofs.Standing.{leaves_same}
+use Rattle.operators.specs.Inner.Operator.{operators_built, operator_here, operator_built, all_changes}
 use Rattle.building.specs.declared.Progress.{Progress}
-use Rattle.building.specs.Inner.Taken.{size-at, Taken, Takes}
+use Rattle.building.specs.Inner.Taken.{size_at, Taken, Takes}
 use Rattle.effect_batches.specs.Inner.Filling.{AllCovered}
 use Rattle.effect_batches.specs.Inner.Next.{NextBatch, BegunBatch}
-use Rattle.effect_batches.proofs.Covering.{covered-built}
+use Rattle.effect_batches.proofs.Covering.{covered_built}
 use Rattle.compile_parts.specs.declared.Counts.{Counts}
 use Rattle.compile_parts.specs.Inner.Batches.{BeginsNext, BegunNext, TakesBatch}
 
 -- What n operators came to is covered where they are built.
-covered-here :
+covered_here :
     (frame : Frame) (formulas effects operators : List ℕ) (n : ℕ) (s u : St)
-    → ((k : ℕ) → k < n → (operator-at operators k).effect < frame.effects)
-    → Grows (operators-built frame formulas effects operators n s).st u
+    → ((k : ℕ) → k < n → (operator_at operators k).effect < frame.effects)
+    → Grows (operators_built frame formulas effects operators n s).st u
     → AllCovered frame formulas effects operators n u
-unfolding operators-built operator-here operator-built all-changes
-covered-here frame formulas effects operators n s u roots g =
-    covered-built frame formulas effects operators n (λ k. image-at frame formulas plain (operator-at operators k).precondition) s u
-    (λ k. steady-image-at frame formulas plain (operator-at operators k).precondition) roots g
+unfolding operators_built operator_here operator_built all_changes
+covered_here frame formulas effects operators n s u roots g =
+    covered_built frame formulas effects operators n (λ k. image_at frame formulas plain (operator_at operators k).precondition) s u
+    (λ k. steady_image_at frame formulas plain (operator_at operators k).precondition) roots g
 
 module _ {c : Counts} {formulas effects operators first notes scratch : List ℕ} {s : Store} {p : Progress}
     (b : BeginsNext c formulas effects operators first notes s scratch p) where
-  pub batch-asks : p.full ≡ false → NextBatch c.frame formulas effects operators p.operators c.operators first notes (size-at p) s scratch
+  pub batch-asks : p.full ≡ false → NextBatch c.frame formulas effects operators p.operators c.operators first notes (size_at p) s scratch
   batch-asks q =
       let known = b.known in
       let stood = b.along.stood q in
       let stands = stood.stands in
-      let rules = stands.effect-source in
-      let grown : Grows (operators-built c.frame formulas effects operators p.operators start).st (held (size-at p) s) = rw stood.state (grows-refl _) in
+      let rules = stands.effect_source in
+      let grown : Grows (operators_built c.frame formulas effects operators p.operators start).st (held (size_at p) s) = rw stood.state (grows_refl _) in
       record {
         sizes =
             record {
@@ -57,23 +57,23 @@ module _ {c : Counts} {formulas effects operators first notes scratch : List ℕ
                           down = rules.down;
                         };
                     words = known.words;
-                    behind = b.notes-space;
+                    behind = b.notes_space;
                   };
               roots = known.roots;
               next = b.next;
             };
         comes = known.comes;
         covered =
-            covered-here c.frame formulas effects operators p.operators start (held (size-at p) s)
+            covered_here c.frame formulas effects operators p.operators start (held (size_at p) s)
             (λ k h. known.roots.effect k (omega (arith, h, b.next))) grown;
         stands =
             record {
               source = stands.source;
-              effect-source = rules;
+              effect_source = rules;
               ready = stands.ready;
               noted = b.along.leaves.noted q;
               memo = stands.memo;
-              effect-memo = stands.effect-memo;
+              effect_memo = stands.effect_memo;
             };
         blank = b.blank;
       }
@@ -81,7 +81,7 @@ module _ {c : Counts} {formulas effects operators first notes scratch : List ℕ
   pub batch-begun :
       {notes' scratch' : List ℕ} {s' : Store} {end : ℕ}
       → p.full ≡ false
-      → BegunBatch c.frame formulas effects p.operators c.operators notes' (size-at p) s s' scratch' end
+      → BegunBatch c.frame formulas effects p.operators c.operators notes' (size_at p) s s' scratch' end
       → BegunNext c formulas effects operators notes' s' scratch' p end
   batch-begun q x =
       let stands = x.filled.stands in
@@ -96,13 +96,13 @@ module _ {c : Counts} {formulas effects operators first notes scratch : List ℕ
                     stands =
                         record {
                           source = stands.source;
-                          effect-source = stands.effect-source;
+                          effect_source = stands.effect_source;
                           ready = stands.ready;
                           memo = stands.memo;
-                          effect-memo = stands.effect-memo;
+                          effect_memo = stands.effect_memo;
                         };
                   };
-              leaves = leaves-same stands.noted;
+              leaves = leaves_same stands.noted;
             };
       }
 
@@ -121,7 +121,7 @@ module _ {c : Counts} {formulas effects operators first notes scratch records : 
 
   pub next-asks :
       {notes' memo kept : List ℕ} {s' : Store} {r : Progress}
-      → Leaves r.full c.frame formulas effects notes' (size-at r) s'
+      → Leaves r.full c.frame formulas effects notes' (size_at r) s'
       → r.operators < c.operators
       → length kept ≡ length records
       → Taken c.frame formulas effects operators s' memo kept r

@@ -8,13 +8,13 @@ use lib.Seq.{length-take-le, length_front, get_or-append-add, get_or-take, get_o
 use Rattle.task.specs.Bounded.{upto}
 use Rattle.task.specs.Table.{Row, row_at}
 use Rattle.task.specs.Words.{words_of, padded}
-use Rattle.normal_form.proofs.Padded.{padded-rows}
-use Rattle.formula_builder.proofs.Stored.{upto-same}
+use Rattle.normal_form.proofs.Padded.{padded_rows}
+use Rattle.formula_builder.proofs.Stored.{upto_same}
 use Rattle.building.specs.Inner.Taken.{Zeros}
-use Rattle.compile_parts.proofs.Asked.{zero-at}
+use Rattle.compile_parts.proofs.Asked.{zero_at}
 
 pub zeros : (l : List ℕ) → l ≡ replicate (length l) 0 → Zeros l
-zeros l e j = ap (λ (m : List ℕ). get_or m j 0) e ∙ zero-at (length l) j
+zeros l e j = ap (λ (m : List ℕ). get_or m j 0) e ∙ zero_at (length l) j
 
 module _ (built table : List ℕ) (n : ℕ) (there : 3 * n ≤ length built) (space : 3 * n ≤ length table) (blank : table ≡ replicate (length table) 0) where
   abbrev copied : List ℕ
@@ -51,5 +51,5 @@ module _ (built table : List ℕ) (n : ℕ) (there : 3 * n ≤ length built) (sp
   pub copied-rows :
       take (3 * n) built ++ drop (3 * n) table ≡ padded (length table) (words_of (upto n (row_at built)))
   copied-rows =
-      padded-rows copied n (omega (arith, long)) past
-      ∙ ap₂ (λ (m : ℕ) (k : List Row). padded m (words_of k)) long (upto-same n (row_at copied) (row_at built) same)
+      padded_rows copied n (omega (arith, long)) past
+      ∙ ap₂ (λ (m : ℕ) (k : List Row). padded m (words_of k)) long (upto_same n (row_at copied) (row_at built) same)

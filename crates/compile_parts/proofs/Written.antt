@@ -8,11 +8,11 @@ use Rattle.rule_writer.specs.declared.Chain.{Chain}
 use Rattle.assembling.specs.Inner.Assembles.{AssembledAll}
 use Rattle.compile_parts.specs.declared.Counts.{Counts}
 use Rattle.compile_parts.specs.declared.Filled.{Filled}
-use Rattle.compile_parts.specs.Inner.Finishes.{Outputs, nothing-filled, rules-of, Ended, Finished}
+use Rattle.compile_parts.specs.Inner.Finishes.{Outputs, nothing_filled, rules_of, Ended, Finished}
 
 module _ {c : Counts} {w : Step} {initial operators originals built records : List ℕ} {x : Outputs} where
   -- nothing was built
-  pub nothing-built : {r : Filled} → w.full ≡ true → r ≡ nothing-filled → Finished c w initial operators originals built records x x r
+  pub nothing-built : {r : Filled} → w.full ≡ true → r ≡ nothing_filled → Finished c w initial operators originals built records x x r
   nothing-built q e =
       record {
         done = λ f. absurd (true≢false (sym (ap (λ (z : Filled). z.full) e) ∙ f));
@@ -22,9 +22,9 @@ module _ {c : Counts} {w : Step} {initial operators originals built records : Li
   -- no room for the rules
   pub rules-over :
       {out written : List ℕ} {k : Chain} {r : Filled}
-      → AssembledAll (rules-of c w operators originals records) c.room c.operators k out written
+      → AssembledAll (rules_of c w operators originals records) c.room c.operators k out written
       → k.full ≡ true
-      → r ≡ nothing-filled
+      → r ≡ nothing_filled
       → Finished c w initial operators originals built records x (record { values = x.values; table = x.table; effects = out; operators = written }) r
   rules-over a q e =
       record {

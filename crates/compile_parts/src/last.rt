@@ -1,6 +1,6 @@
 // All that is written, once everything is built: rules, operators, initial values, rows.
 ghost use Rattle.std.specs.Prelude.{◌≡◌};
-ghost use Rattle.compile_parts.specs.Inner.Finishes.{outputs, nothing-filled, Finishes, Finished};
+ghost use Rattle.compile_parts.specs.Inner.Finishes.{outputs, nothing_filled, Finishes, Finished};
 
 use crate::copy::copy_words;
 use crate::{Counts, Filled};
@@ -10,7 +10,7 @@ use rule_writer::{Frame, write_initial};
 
 // No room.
 pub fn no_room() -> Filled
-    ensures { result ≡ nothing-filled }
+    ensures { result ≡ nothing_filled }
 {
     Filled {
         rows: 0,

@@ -1,4 +1,6 @@
 // Compiling in parts, over lent tables and tables of the caller's own: all that is built, then all that is written.
+#![tactic(auto)]
+
 mod batch;
 mod copy;
 mod last;
@@ -11,7 +13,7 @@ pub use whole::build;
 
 // The source's counts and how much there is room for: in the frame its variables, formulas and effects, and room for rows and twins; then its
 // operators, the number of its goal, and room for effect rows.
-#[derive(Drop)]
+#[derive(Clone, Copy)]
 pub struct Counts {
     pub frame: Frame,
     pub operators: usize,
@@ -20,7 +22,7 @@ pub struct Counts {
 }
 
 // The numbers of rows, twins and effect rows of the finished task and its goal; or that there was no room.
-#[derive(Drop)]
+#[derive(Clone, Copy)]
 pub struct Filled {
     pub rows: u16,
     pub twins: u16,

@@ -13,114 +13,114 @@ use borrow.Author.Tests.{leb-true, leb-false}
 use Rattle.task.specs.declared.Head.{Head}
 use Rattle.task.specs.Bounded.{upto}
 use Rattle.task.specs.Table.{Row, Operator}
-use Rattle.task.specs.Check.{counts-kept, goal-kept, twin-kept, formula-kept, effect-kept, operator-number}
+use Rattle.task.specs.Check.{counts_kept, goal_kept, twin_kept, formula_kept, effect_kept, operator_number}
 use Rattle.task.specs.Rules.{Counts}
-use Rattle.task.proofs.Passed.{counts-tested}
-use Rattle.file_format.specs.Bytes.{head-defaults, row-defaults, operator-defaults, bytes-for}
-use Rattle.file_format.specs.Parse.{Parsed, next, kept, byte-read, word_read, mapped-read, table-read}
-use Rattle.file_format.specs.Reading.{Lengths, room, head-from, head_clear, head_read, head-kept, bit-of, spare-clear, initial-read, twin-read, row-clear}
-use Rattle.file_format.specs.Reading.{row_from, row_read, formula-read, effect-read, operator-clear, operator-from, operator-right, operator-fields-read, operator-read, tables-read, task-read, at-end, reading}
-use Rattle.compile_text.proofs.Looks.{Same, both-refused, both-parsed, Looks, wider, pure-looks, kept-looks, next-looks, byte-looks, word-looks, mapped-looks, table-looks}
+use Rattle.task.proofs.Passed.{counts_tested}
+use Rattle.file_format.specs.Bytes.{head_defaults, row_defaults, operator_defaults, bytes_for}
+use Rattle.file_format.specs.Parse.{Parsed, next, kept, byte_read, word_read, mapped_read, table_read}
+use Rattle.file_format.specs.Reading.{Lengths, room, head_from, head_clear, head_read, head_kept, bit_of, spare_clear, initial_read, twin_read, row_clear}
+use Rattle.file_format.specs.Reading.{row_from, row_read, formula_read, effect_read, operator_clear, operator_from, operator_right, operator_fields_read, operator_read, tables_read, task_read, at_end, reading}
+use Rattle.compile_text.proofs.Looks.{Same, both_refused, both_parsed, Looks, wider, pure-looks, kept-looks, next-looks, byte_looks, word_looks, mapped-looks, table-looks}
 
-initial-looks : (v : ℕ) → Looks (bytes-for v * 1 + 0) (initial-read v)
-unfolding initial-read
-initial-looks v =
-    next-looks (table-read (λ i done. byte-read) (bytes-for v)) (λ packed. kept (spare-clear packed v) 2 (upto v (bit-of packed))) (bytes-for v * 1) 0
-    (table-looks 1 (λ i done. byte-read) (λ i done. byte-looks) (bytes-for v))
-    (λ packed. kept-looks (spare-clear packed v) 2 (upto v (bit-of packed)))
+initial_looks : (v : ℕ) → Looks (bytes_for v * 1 + 0) (initial_read v)
+unfolding initial_read
+initial_looks v =
+    next-looks (table_read (λ i done. byte_read) (bytes_for v)) (λ packed. kept (spare_clear packed v) 2 (upto v (bit_of packed))) (bytes_for v * 1) 0
+    (table-looks 1 (λ i done. byte_read) (λ i done. byte_looks) (bytes_for v))
+    (λ packed. kept-looks (spare_clear packed v) 2 (upto v (bit_of packed)))
 
-twin-looks : (bound k : ℕ) (done : List ℕ) → Looks 2 (twin-read bound k done)
-unfolding twin-read
-twin-looks bound k done =
-    next-looks word_read (λ w. kept (twin-kept bound (done ++ (w ∷ [])) k) 9 w) 2 0 word-looks
-    (λ w. kept-looks (twin-kept bound (done ++ (w ∷ [])) k) 9 w)
+twin_looks : (bound k : ℕ) (done : List ℕ) → Looks 2 (twin_read bound k done)
+unfolding twin_read
+twin_looks bound k done =
+    next-looks word_read (λ w. kept (twin_kept bound (done ++ (w ∷ [])) k) 9 w) 2 0 word_looks
+    (λ w. kept-looks (twin_kept bound (done ++ (w ∷ [])) k) 9 w)
 
-row-looks : Looks 5 row_read
+row_looks : Looks 5 row_read
 unfolding row_read
-row-looks = mapped-looks row-defaults row-clear row_from
+row_looks = mapped-looks row_defaults row_clear row_from
 
-formula-looks : (v i : ℕ) (done : List Row) → Looks 5 (formula-read v i done)
-unfolding formula-read
-formula-looks v i done =
-    next-looks row_read (λ r. kept (formula-kept v i r) 10 r) 5 0 row-looks (λ r. kept-looks (formula-kept v i r) 10 r)
+formula_looks : (v i : ℕ) (done : List Row) → Looks 5 (formula_read v i done)
+unfolding formula_read
+formula_looks v i done =
+    next-looks row_read (λ r. kept (formula_kept v i r) 10 r) 5 0 row_looks (λ r. kept-looks (formula_kept v i r) 10 r)
 
-effect-looks : (v f i : ℕ) (done : List Row) → Looks 5 (effect-read v f i done)
-unfolding effect-read
-effect-looks v f i done =
-    next-looks row_read (λ r. kept (effect-kept v f i r) 11 r) 5 0 row-looks (λ r. kept-looks (effect-kept v f i r) 11 r)
+effect_looks : (v f i : ℕ) (done : List Row) → Looks 5 (effect_read v f i done)
+unfolding effect_read
+effect_looks v f i done =
+    next-looks row_read (λ r. kept (effect_kept v f i r) 11 r) 5 0 row_looks (λ r. kept-looks (effect_kept v f i r) 11 r)
 
-operator-looks : (f e i : ℕ) (done : List Operator) → Looks 9 (operator-read f e i done)
-unfolding operator-read operator-fields-read
-operator-looks f e i done =
-    next-looks (mapped-read operator-defaults operator-clear operator-from) (λ o. kept (operator-right f e o) (operator-number f e o) o) 9 0
-    (mapped-looks operator-defaults operator-clear operator-from)
-    (λ o. kept-looks (operator-right f e o) (operator-number f e o) o)
+operator_looks : (f e i : ℕ) (done : List Operator) → Looks 9 (operator_read f e i done)
+unfolding operator_read operator_fields_read
+operator_looks f e i done =
+    next-looks (mapped_read operator_defaults operator_clear operator_from) (λ o. kept (operator_right f e o) (operator_number f e o) o) 9 0
+    (mapped-looks operator_defaults operator_clear operator_from)
+    (λ o. kept-looks (operator_right f e o) (operator_number f e o) o)
 
 -- what the tables behind a head take
-tables-most : Head → ℕ
-tables-most h =
-    bytes-for h.variables * 1 + 0 + (h.twins * 2 + (h.formulas * 5 + (h.effects * 5 + (h.operators * 9 + 0))))
+tables_most : Head → ℕ
+tables_most h =
+    bytes_for h.variables * 1 + 0 + (h.twins * 2 + (h.formulas * 5 + (h.effects * 5 + (h.operators * 9 + 0))))
 
-tables-looks : (h : Head) → Looks (tables-most h) (tables-read h)
-unfolding tables-read tables-most
-tables-looks h =
-    next-looks (initial-read h.variables) _ (bytes-for h.variables * 1 + 0) _ (initial-looks h.variables)
-    (λ i. next-looks (table-read (twin-read (h.variables - h.twins)) h.twins) _ (h.twins * 2) _
-    (table-looks 2 (twin-read (h.variables - h.twins)) (twin-looks (h.variables - h.twins)) h.twins)
-    (λ w. next-looks (table-read (formula-read h.variables) h.formulas) _ (h.formulas * 5) _
-    (table-looks 5 (formula-read h.variables) (formula-looks h.variables) h.formulas)
-    (λ f. next-looks (table-read (effect-read h.variables h.formulas) h.effects) _ (h.effects * 5) _
-    (table-looks 5 (effect-read h.variables h.formulas) (effect-looks h.variables h.formulas) h.effects)
-    (λ e. next-looks (table-read (operator-read h.formulas h.effects) h.operators) _ (h.operators * 9) 0
-    (table-looks 9 (operator-read h.formulas h.effects) (operator-looks h.formulas h.effects) h.operators)
+tables_looks : (h : Head) → Looks (tables_most h) (tables_read h)
+unfolding tables_read tables_most
+tables_looks h =
+    next-looks (initial_read h.variables) _ (bytes_for h.variables * 1 + 0) _ (initial_looks h.variables)
+    (λ i. next-looks (table_read (twin_read (h.variables - h.twins)) h.twins) _ (h.twins * 2) _
+    (table-looks 2 (twin_read (h.variables - h.twins)) (twin_looks (h.variables - h.twins)) h.twins)
+    (λ w. next-looks (table_read (formula_read h.variables) h.formulas) _ (h.formulas * 5) _
+    (table-looks 5 (formula_read h.variables) (formula_looks h.variables) h.formulas)
+    (λ f. next-looks (table_read (effect_read h.variables h.formulas) h.effects) _ (h.effects * 5) _
+    (table-looks 5 (effect_read h.variables h.formulas) (effect_looks h.variables h.formulas) h.effects)
+    (λ e. next-looks (table_read (operator_read h.formulas h.effects) h.operators) _ (h.operators * 9) 0
+    (table-looks 9 (operator_read h.formulas h.effects) (operator_looks h.formulas h.effects) h.operators)
     (λ o. pure-looks _)))))
 
 -- 64 bytes of values, 256 originals, 4,096 formulas, 4,096 effects and 256 operators
-tables-limit : (h : Head) → Counts h → tables-most h ≤ 43840
-unfolding tables-most bytes-for
-tables-limit h c = omega (arith, c.variables, c.twins, c.formulas, c.effects, c.operators)
+tables_limit : (h : Head) → Counts h → tables_most h ≤ 43840
+unfolding tables_most bytes_for
+tables_limit h c = omega (arith, c.variables, c.twins, c.formulas, c.effects, c.operators)
 
 -- behind a rule that is kept, or its number
 module _ {A B : Type 0} (m : ℕ) (f : A → List ℕ → Parsed B) where
   after_last : (b : Bool) (n : ℕ) (x : A) → (b ≡ true → Looks m (f x)) → Looks m (λ rest. next (kept b n x rest) f)
   unfolding kept next
   after_last true n x looks = looks refl
-  after_last false n x looks = λ front more long. both-refused n refl refl
+  after_last false n x looks = λ front more long. both_refused n refl refl
 
   after_kept : (b : Bool) (n : ℕ) (x : A) (g : A → List ℕ → Parsed A) → (b ≡ true → Looks m (λ rest. next (g x rest) f)) → Looks m (λ rest. next (next (kept b n x rest) g) f)
   unfolding kept next
   after_kept true n x g looks = looks refl
-  after_kept false n x g looks = λ front more long. both-refused n refl refl
+  after_kept false n x g looks = λ front more long. both_refused n refl refl
 
-behind-head : (l : Lengths) (h : Head) → Looks 43840 (λ rest. next (head-kept l h rest) tables-read)
-unfolding head-kept
-behind-head l h =
-    after_kept 43840 tables-read (counts-kept h) 6 h _
-    (λ counts. after_kept 43840 tables-read (goal-kept h) 7 h _
-    (λ goal. after_last 43840 tables-read (room l h) 5 h
-    (λ roomy. wider (tables-most h) 43840 (tables-limit h ((counts-tested h).0 counts)) (tables-looks h))))
+behind_head : (l : Lengths) (h : Head) → Looks 43840 (λ rest. next (head_kept l h rest) tables_read)
+unfolding head_kept
+behind_head l h =
+    after_kept 43840 tables_read (counts_kept h) 6 h _
+    (λ counts. after_kept 43840 tables_read (goal_kept h) 7 h _
+    (λ goal. after_last 43840 tables_read (room l h) 5 h
+    (λ roomy. wider (tables_most h) 43840 (tables_limit h ((counts_tested h).0 counts)) (tables_looks h))))
 
-pub task-looks : (l : Lengths) → Looks 43853 (task-read l)
-unfolding task-read head_read
-task-looks l =
-    next-looks (mapped-read head-defaults head_clear head-from) (λ h rest. next (head-kept l h rest) tables-read) 13 43840
-    (mapped-looks head-defaults head_clear head-from)
-    (behind-head l)
+pub task_looks : (l : Lengths) → Looks 43853 (task_read l)
+unfolding task_read head_read
+task_looks l =
+    next-looks (mapped_read head_defaults head_clear head_from) (λ h rest. next (head_kept l h rest) tables_read) 13 43840
+    (mapped-looks head_defaults head_clear head_from)
+    (behind_head l)
 
 module _ (l : Lengths) (front more : List ℕ) (long : 43854 ≤ length front) where
-  ends-alike : Same (task-read l) 43853 front more → at-end (task-read l front) ≡ at-end (task-read l (front ++ more))
-  unfolding at-end
-  ends-alike (both-refused n e f) = rw (e, f)
-  ends-alike (both-parsed t [] e f b) = absurd (omega arith)
-  ends-alike (both-parsed t (x ∷ rest) e f b) = rw (e, f)
+  ends-alike : Same (task_read l) 43853 front more → at_end (task_read l front) ≡ at_end (task_read l (front ++ more))
+  unfolding at_end
+  ends-alike (both_refused n e f) = rw (e, f)
+  ends-alike (both_parsed t [] e f b) = absurd (omega arith)
+  ends-alike (both_parsed t (x ∷ rest) e f b) = rw (e, f)
 
   longer-read : reading l front ≡ reading l (front ++ more)
   unfolding reading
-  longer-read = ends-alike (task-looks l front more (omega arith))
+  longer-read = ends-alike (task_looks l front more (omega arith))
 
 -- the bytes behind 43,854 change nothing
-pub cut-input : (l : Lengths) (file : List ℕ) (n : ℕ) → 43854 ≤ n → reading l (take n file) ≡ reading l file
-cut-input l file n h = go (leb n (length file)) refl
+pub cut_input : (l : Lengths) (file : List ℕ) (n : ℕ) → 43854 ≤ n → reading l (take n file) ≡ reading l file
+cut_input l file n h = go (leb n (length file)) refl
   where
     go : (b : Bool) → leb n (length file) ≡ b → reading l (take n file) ≡ reading l file
     go true e =

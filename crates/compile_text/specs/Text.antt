@@ -4,25 +4,25 @@ use Rattle.std.specs.Prelude.{ℕ, zero, suc, ◌≤◌, List, ◌≡◌, length
 use Rattle.task.specs.Table.{Task}
 use Rattle.file_format.specs.Reading.{Verdict, accepted, rejected, reading}
 use Rattle.normal_form.specs.Finished.{finished}
-use Rattle.printing.specs.Lines.{lines, refusal-line}
-use Rattle.entry_tables.specs.Own.{own, compile-number}
+use Rattle.printing.specs.Lines.{lines, refusal_line}
+use Rattle.entry_tables.specs.Own.{own, compile_number}
 use Rattle.task.specs.Words.{padded}
 
 -- by compiling's number: the finished task's lines, or the number's
-unfoldable pub compiled-text-by : ℕ → Task → List ℕ
-compiled-text-by zero t = lines (finished t)
-compiled-text-by (suc n) t = refusal-line (suc n)
+unfoldable pub compiled_text_by : ℕ → Task → List ℕ
+compiled_text_by zero t = lines (finished t)
+compiled_text_by (suc n) t = refusal_line (suc n)
 
-unfoldable pub compiled-text : Task → List ℕ
-compiled-text t = compiled-text-by (compile-number t) t
+unfoldable pub compiled_text : Task → List ℕ
+compiled_text t = compiled_text_by (compile_number t) t
 
-unfoldable pub text-by : Verdict → List ℕ
-text-by (accepted t) = compiled-text t
-text-by (rejected n) = refusal-line n
+unfoldable pub text_by : Verdict → List ℕ
+text_by (accepted t) = compiled_text t
+text_by (rejected n) = refusal_line n
 
 -- THE text of an input. The tables and the scratch are the program's own, with room for every task: neither 5 nor 14 is given.
 unfoldable pub text_of : List ℕ → List ℕ
-text_of file = text-by (reading own file)
+text_of file = text_by (reading own file)
 
 -- room for every text: printing's Suffices
 abbrev pub most : ℕ

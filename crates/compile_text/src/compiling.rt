@@ -1,9 +1,9 @@
 // The text of a task whose tables pass: compiled, or refused.
 ghost use Rattle.std.specs.Prelude.{◌≡◌};
-ghost use Rattle.task.specs.Table.{lent, task-of};
+ghost use Rattle.task.specs.Table.{lent, task_of};
 ghost use Rattle.task.specs.Check.{refusal};
 ghost use Rattle.compiler.specs.Left.{tables};
-ghost use Rattle.compile_text.specs.Text.{compiled-text};
+ghost use Rattle.compile_text.specs.Text.{compiled_text};
 ghost use Rattle.compile_text.specs.Inner.Giving.{CompileIn};
 ghost use Rattle.compile_text.specs.Text.{TextGives};
 
@@ -31,7 +31,7 @@ fn compile_through(
     out: &mut [u8; MOST_TEXT],
 ) -> usize
     requires { CompileIn (lent head initial.now twins.now formulas.now effects.now operators.now) (tables values.old originals.old table.old rules.old written.old scratch.old) }
-    ensures { TextGives (compiled-text (task-of (lent head initial.now twins.now formulas.now effects.now operators.now))) result out.new }
+    ensures { TextGives (compiled_text (task_of (lent head initial.now twins.now formulas.now effects.now operators.now))) result out.new }
 {
     let r = compiler::compile(
         head, initial, twins, formulas, effects, operators, values, originals, table, rules,
@@ -54,7 +54,7 @@ pub fn compile_text(
     out: &mut [u8; MOST_TEXT],
 ) -> usize
     requires { refusal (lent head initial.now twins.now formulas.now effects.now operators.now) ≡ 0 }
-    ensures { TextGives (compiled-text (task-of (lent head initial.now twins.now formulas.now effects.now operators.now))) result out.new }
+    ensures { TextGives (compiled_text (task_of (lent head initial.now twins.now formulas.now effects.now operators.now))) result out.new }
 {
     let mut values = [0u8; 512];
     let mut originals = [0u16; 256];

@@ -1,4 +1,6 @@
 // The text that the program prints, from the bytes of its input: reading, compiling and printing through tables of its own.
+#![tactic(auto)]
+
 mod answers;
 mod compiling;
 mod text;

@@ -6,61 +6,61 @@ use mathlib.Core.Bool.{true}
 use mathlib.Core.List.{List}
 use borrow.Author.Tests.{le-leb}
 use Rattle.task.specs.declared.Head.{Head}
-use Rattle.task.specs.Table.{Lent, lent, task-of}
+use Rattle.task.specs.Table.{Lent, lent, task_of}
 use Rattle.task.specs.Check.{refusal}
 use Rattle.task.proofs.Kept.{kept-rules}
-use Rattle.file_format.specs.Bytes.{file-of}
+use Rattle.file_format.specs.Bytes.{file_of}
 use Rattle.normal_form.specs.Finished.{finished}
-use Rattle.normal_form.specs.Compiled.{Room, compile-scratch-kept, compile-refusal, not-compiled, CompileOutcome, compiling, given}
+use Rattle.normal_form.specs.Compiled.{Room, compile_scratch_kept, compile_refusal, not_compiled, CompileOutcome, compiling, given}
 use Rattle.normal_form.proofs.Compiled.{given-task, given-passes}
 use Rattle.compiler.specs.declared.CompileAnswer.{CompileAnswer}
 use Rattle.compiler.specs.declared.CompileAnswer.TheVariants.{Compiled, Refused}
-use Rattle.compiler.specs.Left.{tables, answer-of, compile-left}
-use Rattle.entry_tables.specs.Own.{own_room, compile-number}
-use Rattle.entry_tables.specs.Inner.Answers.{refused-compile}
-use Rattle.entry_tables.proofs.Compiling.{own-number, same-refusal, number-told, not-zero}
-use Rattle.compiled_file.specs.Filed.{no-file, filed, compiled-file-by, compiled-file, CompileGives}
-use Rattle.compiled_file.specs.Inner.Giving.{compile-through, small-room, SmallSource}
+use Rattle.compiler.specs.Left.{tables, answer_of, compile_left}
+use Rattle.entry_tables.specs.Own.{own_room, compile_number}
+use Rattle.entry_tables.specs.Inner.Answers.{refused_compile}
+use Rattle.entry_tables.proofs.Compiling.{own-number, same-refusal, number_told, not_zero}
+use Rattle.compiled_file.specs.Filed.{no_file, filed, compiled_file_by, compiled_file, CompileGives}
+use Rattle.compiled_file.specs.Inner.Giving.{compile_through, small_room, SmallSource}
 
 module _ (l : Lent) (kept : refusal l ≡ 0) (o n : ℕ) {code : ℕ} {out result : List ℕ} where
-  by_number : (room : Room) → compile-refusal l room ≡ compile-number (task-of l) → CompileGives (compile-through l room o n) code out result → CompileGives (compiled-file (task-of l) o n) code out result
-  unfolding compile-through compiled-file
+  by_number : (room : Room) → compile_refusal l room ≡ compile_number (task_of l) → CompileGives (compile_through l room o n) code out result → CompileGives (compiled_file (task_of l) o n) code out result
+  unfolding compile_through compiled_file
   by_number room same g =
-      subst (λ (k : ℕ). CompileGives (compiled-file-by k (finished (task-of l)) o n) code out result) same g
+      subst (λ (k : ℕ). CompileGives (compiled_file_by k (finished (task_of l)) o n) code out result) same g
 
-  pub full-given : CompileGives (compile-through l own_room o n) code out result → CompileGives (compiled-file (task-of l) o n) code out result
+  pub full-given : CompileGives (compile_through l own_room o n) code out result → CompileGives (compiled_file (task_of l) o n) code out result
   full-given g = by_number own_room (own-number l kept) g
 
   -- through room of any lengths, with scratch enough, any answer but 15 stands
   settled :
       (room : Room)
-      → compile-scratch-kept l.head room ≡ true
+      → compile_scratch_kept l.head room ≡ true
       → (code ≡ 15 → ⊥)
-      → CompileGives (compile-through l room o n) code out result
-      → CompileGives (compiled-file (task-of l) o n) code out result
-  unfolding compile-through compiled-file-by
+      → CompileGives (compile_through l room o n) code out result
+      → CompileGives (compiled_file (task_of l) o n) code out result
+  unfolding compile_through compiled_file_by
   settled room enough d g =
       by_number room
-      (same-refusal l kept room enough (λ e. d (g.told ∙ ap (λ (k : ℕ). (compiled-file-by k (finished (task-of l)) o n).number) e)))
+      (same-refusal l kept room enough (λ e. d (g.told ∙ ap (λ (k : ℕ). (compiled_file_by k (finished (task_of l)) o n).number) e)))
       g
 
-module _ (l : Lent) (room : Room) {r : CompileAnswer} {i w f e p s : List ℕ} (leaves : compile-left r (tables i w f e p s) ≡ compiling l room) where
-  answered : {q : CompileAnswer} → r ≡ q → (compiling l room).answer ≡ answer-of q
-  answered q = sym (ap (λ (x : CompileOutcome). x.answer) leaves) ∙ ap answer-of q
+module _ (l : Lent) (room : Room) {r : CompileAnswer} {i w f e p s : List ℕ} (leaves : compile_left r (tables i w f e p s) ≡ compiling l room) where
+  answered : {q : CompileAnswer} → r ≡ q → (compiling l room).answer ≡ answer_of q
+  answered q = sym (ap (λ (x : CompileOutcome). x.answer) leaves) ∙ ap answer_of q
 
   pub no-task-compiled :
       (o n : ℕ) {k number code : ℕ} {out result : List ℕ}
       → r ≡ Refused k
       → number ≡ k
-      → CompileGives (no-file number o n) code out result
-      → CompileGives (compile-through l room o n) code out result
-  unfolding compile-through compiled-file-by
+      → CompileGives (no_file number o n) code out result
+      → CompileGives (compile_through l room o n) code out result
+  unfolding compile_through compiled_file_by
   no-task-compiled o n {k} {number} {code} {out} {result} q same none = go k (answered q) same
     where
-      go : (k : ℕ) → (compiling l room).answer ≡ not-compiled k → number ≡ k → CompileGives (compile-through l room o n) code out result
-      go zero e same = absurd (not-zero l room e)
+      go : (k : ℕ) → (compiling l room).answer ≡ not_compiled k → number ≡ k → CompileGives (compile_through l room o n) code out result
+      go zero e same = absurd (not_zero l room e)
       go (suc m) e same =
-          rw (number-told l room ∙ ap refused-compile e)
+          rw (number_told l room ∙ ap refused_compile e)
           (record { told = none.told ∙ same; written = none.written; held = none.held })
 
   module _ {head : Head} (q : r ≡ Compiled head) where
@@ -72,25 +72,25 @@ module _ (l : Lent) (room : Room) {r : CompileAnswer} {i w f e p s : List ℕ} (
 
     pub compiled-given :
         (o n : ℕ) {code : ℕ} {out result : List ℕ}
-        → CompileGives (filed (file-of (task-of (lent head i w f e p))) o n) code out result
-        → CompileGives (compile-through l room o n) code out result
-    unfolding compile-through compiled-file-by
+        → CompileGives (filed (file_of (task_of (lent head i w f e p))) o n) code out result
+        → CompileGives (compile_through l room o n) code out result
+    unfolding compile_through compiled_file_by
     compiled-given o n g =
-        let t : task-of (lent head i w f e p) ≡ finished (task-of l) =
-        ap task-of its-tables ∙ given-task l room head (answered q)
+        let t : task_of (lent head i w f e p) ≡ finished (task_of l) =
+        ap task_of its-tables ∙ given-task l room head (answered q)
         in
-        rw (number-told l room ∙ ap refused-compile (answered q), ← t) g
+        rw (number_told l room ∙ ap refused_compile (answered q), ← t) g
 
 -- a source in small tables through small room
-pub small-settled :
+pub small_settled :
     {l : Lent} (o n : ℕ) {code : ℕ} {out result : List ℕ}
     → SmallSource l
     → (code ≡ 15 → ⊥)
-    → CompileGives (compile-through l small-room o n) code out result
-    → CompileGives (compiled-file (task-of l) o n) code out result
-unfolding compile-scratch-kept small-room
-small-settled {l} o n small d g =
+    → CompileGives (compile_through l small_room o n) code out result
+    → CompileGives (compiled_file (task_of l) o n) code out result
+unfolding compile_scratch_kept small_room
+small_settled {l} o n small d g =
     let long = (kept-rules l small.kept).0 in
-    settled l small.kept o n small-room
+    settled l small.kept o n small_room
     (le-leb (2 * l.head.formulas + 2 * l.head.effects) 512 (omega (arith, small.few, long.formulas, long.effects)))
     d g

@@ -7,53 +7,53 @@ use mathlib.Core.List.{List}
 use lib.ListN.{length, replicate}
 use lib.Dec.{leb}
 use borrow.Author.Tests.{le-leb, lt-leb}
-use Rattle.task.specs.Table.{Lent, task-of}
+use Rattle.task.specs.Table.{Lent, task_of}
 use Rattle.task.specs.Check.{refusal}
-use Rattle.file_format.specs.Bytes.{file-of}
+use Rattle.file_format.specs.Bytes.{file_of}
 use Rattle.task_writer.specs.declared.WriteAnswer.{WriteAnswer}
 use Rattle.task_writer.specs.declared.WriteAnswer.TheVariants.{Written, NotWritten}
 use Rattle.task_writer.specs.Inner.Putting.{Put}
-use Rattle.task_writer.specs.Writing.{WriteOutcome, wrote, file-outcome, write-outcome}
+use Rattle.task_writer.specs.Writing.{WriteOutcome, wrote, file_outcome, write_outcome}
 use Rattle.task.specs.Words.{padded}
-use Rattle.layouts.specs.Layout.{low-bytes}
+use Rattle.layouts.specs.Layout.{low_bytes}
 use Rattle.layouts.proofs.LayWays.{put-padded, size}
-use Rattle.layouts.proofs.RunWays.{low-next}
-use Rattle.compiled_file.specs.Filed.{CompileEntry, no-file, filed-by, filed, CompileGives}
+use Rattle.layouts.proofs.RunWays.{low_next}
+use Rattle.compiled_file.specs.Filed.{CompileEntry, no_file, filed_by, filed, CompileGives}
 
-and-false : (a : Bool) → a && false ≡ false
-and-false true = refl
-and-false false = refl
+and_false : (a : Bool) → a && false ≡ false
+and_false true = refl
+and_false false = refl
 
 module _ (l : Lent) (out result : List ℕ) where
   abbrev file : List ℕ
-  file = file-of (task-of l)
+  file = file_of (task_of l)
 
   pub short-result :
       {r : ℕ} {out' result' : List ℕ}
       → length result < 4
-      → CompileGives (no-file 20 (length out) (length result)) r out' result'
-      → CompileGives (filed (file-of (task-of l)) (length out) (length result)) r out' result'
-  unfolding filed filed-by
+      → CompileGives (no_file 20 (length out) (length result)) r out' result'
+      → CompileGives (filed (file_of (task_of l)) (length out) (length result)) r out' result'
+  unfolding filed filed_by
   short-result h g =
       let t : leb (length file) (length out) && leb 4 (length result) ≡ false =
-      rw (lt-leb 4 (length result) h) (and-false (leb (length file) (length out)))
+      rw (lt-leb 4 (length result) h) (and_false (leb (length file) (length out)))
       in
       rw t g
 
-  module _ (kept : refusal l ≡ 0) {r : WriteAnswer} {out' : List ℕ} (writes : wrote r out' ≡ write-outcome l (length out)) where
-    by-file : wrote r out' ≡ file-outcome (file-of (task-of l)) (length out)
-    unfolding write-outcome
+  module _ (kept : refusal l ≡ 0) {r : WriteAnswer} {out' : List ℕ} (writes : wrote r out' ≡ write_outcome l (length out)) where
+    by-file : wrote r out' ≡ file_outcome (file_of (task_of l)) (length out)
+    unfolding write_outcome
     by-file = rw kept at writes
 
     pub short-out :
         {n : ℕ} {result' : List ℕ}
         → r ≡ NotWritten n
         → result' ≡ replicate (length result) 0
-        → CompileGives (filed (file-of (task-of l)) (length out) (length result)) 20 out' result'
-    unfolding filed filed-by file-outcome
+        → CompileGives (filed (file_of (task_of l)) (length out) (length result)) 20 out' result'
+    unfolding filed filed_by file_outcome
     short-out {n} {result'} q b = go (leb (length file) (length out)) refl
       where
-        go : (x : Bool) → leb (length file) (length out) ≡ x → CompileGives (filed (file-of (task-of l)) (length out) (length result)) 20 out' result'
+        go : (x : Bool) → leb (length file) (length out) ≡ x → CompileGives (filed (file_of (task_of l)) (length out) (length result)) 20 out' result'
         go true e =
             let s : wrote r out' ≡ wrote (Written (length file)) (padded (length out) file) = rw e at by-file in
             let w : NotWritten n ≡ Written (length file) = sym q ∙ ap (λ (y : WriteOutcome). y.answer) s in
@@ -67,24 +67,24 @@ module _ (l : Lent) (out result : List ℕ) where
         → r ≡ Written n
         → 4 ≤ length result
         → z ≡ replicate (length result) 0
-        → Put (low-bytes 4 n) 0 end z result'
-        → CompileGives (filed (file-of (task-of l)) (length out) (length result)) 0 out' result'
-    unfolding filed filed-by file-outcome
+        → Put (low_bytes 4 n) 0 end z result'
+        → CompileGives (filed (file_of (task_of l)) (length out) (length result)) 0 out' result'
+    unfolding filed filed_by file_outcome
     gives-file {n} {end} {z} {result'} q h clear p = go (leb (length file) (length out)) refl
       where
-        go : (x : Bool) → leb (length file) (length out) ≡ x → CompileGives (filed (file-of (task-of l)) (length out) (length result)) 0 out' result'
+        go : (x : Bool) → leb (length file) (length out) ≡ x → CompileGives (filed (file_of (task_of l)) (length out) (length result)) 0 out' result'
         go true e =
             let s : wrote r out' ≡ wrote (Written (length file)) (padded (length out) file) = rw e at by-file in
             let w : Written n ≡ Written (length file) = sym q ∙ ap (λ (y : WriteOutcome). y.answer) s in
             let same : n ≡ length file = cc in
-            let here : result' ≡ padded (length result) (low-bytes 4 n) =
-            put-padded (low-bytes 4 n) result clear p (omega (arith, low-next 4 n p, size (low-bytes 4 n) result clear p))
+            let here : result' ≡ padded (length result) (low_bytes 4 n) =
+            put-padded (low_bytes 4 n) result clear p (omega (arith, low_next 4 n p, size (low_bytes 4 n) result clear p))
             in
             rw (e, le-leb 4 (length result) h)
             (record {
               told = refl;
               written = ap (λ (y : WriteOutcome). y.out) s;
-              held = here ∙ ap (λ (k : ℕ). padded (length result) (low-bytes 4 k)) same;
+              held = here ∙ ap (λ (k : ℕ). padded (length result) (low_bytes 4 k)) same;
             })
         go false e =
             let s : wrote r out' ≡ wrote (NotWritten 20) (replicate (length out) 0) = rw e at by-file in
@@ -92,10 +92,10 @@ module _ (l : Lent) (out result : List ℕ) where
             absurd (let z : ◌≡◌ {A = ℕ} 0 1 = cc in omega arith)
 
 -- the outputs' lengths, as a call before left them
-pub same-outputs :
+pub same_outputs :
     (given : (o n : ℕ) → CompileEntry) {o o' n n' r : ℕ} {out result : List ℕ}
     → o ≡ o'
     → n ≡ n'
     → CompileGives (given o n) r out result
     → CompileGives (given o' n') r out result
-same-outputs given {o} {o'} {n} {n'} {r} {out} {result} p q g = rw (← p, ← q) g
+same_outputs given {o} {o'} {n} {n'} {r} {out} {result} p q g = rw (← p, ← q) g

@@ -1,12 +1,12 @@
 // Compiling tables that pass, into the compiled task's file.
 ghost use Rattle.std.specs.Prelude.{◌≡◌, length};
-ghost use Rattle.task.specs.Table.{lent, task-of};
+ghost use Rattle.task.specs.Table.{lent, task_of};
 ghost use Rattle.task.specs.Check.{refusal};
 ghost use Rattle.compiler.specs.Left.{tables, room_of};
-ghost use Rattle.compiler.specs.Left.{answer-of};
-ghost use Rattle.entry_tables.specs.Inner.Answers.{refused-compile};
-ghost use Rattle.compiled_file.specs.Filed.{compiled-file};
-ghost use Rattle.compiled_file.specs.Inner.Giving.{compile-through, small-room, SmallSource};
+ghost use Rattle.compiler.specs.Left.{answer_of};
+ghost use Rattle.entry_tables.specs.Inner.Answers.{refused_compile};
+ghost use Rattle.compiled_file.specs.Filed.{compiled_file};
+ghost use Rattle.compiled_file.specs.Inner.Giving.{compile_through, small_room, SmallSource};
 ghost use Rattle.compiled_file.specs.Filed.{CompileGives};
 
 use crate::filing::{give_file, refuse};
@@ -17,7 +17,7 @@ use task::operator_rows::MOST_OPERATOR_WORDS;
 
 // A refusal's number. Constant time.
 fn refused(r: CompileAnswer) -> u32
-    ensures { result ≡ refused-compile (answer-of r) }
+    ensures { result ≡ refused_compile (answer_of r) }
 {
     match r {
         CompileAnswer::Refused(n) => n as u32,
@@ -44,7 +44,7 @@ fn compile_through(
     res: &mut [u8],
 ) -> u32
     requires { refusal (lent head initial.now twins.now formulas.now effects.now operators.now) ≡ 0 }
-    ensures { CompileGives (compile-through (lent head initial.now twins.now formulas.now effects.now operators.now) (room_of (tables values.old originals.old table.old rules.old written.old scratch.old)) (length out.old) (length res.old)) result out.new res.new }
+    ensures { CompileGives (compile_through (lent head initial.now twins.now formulas.now effects.now operators.now) (room_of (tables values.old originals.old table.old rules.old written.old scratch.old)) (length out.old) (length res.old)) result out.new res.new }
 {
     let r = compiler::compile(
         head, initial, twins, formulas, effects, operators, values, originals, table, rules,
@@ -68,7 +68,7 @@ fn compile_small(
     res: &mut [u8],
 ) -> u32
     requires { refusal (lent head initial.now twins.now formulas.now effects.now operators.now) ≡ 0 }
-    ensures { CompileGives (compile-through (lent head initial.now twins.now formulas.now effects.now operators.now) small-room (length out.old) (length res.old)) result out.new res.new }
+    ensures { CompileGives (compile_through (lent head initial.now twins.now formulas.now effects.now operators.now) small_room (length out.old) (length res.old)) result out.new res.new }
 {
     let mut values = [0u8; 512];
     let mut originals = [0u16; 256];
@@ -106,7 +106,7 @@ fn compile_full(
     res: &mut [u8],
 ) -> u32
     requires { refusal (lent head initial.now twins.now formulas.now effects.now operators.now) ≡ 0 }
-    ensures { CompileGives (compiled-file (task-of (lent head initial.now twins.now formulas.now effects.now operators.now)) (length out.old) (length res.old)) result out.new res.new }
+    ensures { CompileGives (compiled_file (task_of (lent head initial.now twins.now formulas.now effects.now operators.now)) (length out.old) (length res.old)) result out.new res.new }
 {
     let mut values = [0u8; 512];
     let mut originals = [0u16; 256];
@@ -144,7 +144,7 @@ fn compile_short(
     res: &mut [u8],
 ) -> u32
     requires { SmallSource (lent head initial.now twins.now formulas.now effects.now operators.now) }
-    ensures { CompileGives (compiled-file (task-of (lent head initial.now twins.now formulas.now effects.now operators.now)) (length out.old) (length res.old)) result out.new res.new }
+    ensures { CompileGives (compiled_file (task_of (lent head initial.now twins.now formulas.now effects.now operators.now)) (length out.old) (length res.old)) result out.new res.new }
 {
     let number = compile_small(head, initial, twins, formulas, effects, operators, out, res);
     if number != 15 {
@@ -165,7 +165,7 @@ pub fn compile_tables(
     res: &mut [u8],
 ) -> u32
     requires { refusal (lent head initial.now twins.now formulas.now effects.now operators.now) ≡ 0 }
-    ensures { CompileGives (compiled-file (task-of (lent head initial.now twins.now formulas.now effects.now operators.now)) (length out.old) (length res.old)) result out.new res.new }
+    ensures { CompileGives (compiled_file (task_of (lent head initial.now twins.now formulas.now effects.now operators.now)) (length out.old) (length res.old)) result out.new res.new }
 {
     if formulas.len() + effects.len() <= 768 {
         return compile_short(head, initial, twins, formulas, effects, operators, out, res);

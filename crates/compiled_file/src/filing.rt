@@ -1,9 +1,9 @@
 // A task's file and its length, into two outputs.
 ghost use Rattle.std.specs.Prelude.{◌≡◌, length};
-ghost use Rattle.task.specs.Table.{lent, task-of};
+ghost use Rattle.task.specs.Table.{lent, task_of};
 ghost use Rattle.task.specs.Check.{refusal};
-ghost use Rattle.file_format.specs.Bytes.{file-of};
-ghost use Rattle.compiled_file.specs.Filed.{no-file, filed};
+ghost use Rattle.file_format.specs.Bytes.{file_of};
+ghost use Rattle.compiled_file.specs.Filed.{no_file, filed};
 ghost use Rattle.compiled_file.specs.Filed.{CompileGives};
 
 use task::Head;
@@ -12,7 +12,7 @@ use task_writer::WriteAnswer;
 
 // A number, and both outputs all 0. Linear in them.
 pub fn refuse(number: u32, out: &mut [u8], res: &mut [u8]) -> u32
-    ensures { CompileGives (no-file number (length out.old) (length res.old)) result out.new res.new }
+    ensures { CompileGives (no_file number (length out.old) (length res.old)) result out.new res.new }
 {
     clear_bytes(out);
     clear_bytes(res);
@@ -31,7 +31,7 @@ pub fn give_file(
     res: &mut [u8],
 ) -> u32
     requires { refusal (lent head initial.now twins.now formulas.now effects.now operators.now) ≡ 0 }
-    ensures { CompileGives (filed (file-of (task-of (lent head initial.now twins.now formulas.now effects.now operators.now))) (length out.old) (length res.old)) result out.new res.new }
+    ensures { CompileGives (filed (file_of (task_of (lent head initial.now twins.now formulas.now effects.now operators.now))) (length out.old) (length res.old)) result out.new res.new }
 {
     if res.len() < 4 {
         return refuse(20, out, res);

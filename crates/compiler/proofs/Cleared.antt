@@ -19,8 +19,8 @@ pub as_long :
 as_long a b c d e f = λ i. record { initial = a i; twins = b i; formulas = c i; effects = d i; operators = e i; scratch = f i }
 
 -- tables as long are cleared alike
-pub blanked-as : {x y z : Tables} → room_of y ≡ room_of x → Blanked y z → Blanked x z
-blanked-as e b =
+pub blanked_as : {x y z : Tables} → room_of y ≡ room_of x → Blanked y z → Blanked x z
+blanked_as e b =
     record {
       initial = b.initial ∙ ap (λ (r : Room). replicate r.initial 0) e;
       twins = b.twins ∙ ap (λ (r : Room). replicate r.twins 0) e;
@@ -30,8 +30,8 @@ blanked-as e b =
       scratch = b.scratch ∙ ap (λ (r : Room). replicate r.scratch 0) e;
     }
 
-pub same-room : {x y : Tables} → Blanked x y → room_of y ≡ room_of x
-same-room {x} {y} b = λ i.
+pub same_room : {x y : Tables} → Blanked x y → room_of y ≡ room_of x
+same_room {x} {y} b = λ i.
     record {
       initial = (ap length b.initial ∙ length-replicate {A = ℕ} (length x.initial) 0) i;
       twins = (ap length b.twins ∙ length-replicate {A = ℕ} (length x.twins) 0) i;
@@ -41,13 +41,13 @@ same-room {x} {y} b = λ i.
       scratch = (ap length b.scratch ∙ length-replicate {A = ℕ} (length x.scratch) 0) i;
     }
 
-pub blanked-self : {x y : Tables} → Blanked x y → Blanked y y
-blanked-self b = blanked-as (sym (same-room b)) b
+pub blanked_self : {x y : Tables} → Blanked x y → Blanked y y
+blanked_self b = blanked_as (sym (same_room b)) b
 
 -- tables that were 0, and are cleared again, are the same
-pub cleared-again : {x y z : Tables} → Blanked x x → room_of y ≡ room_of x → Blanked y z → z ≡ x
-cleared-again {x} {y} {z} b e c =
-    let d : Blanked x z = blanked-as e c in
+pub cleared_again : {x y z : Tables} → Blanked x x → room_of y ≡ room_of x → Blanked y z → z ≡ x
+cleared_again {x} {y} {z} b e c =
+    let d : Blanked x z = blanked_as e c in
     λ i.
     record {
       initial = (d.initial ∙ sym b.initial) i;

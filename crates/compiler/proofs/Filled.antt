@@ -7,19 +7,19 @@ use mathlib.Core.List.{List, ◌++◌}
 use lib.ListN.{length, get_or, take, drop, replicate, length-replicate}
 use lib.Seq.{length-take-le, get_or-take}
 use Rattle.task.specs.Bounded.{upto}
-use Rattle.task.specs.Table.{Row, Task, task-of, row_at}
-use Rattle.task.specs.Words.{words_of, operator-words, head_of, padded}
+use Rattle.task.specs.Table.{Row, Task, task_of, row_at}
+use Rattle.task.specs.Words.{words_of, operator_words, head_of, padded}
 use Rattle.task.proofs.Bounded.{length-upto}
 use Rattle.task.proofs.Held.{length-formulas, length-operators, initial-held}
-use Rattle.task.proofs.Trees.{rules-formulas, rules-effects}
+use Rattle.task.proofs.Trees.{rules_formulas, rules_effects}
 use Rattle.normal_form.specs.Builder.{St}
-use Rattle.normal_form.specs.Finished.{built, assembled, twin-values, finished}
+use Rattle.normal_form.specs.Finished.{built, assembled, twin_values, finished}
 use Rattle.normal_form.specs.Compiled.{Fits}
 use Rattle.normal_form.specs.Inner.Allowed.{Allows}
-use Rattle.normal_form.proofs.Growth.{grows-refl}
+use Rattle.normal_form.proofs.Growth.{grows_refl}
 use Rattle.normal_form.proofs.Over.{building-within}
-use Rattle.normal_form.proofs.Compiled.{fits-if}
-use Rattle.normal_form.proofs.Padded.{padded-over, padded-front}
+use Rattle.normal_form.proofs.Compiled.{fits_if}
+use Rattle.normal_form.proofs.Padded.{padded_over, padded-front}
 use Rattle.normal_form.proofs.ShapePassed.{finished-fine, finished-variables}
 use Rattle.normal_form.proofs.ShapeFinished.{finished-operators}
 use Rattle.formula_builder.specs.declared.Step.{Step}
@@ -29,12 +29,12 @@ use Rattle.building.specs.Inner.Taken.{Blank, Whole, FromStart}
 use Rattle.assembling.specs.Inner.Assembles.{Holding}
 use Rattle.compile_parts.specs.declared.Filled.{Filled}
 use Rattle.compile_parts.specs.Inner.Builds.{Builds}
-use Rattle.compile_parts.specs.Inner.Finishes.{Outputs, outputs, rules-of, Stands, Finishes, Ended, Finished}
+use Rattle.compile_parts.specs.Inner.Finishes.{Outputs, outputs, rules_of, Stands, Finishes, Ended, Finished}
 use Rattle.compiler.specs.Inner.Fills.{Counted, counts, lent_of, Begins, Holds}
 use Rattle.compiler.specs.Tables.{Tables, tables, room_of}
-use Rattle.compile_parts.proofs.Asked.{zero-at}
+use Rattle.compile_parts.proofs.Asked.{zero_at}
 use Rattle.compile_parts.proofs.Copied.{zeros, copied-rows}
-use Rattle.compiler.proofs.Source.{long, source, its-variables, few-effects}
+use Rattle.compiler.proofs.Source.{long, source, its-variables, few_effects}
 use Rattle.compiler.proofs.Recalled.{in_order}
 use Rattle.compiler.proofs.Linked.{its-formulas, its-effects, precondition-below, effect-below, goal-below, state-built, goal-built, assembled-is, few-changes}
 
@@ -44,36 +44,36 @@ written_of x = outputs x.initial x.formulas x.effects x.operators
 
 module _ {g : Counted} {x : Tables} (b : Begins g x) where
   abbrev t : Task
-  t = task-of (lent_of g)
+  t = task_of (lent_of g)
 
-  variables-are : length (task-of (lent_of g)).initial ≡ g.frame.variables
+  variables-are : length (task_of (lent_of g)).initial ≡ g.frame.variables
   variables-are = its-variables (lent_of g) b.passes
 
   blank-is : Blank g.frame g.formulas g.effects x.twins x.scratch
   blank-is =
       let s = source (lent_of g) b.passes in
       let w = long (lent_of g) b.passes in
-      let e = rw (length-formulas (lent_of g)) at (rw variables-are at (rules-effects t s)) in
+      let e = rw (length-formulas (lent_of g)) at (rw variables-are at (rules_effects t s)) in
       record {
         source =
             record {
               words = w.formulas;
               memo = omega (arith, b.memo);
               limit = omega (arith, s.limits.formulas, length-formulas (lent_of g));
-              down = rw (its-formulas g b.passes) at (rw variables-are at (rules-formulas t s));
+              down = rw (its-formulas g b.passes) at (rw variables-are at (rules_formulas t s));
             };
-        effect-source =
+        effect_source =
             record {
               words = w.effects;
               memo = b.memo;
-              limit = few-effects (lent_of g) b.passes;
+              limit = few_effects (lent_of g) b.passes;
               down = rw (its-effects g b.passes) at e;
             };
         imaged = b.imaged;
-        twins = b.twins-space;
-        variables = b.variables-limit;
-        blank-originals = zeros x.twins b.blank.twins;
-        blank-scratch = zeros x.scratch b.blank.scratch;
+        twins = b.twins_space;
+        variables = b.variables_limit;
+        blank_originals = zeros x.twins b.blank.twins;
+        blank_scratch = zeros x.scratch b.blank.scratch;
       }
 
   -- what building asks, with tables of 0 of the call's own
@@ -90,9 +90,9 @@ module _ {g : Counted} {x : Tables} (b : Begins g x) where
         precondition = precondition-below g b.passes;
         effect = effect-below g b.passes;
         goal = goal-below g b.passes;
-        notes-space = omega (arith, n, length-replicate {A = ℕ} notes 0);
-        blank-notes = zero-at notes;
-        fresh = record { room = omega (arith, h, length-replicate {A = ℕ} rows 0); limit = b.rows-limit; blank = zero-at rows };
+        notes_space = omega (arith, n, length-replicate {A = ℕ} notes 0);
+        blank_notes = zero_at notes;
+        fresh = record { room = omega (arith, h, length-replicate {A = ℕ} rows 0); limit = b.rows_limit; blank = zero_at rows };
         space = omega (arith, length-replicate {A = ℕ} 6912 0);
       }
 
@@ -100,23 +100,23 @@ module _ {g : Counted} {x : Tables} (b : Begins g x) where
   module _ {mid : Store} {memo records : List ℕ} {r : Step}
       (f : FromStart g.frame g.formulas g.effects g.operators g.count g.goal mid memo records r) where
     -- what fits is within the frame
-    built-over : Allows g.frame.variables (room_of x) g.frame.rows g.frame.twins g.room → r.full ≡ true → Fits (finished (task-of (lent_of g))) (room_of x) → ⊥
+    built-over : Allows g.frame.variables (room_of x) g.frame.rows g.frame.twins g.room → r.full ≡ true → Fits (finished (task_of (lent_of g))) (room_of x) → ⊥
     built-over a q fit =
-        let w = building-within t (room_of x) g.frame.rows g.frame.twins g.room (rw variables-are a) fit (built t).st (grows-refl (built t).st) in
-        let v : Within g.frame (built t).st = record { rows = w.rows-within; twins = w.twins-within } in
+        let w = building-within t (room_of x) g.frame.rows g.frame.twins g.room (rw variables-are a) fit (built t).st (grows_refl (built t).st) in
+        let v : Within g.frame (built t).st = record { rows = w.rows_within; twins = w.twins_within } in
         f.over q (rw (state-built g b.passes b.imaged) at v) (few-changes g b.passes b.imaged fit.limits.effects)
 
     module _ (q : r.full ≡ false) where
       w : Whole g.frame g.formulas g.effects g.operators g.count g.goal mid memo records r
       w = f.done q
 
-      held-is : held (size_of r) mid ≡ (built (task-of (lent_of g))).st
+      held-is : held (size_of r) mid ≡ (built (task_of (lent_of g))).st
       held-is = sym (state-built g b.passes b.imaged ∙ w.stood.state)
 
       ready : Ready g.frame (size_of r) mid
       ready = w.stood.stands.ready
 
-      twins-held : take r.twins mid.originals ≡ (built (task-of (lent_of g))).st.twins
+      twins-held : take r.twins mid.originals ≡ (built (task_of (lent_of g))).st.twins
       unfolding held
       twins-held = ap (λ (s : St). s.twins) held-is
 
@@ -130,7 +130,7 @@ module _ {g : Counted} {x : Tables} (b : Begins g x) where
             arith,
             get_or-take r.twins mid.originals k 0 h,
             ap (λ (m : List ℕ). get_or m k 0) twins-held,
-            (finished-fine t (source (lent_of g) b.passes)).twin-below k (omega (arith, many-twins, ap length twins-held)),
+            (finished-fine t (source (lent_of g) b.passes)).twin_below k (omega (arith, many-twins, ap length twins-held)),
             variables-are,
           )
 
@@ -138,7 +138,7 @@ module _ {g : Counted} {x : Tables} (b : Begins g x) where
       rows-there = omega (arith, ready.rows.within, ready.rows.room)
 
       rows_fit : 3 * r.rows ≤ length x.formulas
-      rows_fit = omega (arith, ready.rows.within, b.rows-space)
+      rows_fit = omega (arith, ready.rows.within, b.rows_space)
 
       stands : 6912 ≤ length records → Stands (counts g) r g.initial g.operators mid.originals mid.table records (written_of x)
       stands space =
@@ -151,69 +151,69 @@ module _ {g : Counted} {x : Tables} (b : Begins g x) where
                   room = space;
                   in_order = λ o h.
                       in_order g.frame g.formulas g.effects g.operators records g.count w.kept.each o h w.kept.limit;
-                  variables = omega (arith, ready.twins, b.variables-limit);
-                  one = b.one-effect;
-                  rows-limit = b.effects-limit;
-                  space = b.effects-space;
-                  operator-space = b.operators-space;
+                  variables = omega (arith, ready.twins, b.variables_limit);
+                  one = b.one_effect;
+                  rows_limit = b.effects_limit;
+                  space = b.effects_space;
+                  operator_space = b.operators_space;
                   blank = b.blank.effects;
-                  blank-operators = b.blank.operators;
+                  blank_operators = b.blank.operators;
                 };
             twinned = record { twins = omega (arith, ready.twins, ready.originals); below = originals-below };
-            initial-ready =
+            initial_ready =
                 record {
                   values = (long (lent_of g) b.passes).initial;
                   twins = omega (arith, ready.twins, ready.originals);
-                  space = omega (arith, ready.twins, b.initial-space);
+                  space = omega (arith, ready.twins, b.initial_space);
                   below = originals-below;
-                  bits = λ i k. omega (arith, initial-held (lent_of g) i k, s.initial-bits i (omega (arith, variables-are)));
+                  bits = λ i k. omega (arith, initial-held (lent_of g) i k, s.initial_bits i (omega (arith, variables-are)));
                 };
             limit = omega (arith, ready.rows.within, ready.rows.limit);
             there = rows-there;
             space = rows_fit;
           }
 
-      rules-are : rules-of (counts g) r g.operators mid.originals records ≡ assembled (task-of (lent_of g))
+      rules-are : rules_of (counts g) r g.operators mid.originals records ≡ assembled (task_of (lent_of g))
       rules-are =
           rw twins-held (sym (assembled-is g b.passes b.imaged records w.kept))
 
-      rows_are : upto r.rows (row_at mid.table) ≡ (finished (task-of (lent_of g))).formulas
+      rows_are : upto r.rows (row_at mid.table) ≡ (finished (task_of (lent_of g))).formulas
       unfolding finished held
       rows_are = ap (λ (s : St). s.rows) held-is
 
-      twins-are : take r.twins mid.originals ≡ (finished (task-of (lent_of g))).originals
+      twins-are : take r.twins mid.originals ≡ (finished (task_of (lent_of g))).originals
       unfolding finished held
       twins-are = ap (λ (s : St). s.twins) held-is
 
-      rows-many : length (finished (task-of (lent_of g))).formulas ≡ r.rows
+      rows-many : length (finished (task_of (lent_of g))).formulas ≡ r.rows
       rows-many = ap length (sym rows_are) ∙ length-upto r.rows (row_at mid.table)
 
-      twins-many : length (finished (task-of (lent_of g))).originals ≡ r.twins
+      twins-many : length (finished (task_of (lent_of g))).originals ≡ r.twins
       twins-many = ap length (sym twins-are) ∙ many-twins
 
       -- Behind finishing.
       module _ {y : Outputs} {z : Filled} (e : Ended (counts g) r g.initial g.operators mid.originals mid.table records (written_of x) y z) where
-        h : Holding (assembled (task-of (lent_of g))) z.effects g.count y.effects y.operators
+        h : Holding (assembled (task_of (lent_of g))) z.effects g.count y.effects y.operators
         h = rw rules-are at e.holding
 
-        effects-many : length (finished (task-of (lent_of g))).effects ≡ z.effects
+        effects-many : length (finished (task_of (lent_of g))).effects ≡ z.effects
         unfolding finished
-        effects-many = h.effect-rows
+        effects-many = h.effect_rows
 
-        it-fits : Fits (finished (task-of (lent_of g))) (room_of x)
+        it-fits : Fits (finished (task_of (lent_of g))) (room_of x)
         it-fits =
-            fits-if t (room_of x) (source (lent_of g) b.passes)
-            (omega (arith, variables-are, twins-many, ready.twins, b.variables-limit))
-            (omega (arith, variables-are, twins-many, ready.twins, b.initial-space))
-            (omega (arith, twins-many, ready.twins, b.twins-space))
+            fits_if t (room_of x) (source (lent_of g) b.passes)
+            (omega (arith, variables-are, twins-many, ready.twins, b.variables_limit))
+            (omega (arith, variables-are, twins-many, ready.twins, b.initial_space))
+            (omega (arith, twins-many, ready.twins, b.twins_space))
             (omega (arith, rows-many, ready.rows.within, ready.rows.limit))
-            (omega (arith, rows-many, ready.rows.within, b.rows-space))
-            (omega (arith, effects-many, e.within, b.effects-limit))
-            (omega (arith, effects-many, e.within, b.effects-space))
-            (omega (arith, length-operators (lent_of g), b.operators-space))
+            (omega (arith, rows-many, ready.rows.within, b.rows_space))
+            (omega (arith, effects-many, e.within, b.effects_limit))
+            (omega (arith, effects-many, e.within, b.effects_space))
+            (omega (arith, length-operators (lent_of g), b.operators_space))
 
         heads :
-            head_of (finished (task-of (lent_of g)))
+            head_of (finished (task_of (lent_of g)))
             ≡ record { variables = g.frame.variables + r.twins; twins = r.twins; formulas = r.rows; effects = z.effects; operators = g.count; goal = r.row }
         unfolding head_of
         heads = λ i.
@@ -226,27 +226,27 @@ module _ {g : Counted} {x : Tables} (b : Begins g x) where
               goal = goal-there i;
             }
           where
-            goal-there : (finished (task-of (lent_of g))).goal ≡ r.row
+            goal-there : (finished (task_of (lent_of g))).goal ≡ r.row
             goal-there = unfold finished in (goal-built g b.passes b.imaged ∙ w.value)
 
-        initial-words : y.values ≡ padded (length x.initial) (finished (task-of (lent_of g))).initial
+        initial-words : y.values ≡ padded (length x.initial) (finished (task_of (lent_of g))).initial
         initial-words =
             e.values
             ∙ ap (λ (m : List ℕ). words ++ drop (g.frame.variables + r.twins) m) b.blank.initial
-            ∙ padded-over (length x.initial) words (g.frame.variables + r.twins) words_long
+            ∙ padded_over (length x.initial) words (g.frame.variables + r.twins) words_long
             ∙ ap (padded (length x.initial)) words_are
           where
             words : List ℕ
-            words = take g.frame.variables g.initial ++ twin-values (take g.frame.variables g.initial) (take r.twins mid.originals)
+            words = take g.frame.variables g.initial ++ twin_values (take g.frame.variables g.initial) (take r.twins mid.originals)
 
             last :
-                take g.frame.variables g.initial ++ twin-values (take g.frame.variables g.initial) (finished (task-of (lent_of g))).originals
-                ≡ (finished (task-of (lent_of g))).initial
-            last = unfold finished task-of in refl
+                take g.frame.variables g.initial ++ twin_values (take g.frame.variables g.initial) (finished (task_of (lent_of g))).originals
+                ≡ (finished (task_of (lent_of g))).initial
+            last = unfold finished task_of in refl
 
-            words_are : words ≡ (finished (task-of (lent_of g))).initial
+            words_are : words ≡ (finished (task_of (lent_of g))).initial
             words_are =
-                ap (λ (m : List ℕ). take g.frame.variables g.initial ++ twin-values (take g.frame.variables g.initial) m) twins-are
+                ap (λ (m : List ℕ). take g.frame.variables g.initial ++ twin_values (take g.frame.variables g.initial) m) twins-are
                 ∙ last
 
             words_long : length words ≡ g.frame.variables + r.twins
@@ -264,14 +264,14 @@ module _ {g : Counted} {x : Tables} (b : Begins g x) where
               head = heads ∙ ap (λ (n : Filled). record { variables = g.frame.variables + n.twins; twins = n.twins; formulas = n.rows; effects = n.effects; operators = g.count; goal = n.goal }) (sym e.answer);
               initial = initial-words;
               twins =
-                  padded-front mid.originals r.twins (omega (arith, ready.twins, ready.originals)) ready.past-twins
+                  padded-front mid.originals r.twins (omega (arith, ready.twins, ready.originals)) ready.past_twins
                   ∙ ap₂ padded long-originals twins-are;
               formulas =
                   e.table
                   ∙ copied-rows mid.table x.formulas r.rows rows-there rows_fit b.blank.formulas
                   ∙ ap (λ (k : List Row). padded (length x.formulas) (words_of k)) rows_are;
               effects = unfold finished in (h.effect_words ∙ ap (λ (m : ℕ). padded m (words_of (assembled t).effects)) long-out);
-              operators = unfold finished in (h.held-operators ∙ ap (λ (m : ℕ). padded m (operator-words (assembled t).operators)) long-outs);
+              operators = unfold finished in (h.held_operators ∙ ap (λ (m : ℕ). padded m (operator_words (assembled t).operators)) long-outs);
             }
 
     -- what finishing asks
@@ -289,11 +289,11 @@ module _ {g : Counted} {x : Tables} (b : Begins g x) where
           → Holds (lent_of g) x (tables y.values mid.originals y.table y.effects y.operators memo2) z
       filled i e o q = it-holds (k.done q).whole (k.done q) i e o
 
-      pub misfits : Allows g.frame.variables (room_of x) g.frame.rows g.frame.twins g.room → z.full ≡ true → Fits (finished (task-of (lent_of g))) (room_of x) → ⊥
+      pub misfits : Allows g.frame.variables (room_of x) g.frame.rows g.frame.twins g.room → z.full ≡ true → Fits (finished (task_of (lent_of g))) (room_of x) → ⊥
       misfits a q fit = go r.full refl
         where
-          few : length (assembled (task-of (lent_of g))).effects ≤ g.room
-          few = unfold finished in a.effects-allowed (length (assembled t).effects) fit.limits.effects fit.tables.effects
+          few : length (assembled (task_of (lent_of g))).effects ≤ g.room
+          few = unfold finished in a.effects_allowed (length (assembled t).effects) fit.limits.effects fit.tables.effects
 
           go : (full : Bool) → r.full ≡ full → ⊥
           go true p = built-over a p fit

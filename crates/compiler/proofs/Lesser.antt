@@ -3,17 +3,17 @@ use Prim.Native.Nat.{ℕ, ◌-◌, ◌≤◌}
 use native.Mathlib.Omega.{arith}
 use Rattle.compiler.specs.Inner.Sizes.{Least, MostTwins}
 
-pub most-twins :
+pub most_twins :
     {variables values originals least r : ℕ}
     → variables ≤ 512
     → variables ≤ values
     → Least originals (values - variables) least
     → Least (512 - variables) least r
     → MostTwins variables values originals r
-most-twins h v a b =
+most_twins h v a b =
     record {
       limit = omega (arith, b.first);
-      initial-space = omega (arith, b.second, a.second);
-      twins-space = omega (arith, b.second, a.first);
+      initial_space = omega (arith, b.second, a.second);
+      twins_space = omega (arith, b.second, a.first);
       most = λ k p q s. b.most k (omega arith) (a.most k s (omega arith));
     }

@@ -5,91 +5,91 @@ use mathlib.Core.Path.{◌≡◌, refl, sym, ap, ◌∙◌}
 use mathlib.Core.List.{List}
 use lib.ListN.{length}
 use Rattle.task.specs.Bounded.{upto}
-use Rattle.task.specs.Table.{Operator, Task, task-of, operator-at}
+use Rattle.task.specs.Table.{Operator, Task, task_of, operator_at}
 use Rattle.task.specs.Check.{refusal}
-use Rattle.task.specs.Run.{operator-of}
+use Rattle.task.specs.Run.{operator_of}
 use Rattle.task.proofs.Held.{length-formulas, length-effects, length-operators, operator-held}
 use Rattle.normal_form.specs.Builder.{start}
 use Rattle.normal_form.specs.Assembly.{Assembled, assemble, unassembled}
 use Rattle.normal_form.specs.Finished.{built, assembled, finished}
 use Rattle.formula_builder.specs.declared.Frame.{Frame}
-use Rattle.images.specs.Inner.Images.{source-rows}
-use Rattle.conditions.specs.Inner.Conditions.{effect-rows}
-use Rattle.building.specs.Inner.Taken.{many, AllKept, whole-built}
-use Rattle.building.proofs.Parts.{made-here, same-state, same-value, same-operators-made}
-use Rattle.assembling.specs.Inner.Assembles.{assembled-in}
+use Rattle.images.specs.Inner.Images.{source_rows}
+use Rattle.conditions.specs.Inner.Conditions.{effect_rows}
+use Rattle.building.specs.Inner.Taken.{many, AllKept, whole_built}
+use Rattle.building.proofs.Parts.{made_here, same_state, same-value, same-operators-made}
+use Rattle.assembling.specs.Inner.Assembles.{assembled_in}
 use Rattle.compiler.specs.Inner.Fills.{Counted, lent_of}
 use Rattle.compiler.proofs.Source.{source, its-variables}
 use Rattle.compiler.proofs.Recalled.{recalled, made_more}
 
 module _ (g : Counted) (passes : refusal (lent_of g) ≡ 0) where
   abbrev t : Task
-  t = task-of (lent_of g)
+  t = task_of (lent_of g)
 
   abbrev frame : Frame
   frame = g.frame
 
-  pub its-formulas : (task-of (lent_of g)).formulas ≡ source-rows g.frame g.formulas
-  unfolding task-of source-rows
+  pub its-formulas : (task_of (lent_of g)).formulas ≡ source_rows g.frame g.formulas
+  unfolding task_of source_rows
   its-formulas = refl
 
-  pub its-effects : (task-of (lent_of g)).effects ≡ effect-rows g.frame g.effects
-  unfolding task-of effect-rows
+  pub its-effects : (task_of (lent_of g)).effects ≡ effect_rows g.frame g.effects
+  unfolding task_of effect_rows
   its-effects = refl
 
-  operator-is : (o : ℕ) → o < g.count → operator-of (task-of (lent_of g)) o ≡ operator-at g.operators o
-  unfolding operator-of
+  operator-is : (o : ℕ) → o < g.count → operator_of (task_of (lent_of g)) o ≡ operator_at g.operators o
+  unfolding operator_of
   operator-is o h = operator-held (lent_of g) o h
 
-  goal-is : (task-of (lent_of g)).goal ≡ g.goal
-  unfolding task-of
+  goal-is : (task_of (lent_of g)).goal ≡ g.goal
+  unfolding task_of
   goal-is = refl
 
   -- what is built is what the definition builds
   pub state-built :
       g.frame.copied ≡ 0
-      → (built (task-of (lent_of g))).st
-      ≡ (whole-built g.frame g.formulas g.effects g.operators g.count g.goal start).st
+      → (built (task_of (lent_of g))).st
+      ≡ (whole_built g.frame g.formulas g.effects g.operators g.count g.goal start).st
   unfolding built
   state-built imaged =
-      same-state t frame g.formulas g.effects g.operators g.count g.goal imaged (its-variables (lent_of g) passes) its-formulas
+      same_state t frame g.formulas g.effects g.operators g.count g.goal imaged (its-variables (lent_of g) passes) its-formulas
       its-effects (length-operators (lent_of g)) operator-is goal-is start
 
   pub goal-built :
       g.frame.copied ≡ 0
-      → (built (task-of (lent_of g))).value.goal
-      ≡ (whole-built g.frame g.formulas g.effects g.operators g.count g.goal start).value
+      → (built (task_of (lent_of g))).value.goal
+      ≡ (whole_built g.frame g.formulas g.effects g.operators g.count g.goal start).value
   unfolding built
   goal-built imaged =
       same-value t frame g.formulas g.effects g.operators g.count g.goal imaged (its-variables (lent_of g) passes) its-formulas
       its-effects (length-operators (lent_of g)) operator-is goal-is start
 
   module _ (o : ℕ) (h : o < g.count) where
-    below : o < length (task-of (lent_of g)).operators
+    below : o < length (task_of (lent_of g)).operators
     below = omega (arith, length-operators (lent_of g))
 
-    pub precondition-below : (operator-at g.operators o).precondition < g.frame.formulas
-    unfolding operator-of
+    pub precondition-below : (operator_at g.operators o).precondition < g.frame.formulas
+    unfolding operator_of
     precondition-below = omega (arith, ap (λ (x : Operator). x.precondition) (operator-is o h), ((source (lent_of g) passes).operator o below).formula, length-formulas (lent_of g))
 
-    pub effect-below : (operator-at g.operators o).effect < g.frame.effects
-    unfolding operator-of
+    pub effect-below : (operator_at g.operators o).effect < g.frame.effects
+    unfolding operator_of
     effect-below = omega (arith, ap (λ (x : Operator). x.effect) (operator-is o h), ((source (lent_of g) passes).operator o below).changes, length-effects (lent_of g))
 
   -- what is assembled is so from the operators that are built
   assembled-made :
       g.frame.copied ≡ 0
-      → assembled (task-of (lent_of g))
-      ≡ assemble g.frame.variables (built (task-of (lent_of g))).st.twins unassembled
-      (upto g.count (made-here g.frame g.formulas g.effects g.operators))
+      → assembled (task_of (lent_of g))
+      ≡ assemble g.frame.variables (built (task_of (lent_of g))).st.twins unassembled
+      (upto g.count (made_here g.frame g.formulas g.effects g.operators))
   unfolding assembled
   assembled-made imaged =
       rw (its-variables (lent_of g) passes)
       (ap (assemble g.frame.variables (built t).st.twins unassembled) all_made)
     where
       all_made :
-          (built (task-of (lent_of g))).value.operators
-          ≡ upto g.count (made-here g.frame g.formulas g.effects g.operators)
+          (built (task_of (lent_of g))).value.operators
+          ≡ upto g.count (made_here g.frame g.formulas g.effects g.operators)
       all_made =
           unfold built in
           same-operators-made t frame g.formulas g.effects g.operators g.count g.goal imaged (its-variables (lent_of g) passes) its-formulas
@@ -100,7 +100,7 @@ module _ (g : Counted) (passes : refusal (lent_of g) ≡ 0) where
       g.frame.copied ≡ 0
       → (records : List ℕ)
       → AllKept g.frame g.formulas g.effects g.operators records g.count (many g.frame g.formulas g.effects g.operators g.count)
-      → assembled (task-of (lent_of g)) ≡ assembled-in g.frame.variables (built (task-of (lent_of g))).st.twins g.operators records g.count
+      → assembled (task_of (lent_of g)) ≡ assembled_in g.frame.variables (built (task_of (lent_of g))).st.twins g.operators records g.count
   assembled-is imaged records all =
       assembled-made imaged
       ∙ sym
@@ -109,7 +109,7 @@ module _ (g : Counted) (passes : refusal (lent_of g) ≡ 0) where
 
   pub few-changes :
       g.frame.copied ≡ 0
-      → length (finished (task-of (lent_of g))).effects ≤ 4096
+      → length (finished (task_of (lent_of g))).effects ≤ 4096
       → many g.frame g.formulas g.effects g.operators g.count ≤ 2048
   unfolding finished
   few-changes imaged h =
@@ -121,4 +121,4 @@ module _ (g : Counted) (passes : refusal (lent_of g) ≡ 0) where
       )
 
   pub goal-below : g.goal < g.frame.formulas
-  goal-below = omega (arith, (source (lent_of g) passes).goal-is-formula, length-formulas (lent_of g), goal-is)
+  goal-below = omega (arith, (source (lent_of g) passes).goal_is_formula, length-formulas (lent_of g), goal-is)

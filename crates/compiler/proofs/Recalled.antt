@@ -6,20 +6,20 @@ use mathlib.Core.Path.{◌≡◌, refl, sym, ap, ap₂, ◌∙◌}
 use mathlib.Core.List.{List, [], ◌∷◌}
 use lib.ListN.{length, get_or}
 use Rattle.task.specs.Bounded.{upto}
-use Rattle.task.specs.Table.{row_at, operator-at}
+use Rattle.task.specs.Table.{row_at, operator_at}
 use Rattle.task.proofs.Bounded.{getD-upto}
 use Rattle.normal_form.specs.Operators.{Changes, Built}
-use Rattle.normal_form.specs.Assembly.{Assembled, assemble-operator, assemble, unassembled}
+use Rattle.normal_form.specs.Assembly.{Assembled, assemble_operator, assemble, unassembled}
 use Rattle.normal_form.proofs.ShapeCounts.{assemble-split}
-use Rattle.normal_form.proofs.ShapeFinished.{no-changes}
+use Rattle.normal_form.proofs.ShapeFinished.{no_changes}
 use Rattle.normal_form.proofs.ShapeRules.{All, none, also}
 use Rattle.formula_builder.specs.declared.Frame.{Frame}
-use Rattle.change_records.specs.Inner.Recorded.{acting, change-at, changes-from}
+use Rattle.change_records.specs.Inner.Recorded.{acting, change_at, changes_from}
 use Rattle.change_records.proofs.Acting.{acting-operator, operator-more}
-use Rattle.building.specs.Inner.Taken.{changes-here, many, Kept}
+use Rattle.building.specs.Inner.Taken.{changes_here, many, Kept}
 use Rattle.building.proofs.Kept.{many-suc, many-fewer, acting-below}
-use Rattle.building.proofs.Parts.{made-here}
-use Rattle.assembling.specs.Inner.Assembles.{changes-between, built_of, begins-at, built_in, assembled-in, InOrder}
+use Rattle.building.proofs.Parts.{made_here}
+use Rattle.assembling.specs.Inner.Assembles.{changes_between, built_of, begins_at, built_in, assembled_in, InOrder}
 
 -- with the changes that bring rules alone
 abbrev acted : Built → Built
@@ -28,12 +28,12 @@ acted b = record { precondition = b.precondition; changes = acting b.changes; so
 module _ (n : ℕ) (twins : List ℕ) where
   last_one :
       (m : ℕ) (f : ℕ → Built)
-      → assemble n twins unassembled (upto (suc m) f) ≡ assemble-operator n twins (assemble n twins unassembled (upto m f)) (f m)
+      → assemble n twins unassembled (upto (suc m) f) ≡ assemble_operator n twins (assemble n twins unassembled (upto m f)) (f m)
   unfolding upto
   last_one m f =
       assemble-split n twins unassembled (upto m f) (f m ∷ []) ∙ one (assemble n twins unassembled (upto m f)) (f m)
     where
-      one : (a : Assembled) (b : Built) → assemble n twins a (b ∷ []) ≡ assemble-operator n twins a b
+      one : (a : Assembled) (b : Built) → assemble n twins a (b ∷ []) ≡ assemble_operator n twins a b
       one a b = unfold assemble in refl
 
   acted-same :
@@ -43,73 +43,73 @@ module _ (n : ℕ) (twins : List ℕ) where
   acted-same zero f g same = unfold upto in refl
   acted-same (suc m) f g same =
       last_one m g
-      ∙ ap₂ (assemble-operator n twins) (acted-same m f g (λ o h. same o (omega arith))) (same m (omega arith))
+      ∙ ap₂ (assemble_operator n twins) (acted-same m f g (λ o h. same o (omega arith))) (same m (omega arith))
       ∙ acting-operator n twins (assemble n twins unassembled (upto m f)) (f m)
       ∙ sym (last_one m f)
 
 -- each of a list, at its place
-all-has : {P : Changes → Type 0} (d : Changes) (cs : List Changes) (i : ℕ) → All P cs → i < length cs → P (get_or cs i d)
-all-has d [] i none h = absurd (not-suc-le-zero h)
-all-has d (c ∷ cs) zero (also p ps) h = p
-all-has d (c ∷ cs) (suc i) (also p ps) h = all-has d cs i ps (omega arith)
+all_has : {P : Changes → Type 0} (d : Changes) (cs : List Changes) (i : ℕ) → All P cs → i < length cs → P (get_or cs i d)
+all_has d [] i none h = absurd (not-suc-le-zero h)
+all_has d (c ∷ cs) zero (also p ps) h = p
+all_has d (c ∷ cs) (suc i) (also p ps) h = all_has d cs i ps (omega arith)
 
 -- The operators that are recorded.
 module _ (frame : Frame) (formulas effects operators records : List ℕ) (n : ℕ) (each : (o : ℕ) → o < n → Kept frame formulas effects operators records o) where
-  begins-is : (o : ℕ) → o < n → begins-at records o ≡ many frame formulas effects operators o
-  unfolding begins-at
+  begins-is : (o : ℕ) → o < n → begins_at records o ≡ many frame formulas effects operators o
+  unfolding begins_at
   begins-is zero h = unfold many in refl
   begins-is (suc o) h = (each o (omega arith)).end
 
   its-changes :
       (o : ℕ)
       → o < n
-      → changes-between records (begins-at records o) (row_at records o).a ≡ acting (changes-here frame formulas effects operators o)
-  unfolding changes-between
+      → changes_between records (begins_at records o) (row_at records o).a ≡ acting (changes_here frame formulas effects operators o)
+  unfolding changes_between
   its-changes o h =
-      let width : (row_at records o).a - begins-at records o ≡ length (acting (changes-here frame formulas effects operators o)) =
+      let width : (row_at records o).a - begins_at records o ≡ length (acting (changes_here frame formulas effects operators o)) =
       omega (arith, (each o h).end, begins-is o h, many-suc frame formulas effects operators o) in
       rw (width, begins-is o h) (each o h).changes
 
-  its-built : (o : ℕ) → o < n → built_in operators records o ≡ acted (made-here frame formulas effects operators o)
+  its-built : (o : ℕ) → o < n → built_in operators records o ≡ acted (made_here frame formulas effects operators o)
   unfolding built_in built_of
   its-built o h =
       λ i.
       record {
         precondition = (each o h).precondition i;
         changes = its-changes o h i;
-        source = operator-at operators o;
+        source = operator_at operators o;
       }
 
   pub recalled :
       (variables : ℕ) (twins : List ℕ)
-      → assembled-in variables twins operators records n
-      ≡ assemble variables twins unassembled (upto n (made-here frame formulas effects operators))
-  unfolding assembled-in
+      → assembled_in variables twins operators records n
+      ≡ assemble variables twins unassembled (upto n (made_here frame formulas effects operators))
+  unfolding assembled_in
   recalled variables twins =
-      acted-same variables twins n (made-here frame formulas effects operators) (built_in operators records) its-built
+      acted-same variables twins n (made_here frame formulas effects operators) (built_in operators records) its-built
 
-  its-change-below : (o i : ℕ) → o < n → begins-at records o ≤ i → i < (row_at records o).a → (change-at records i).variable < frame.variables
-  unfolding changes-from
+  its-change-below : (o i : ℕ) → o < n → begins_at records o ≤ i → i < (row_at records o).a → (change_at records i).variable < frame.variables
+  unfolding changes_from
   its-change-below o i h from before =
-      let all = acting (changes-here frame formulas effects operators o) in
-      let j = i - begins-at records o in
+      let all = acting (changes_here frame formulas effects operators o) in
+      let j = i - begins_at records o in
       let long : j < length all = omega (arith, (each o h).end, begins-is o h, many-suc frame formulas effects operators o) in
       let here : many frame formulas effects operators o + j ≡ i = omega (arith, begins-is o h) in
-      let read : get_or all j no-changes ≡ change-at records i =
-      ap (λ (l : List Changes). get_or l j no-changes) (sym (each o h).changes)
-      ∙ getD-upto (length all) (λ k. change-at records (many frame formulas effects operators o + k)) j no-changes long
-      ∙ ap (change-at records) here in
+      let read : get_or all j no_changes ≡ change_at records i =
+      ap (λ (l : List Changes). get_or l j no_changes) (sym (each o h).changes)
+      ∙ getD-upto (length all) (λ k. change_at records (many frame formulas effects operators o + k)) j no_changes long
+      ∙ ap (change_at records) here in
       omega (
         arith,
         ap (λ (c : Changes). c.variable) read,
-        all-has no-changes all j (acting-below frame formulas effects operators o) long,
+        all_has no_changes all j (acting-below frame formulas effects operators o) long,
       )
 
   pub in_order :
       (o : ℕ)
       → o < n
       → many frame formulas effects operators n ≤ 2048
-      → InOrder frame.variables records (begins-at records o) (row_at records o).a
+      → InOrder frame.variables records (begins_at records o) (row_at records o).a
   in_order o h few =
       let end = (each o h).end in
       record {
@@ -122,10 +122,10 @@ module _ (frame : Frame) (formulas effects operators records : List ℕ) (n : �
 pub made_more :
     (frame : Frame) (formulas effects operators : List ℕ) (variables : ℕ) (twins : List ℕ) (n : ℕ)
     → 1 + 2 * many frame formulas effects operators n
-    ≤ length (assemble variables twins unassembled (upto n (made-here frame formulas effects operators))).effects
+    ≤ length (assemble variables twins unassembled (upto n (made_here frame formulas effects operators))).effects
 made_more frame formulas effects operators variables twins zero = unfold upto many assemble unassembled in omega arith
 made_more frame formulas effects operators variables twins (suc n) =
-    let made = made-here frame formulas effects operators in
+    let made = made_here frame formulas effects operators in
     omega (
       arith,
       made_more frame formulas effects operators variables twins n,

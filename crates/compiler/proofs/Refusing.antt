@@ -3,12 +3,12 @@ use Prim.Native.Nat.{ℕ, zero, suc, ◌+◌, ◌*◌, ◌≤◌, ◌<◌}
 use native.Mathlib.Omega.{arith}
 use mathlib.Core.Path.{◌≡◌, refl, sym}
 use lib.ListN.{length}
-use Rattle.task.specs.Table.{Lent, Task, task-of, operator-width}
+use Rattle.task.specs.Table.{Lent, Task, task_of, operator_width}
 use Rattle.task.specs.Check.{refusal}
 use Rattle.task.proofs.Held.{length-operators}
 use Rattle.normal_form.specs.Assembly.{unassembled}
 use Rattle.normal_form.specs.Finished.{built, assembled, finished}
-use Rattle.normal_form.specs.Compiled.{Room, Fits, nothing-given, compiling}
+use Rattle.normal_form.specs.Compiled.{Room, Fits, nothing_given, compiling}
 use Rattle.normal_form.proofs.Growth.{longer}
 use Rattle.normal_form.proofs.Compiled.{by-tables, by-twins, by-scratch, by-room}
 use Rattle.normal_form.proofs.ShapeAssembled.{assemble-effects}
@@ -18,7 +18,7 @@ use Rattle.compiler.specs.Inner.Numbers.{Numbered}
 use Rattle.compiler.proofs.Source.{its-variables}
 
 module _ (l : Lent) (room : Room) where
-  refused : (n : ℕ) → compiling l room ≡ nothing-given (suc n) room → Numbered l room (suc n)
+  refused : (n : ℕ) → compiling l room ≡ nothing_given (suc n) room → Numbered l room (suc n)
   refused n e = record { refuses = λ _. e; passed = λ z. absurd (omega (arith, z)) }
 
   pub by-the-check : (n : ℕ) → n ≡ refusal l → (n ≡ 0 → ⊥) → Numbered l room n
@@ -35,29 +35,29 @@ module _ (l : Lent) (room : Room) where
 
       module _ (memo : 2 * l.head.formulas + 2 * l.head.effects ≤ room.scratch) where
         abbrev t : Task
-        t = task-of l
+        t = task_of l
 
-        no_room : (Fits (finished (task-of l)) room → ⊥) → Numbered l room 15
+        no_room : (Fits (finished (task_of l)) room → ⊥) → Numbered l room 15
         no_room n = refused 14 (by-room l room passes none memo n)
 
         pub short-initial : room.initial < l.head.variables → Numbered l room 15
         short-initial h = no_room (λ fit. omega (arith, fit.tables.initial, finished-variables t, its-variables l passes))
 
-        pub short-operators : room.operators < operator-width * l.head.operators → Numbered l room 15
+        pub short-operators : room.operators < operator_width * l.head.operators → Numbered l room 15
         short-operators h = no_room (λ fit. omega (arith, fit.tables.operators, finished-operators t, length-operators l))
 
-        one-effect : 1 ≤ length (finished (task-of l)).effects
+        one_effect : 1 ≤ length (finished (task_of l)).effects
         unfolding finished assembled unassembled
-        one-effect =
+        one_effect =
             longer unassembled.effects (assembled t).effects
             (assemble-effects (length t.initial) (built t).st.twins unassembled (built t).value.operators)
 
         pub short-effects : room.effects < 3 → Numbered l room 15
-        short-effects h = no_room (λ fit. omega (arith, fit.tables.effects, one-effect))
+        short-effects h = no_room (λ fit. omega (arith, fit.tables.effects, one_effect))
 
         pub no_number :
             l.head.variables ≤ room.initial
-            → operator-width * l.head.operators ≤ room.operators
+            → operator_width * l.head.operators ≤ room.operators
             → 3 ≤ room.effects
             → Numbered l room 0
         no_number i o e =

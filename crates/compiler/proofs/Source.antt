@@ -3,7 +3,7 @@ use Prim.Native.Nat.{◌≤◌}
 use native.Mathlib.Omega.{arith}
 use mathlib.Core.Path.{◌≡◌}
 use lib.ListN.{length}
-use Rattle.task.specs.Table.{Lent, task-of}
+use Rattle.task.specs.Table.{Lent, task_of}
 use Rattle.task.specs.Check.{refusal}
 use Rattle.task.specs.Rules.{LongEnough, Checked}
 use Rattle.task.proofs.Held.{length-initial, length-effects}
@@ -13,14 +13,14 @@ module _ (l : Lent) (passes : refusal l ≡ 0) where
   pub long : LongEnough l
   long = (kept-rules l passes).0
 
-  pub source : Checked (task-of l)
+  pub source : Checked (task_of l)
   source = (kept-rules l passes).1
 
-  pub its-variables : length (task-of l).initial ≡ l.head.variables
+  pub its-variables : length (task_of l).initial ≡ l.head.variables
   its-variables = length-initial l long
 
-  pub few-variables : l.head.variables ≤ 512
-  few-variables = omega (arith, source.limits.variables, its-variables)
+  pub few_variables : l.head.variables ≤ 512
+  few_variables = omega (arith, source.limits.variables, its-variables)
 
-  pub few-effects : l.head.effects ≤ 4096
-  few-effects = omega (arith, source.limits.effects, length-effects l)
+  pub few_effects : l.head.effects ≤ 4096
+  few_effects = omega (arith, source.limits.effects, length-effects l)

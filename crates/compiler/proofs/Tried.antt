@@ -6,19 +6,19 @@ use mathlib.Core.List.{List}
 use Prim.Native.Nat.{ℕ, ◌≤◌}
 use Rattle.compile_parts.specs.declared.Counts.{Counts}
 use Rattle.compile_parts.specs.declared.Filled.{Filled}
-use Rattle.compile_parts.specs.Inner.Finishes.{nothing-filled}
+use Rattle.compile_parts.specs.Inner.Finishes.{nothing_filled}
 use Rattle.compiler.specs.Tables.{Tables, room_of}
 use Rattle.compiler.specs.Inner.Sizes.{with_rows, Fewer, Small}
 use Rattle.compiler.specs.Inner.Fills.{Blanked, Counted, counted, lent_of, Begins, Roomy, BeginsSmall, Holds, Fills, Tries}
-use Rattle.compiler.proofs.Cleared.{cleared-again}
+use Rattle.compiler.proofs.Cleared.{cleared_again}
 
 -- The two ways out of a frame: without room all is cleared again.
 module _ {g : Counted} {x : Tables} {z : Filled} where
-  pub tried-over : {y w : Tables} → Begins g x → room_of y ≡ room_of x → Blanked y w → z ≡ nothing-filled → Tries g x w z
+  pub tried-over : {y w : Tables} → Begins g x → room_of y ≡ room_of x → Blanked y w → z ≡ nothing_filled → Tries g x w z
   tried-over b long c e =
       record {
         done = λ q. absurd (true≢false (sym (ap (λ (r : Filled). r.full) e) ∙ q));
-        over = λ _. cleared-again b.blank long c;
+        over = λ _. cleared_again b.blank long c;
       }
 
   pub tried-done : {y : Tables} → z.full ≡ false → (z.full ≡ false → Holds (lent_of g) x y z) → Tries g x y z
@@ -41,24 +41,24 @@ module _ {c r : Counts} {i f e o : List ℕ} {x : Tables} (k : Fewer c r) where
               imaged = b.imaged;
               blank = b.blank;
               memo = b.memo;
-              rows-space = omega (arith, b.rows-space);
-              rows-limit = omega (arith, b.rows-limit);
-              twins-space = b.twins-space;
-              variables-limit = b.variables-limit;
-              initial-space = b.initial-space;
-              effects-space = b.effects-space;
-              effects-limit = b.effects-limit;
-              one-effect = b.one-effect;
-              operators-space = b.operators-space;
+              rows_space = omega (arith, b.rows_space);
+              rows_limit = omega (arith, b.rows_limit);
+              twins_space = b.twins_space;
+              variables_limit = b.variables_limit;
+              initial_space = b.initial_space;
+              effects_space = b.effects_space;
+              effects_limit = b.effects_limit;
+              one_effect = b.one_effect;
+              operators_space = b.operators_space;
             };
-        few-rows = few;
-        few-effects = effects;
-        few-variables = variables;
+        few_rows = few;
+        few_effects = effects;
+        few_variables = variables;
       }
 
   pub small-asks : {m : Bool} → Small c m → m ≡ true → Roomy (counted c i f e o) x → BeginsSmall (counted r i f e o) x
   small-asks s q b =
-      rw k.same (small_by r.frame.rows k.few k.less (s.few-effects q) (s.few-variables q) b.begins)
+      rw k.same (small_by r.frame.rows k.few k.less (s.few_effects q) (s.few_variables q) b.begins)
 
   module _ {y : Tables} {z : Filled} (t : Tries (counted r i f e o) x y z) where
     held : z.full ≡ false → Holds (lent_of (counted (with_rows c r.frame.rows) i f e o)) x y z

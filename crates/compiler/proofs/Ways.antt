@@ -6,23 +6,23 @@ use mathlib.Core.Bool.{true, false}
 use mathlib.Core.List.{List, []}
 use lib.ListN.{length, take, replicate}
 use Rattle.task.specs.declared.Head.{Head}
-use Rattle.task.specs.Table.{Lent, lent, task-of}
+use Rattle.task.specs.Table.{Lent, lent, task_of}
 use Rattle.task.specs.Check.{refusal}
 use Rattle.task.specs.Words.{head_of}
 use Rattle.task.proofs.Kept.{kept-rules, rules-kept}
 use Rattle.normal_form.specs.Finished.{finished}
-use Rattle.normal_form.specs.Compiled.{nothing-given, task-given, compiling, not-compiled, compiled-head}
+use Rattle.normal_form.specs.Compiled.{nothing_given, task_given, compiling, not_compiled, compiled_head}
 use Rattle.normal_form.proofs.Compiled.{by-room, succeeds}
 use Rattle.compile_parts.specs.declared.Counts.{Counts}
 use Rattle.compile_parts.specs.declared.Filled.{Filled}
 use Rattle.compiler.specs.declared.Lengths.{Lengths}
 use Rattle.compiler.specs.declared.CompileAnswer.TheVariants.{Compiled, Refused}
-use Rattle.compiler.specs.Left.{compile-left}
+use Rattle.compiler.specs.Left.{compile_left}
 use Rattle.compiler.specs.Tables.{Tables, tables, room_of}
-use Rattle.compiler.specs.Inner.Sizes.{Least, MostTwins, counts-by, CountsOf}
+use Rattle.compiler.specs.Inner.Sizes.{Least, MostTwins, counts_by, CountsOf}
 use Rattle.compiler.specs.Inner.Numbers.{Passed}
-use Rattle.compiler.specs.Inner.Fills.{Blanked, counted, Roomy, head-after, Holds, Fills}
-use Rattle.compiler.proofs.Cleared.{same-room}
+use Rattle.compiler.specs.Inner.Fills.{Blanked, counted, Roomy, head_after, Holds, Fills}
+use Rattle.compiler.proofs.Cleared.{same_room}
 
 -- a source, without its twins
 abbrev without : Lent → Lent
@@ -39,30 +39,30 @@ without l =
     l.initial [] l.formulas l.effects l.operators
 
 -- if it has none, it is the same task
-same-task : (l : Lent) → l.head.twins ≡ 0 → task-of (without l) ≡ task-of l
-unfolding task-of
-same-task l none = λ i.
+same_task : (l : Lent) → l.head.twins ≡ 0 → task_of (without l) ≡ task_of l
+unfolding task_of
+same_task l none = λ i.
     record {
-      initial = (task-of l).initial;
+      initial = (task_of l).initial;
       originals = ap (λ (n : ℕ). take n l.twins) (sym none) i;
-      formulas = (task-of l).formulas;
-      effects = (task-of l).effects;
-      operators = (task-of l).operators;
+      formulas = (task_of l).formulas;
+      effects = (task_of l).effects;
+      operators = (task_of l).operators;
       goal = l.head.goal;
     }
 
 -- and passes too
-still-passes : (l : Lent) → l.head.twins ≡ 0 → refusal l ≡ 0 → refusal (without l) ≡ 0
-still-passes l none passes =
+still_passes : (l : Lent) → l.head.twins ≡ 0 → refusal l ≡ 0 → refusal (without l) ≡ 0
+still_passes l none passes =
     let kept = kept-rules l passes in
     let w = kept.0 in
     rules-kept (without l)
     (record { initial = w.initial; twins = omega arith; formulas = w.formulas; effects = w.effects; operators = w.operators })
-    (rw (same-task l none) kept.1)
+    (rw (same_task l none) kept.1)
 
 -- the lengths of lent tables
-abbrev lengths-of : Tables → Lengths
-lengths-of x =
+abbrev lengths_of : Tables → Lengths
+lengths_of x =
     record {
       values = length x.initial;
       originals = length x.twins;
@@ -75,14 +75,14 @@ lengths-of x =
 -- a number, and every table 0
 pub refuses :
     (l : Lent) {x y : Tables} (n : ℕ)
-    → compiling l (room_of x) ≡ nothing-given n (room_of x)
+    → compiling l (room_of x) ≡ nothing_given n (room_of x)
     → Blanked x y
-    → compile-left (Refused n) y ≡ compiling l (room_of x)
-unfolding nothing-given
+    → compile_left (Refused n) y ≡ compiling l (room_of x)
+unfolding nothing_given
 refuses l n e b =
     (λ i.
     record {
-      answer = not-compiled n;
+      answer = not_compiled n;
       initial = b.initial i;
       twins = b.twins i;
       formulas = b.formulas i;
@@ -92,46 +92,46 @@ refuses l n e b =
     })
     ∙ sym e
 
-pub refuses-first :
+pub refuses_first :
     (l : Lent) {x y : Tables} (n : ℕ)
-    → compiling l (room_of y) ≡ nothing-given n (room_of y)
+    → compiling l (room_of y) ≡ nothing_given n (room_of y)
     → Blanked x y
-    → compile-left (Refused n) y ≡ compiling l (room_of x)
-refuses-first l n e b = refuses l n (rw (same-room b) at e) b
+    → compile_left (Refused n) y ≡ compiling l (room_of x)
+refuses_first l n e b = refuses l n (rw (same_room b) at e) b
 
 -- With no number, over tables that are all 0.
 module _ {l : Lent} {x : Tables} (p : Passed l (room_of x)) where
-  module _ {c : Counts} (k : CountsOf l.head (lengths-of x) c) where
+  module _ {c : Counts} (k : CountsOf l.head (lengths_of x) c) where
     roomy-by :
         (rows twins room : ℕ)
         → Least 4096 (length x.formulas / 3) rows
         → MostTwins l.head.variables (length x.initial) (length x.twins) twins
         → Least 4096 (length x.effects / 3) room
         → Blanked x x
-        → Roomy (counted (counts-by l.head rows twins room) l.initial l.formulas l.effects l.operators) x
+        → Roomy (counted (counts_by l.head rows twins room) l.initial l.formulas l.effects l.operators) x
     roomy-by rows twins room r w f blank =
         record {
           begins =
               record {
-                passes = still-passes l p.untwinned p.passes;
+                passes = still_passes l p.untwinned p.passes;
                 imaged = refl;
                 blank = blank;
                 memo = p.memo;
-                rows-space = omega (arith, r.second);
-                rows-limit = r.first;
-                twins-space = w.twins-space;
-                variables-limit = w.limit;
-                initial-space = w.initial-space;
-                effects-space = omega (arith, f.second);
-                effects-limit = f.first;
-                one-effect = f.most 1 (omega arith) (omega (arith, p.effects));
-                operators-space = p.operators;
+                rows_space = omega (arith, r.second);
+                rows_limit = r.first;
+                twins_space = w.twins_space;
+                variables_limit = w.limit;
+                initial_space = w.initial_space;
+                effects_space = omega (arith, f.second);
+                effects_limit = f.first;
+                one_effect = f.most 1 (omega arith) (omega (arith, p.effects));
+                operators_space = p.operators;
               };
           allows =
               record {
-                rows-allowed = λ n a b. r.most n a (omega arith);
-                twins-allowed = w.most;
-                effects-allowed = λ n a b. f.most n a (omega arith);
+                rows_allowed = λ n a b. r.most n a (omega arith);
+                twins_allowed = w.most;
+                effects_allowed = λ n a b. f.most n a (omega arith);
               };
         }
 
@@ -139,18 +139,18 @@ module _ {l : Lent} {x : Tables} (p : Passed l (room_of x)) where
     roomy blank = rw k.same (roomy-by c.frame.rows c.frame.twins c.room k.rows k.twins k.room blank)
 
     module _ {y : Tables} {r : Filled} (f : Fills (counted c l.initial l.formulas l.effects l.operators) x y r) where
-      abbrev fills-it : Fills (counted (counts-by l.head c.frame.rows c.frame.twins c.room) l.initial l.formulas l.effects l.operators) x y r
-      fills-it = rw k.same at f
+      abbrev fills_it : Fills (counted (counts_by l.head c.frame.rows c.frame.twins c.room) l.initial l.formulas l.effects l.operators) x y r
+      fills_it = rw k.same at f
 
-      pub filled-over : Blanked x x → r.full ≡ true → compile-left (Refused 15) y ≡ compiling l (room_of x)
+      pub filled-over : Blanked x x → r.full ≡ true → compile_left (Refused 15) y ≡ compiling l (room_of x)
       filled-over b q =
-          let again : Blanked x y = rw (fills-it.tries.over q) b in
+          let again : Blanked x y = rw (fills_it.tries.over q) b in
           refuses l 15
-          (by-room l (room_of x) p.passes p.untwinned p.memo (λ fit. fills-it.misfit q (rw (same-task l p.untwinned) fit)))
+          (by-room l (room_of x) p.passes p.untwinned p.memo (λ fit. fills_it.misfit q (rw (same_task l p.untwinned) fit)))
           again
 
       held : r.full ≡ false → Holds (without l) x y r
-      held q = fills-it.tries.done q
+      held q = fills_it.tries.done q
 
       pub variables-fit : r.full ≡ false → l.head.variables + r.twins ≤ 512
       unfolding head_of
@@ -161,15 +161,15 @@ module _ {l : Lent} {x : Tables} (p : Passed l (room_of x)) where
       pub filled-done :
           {s : List ℕ} {n : Head}
           → r.full ≡ false
-          → n ≡ head-after l.head r
+          → n ≡ head_after l.head r
           → s ≡ replicate (length x.scratch) 0
-          → compile-left (Compiled n) (tables y.initial y.twins y.formulas y.effects y.operators s) ≡ compiling l (room_of x)
-      unfolding task-given
+          → compile_left (Compiled n) (tables y.initial y.twins y.formulas y.effects y.operators s) ≡ compiling l (room_of x)
+      unfolding task_given
       filled-done q n e =
           let h = held q in
           (λ i.
           record {
-            answer = compiled-head ((n ∙ sym h.head) i);
+            answer = compiled_head ((n ∙ sym h.head) i);
             initial = h.initial i;
             twins = h.twins i;
             formulas = h.formulas i;
@@ -177,7 +177,7 @@ module _ {l : Lent} {x : Tables} (p : Passed l (room_of x)) where
             operators = h.operators i;
             scratch = e i;
           })
-          ∙ ap (λ t. task-given (finished t) (room_of x)) (same-task l p.untwinned)
+          ∙ ap (λ t. task_given (finished t) (room_of x)) (same_task l p.untwinned)
           ∙ sym
           (succeeds l (room_of x)
-          (record { passes = p.passes; untwinned = p.untwinned; scratch = p.memo; fits = rw (same-task l p.untwinned) at h.fits }))
+          (record { passes = p.passes; untwinned = p.untwinned; scratch = p.memo; fits = rw (same_task l p.untwinned) at h.fits }))

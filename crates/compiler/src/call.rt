@@ -3,7 +3,7 @@ ghost use Rattle.std.specs.Prelude.{◌≡◌};
 ghost use Rattle.task.specs.Table.{lent};
 ghost use Rattle.normal_form.specs.Compiled.{compiling};
 ghost use Rattle.compiler.specs.Left.{tables, room_of};
-ghost use Rattle.compiler.specs.Left.{compile-left};
+ghost use Rattle.compiler.specs.Left.{compile_left};
 
 use crate::clear::clear_all;
 use crate::frames::fill;
@@ -31,7 +31,7 @@ pub fn compile(
     written: &mut [u16],
     scratch: &mut [u16],
 ) -> CompileAnswer
-    ensures { compile-left result (tables values.new originals.new table.new out.new written.new scratch.new) ≡ compiling (lent head initial.now twins.now formulas.now effects.now operators.now) (room_of (tables values.old originals.old table.old out.old written.old scratch.old)) }
+    ensures { compile_left result (tables values.new originals.new table.new out.new written.new scratch.new) ≡ compiling (lent head initial.now twins.now formulas.now effects.now operators.now) (room_of (tables values.old originals.old table.old out.old written.old scratch.old)) }
 {
     clear_all(values, originals, table, out, written, scratch);
     let lengths = Lengths {

@@ -1,4 +1,6 @@
 // Compiling a task to positive normal form: the call, with all its refusals, over tables that the caller lends and tables of its own frame.
+#![tactic(auto)]
+
 mod call;
 mod clear;
 mod frames;
@@ -11,14 +13,14 @@ pub use call::compile;
 use task::Head;
 
 // The head of the compiled task, or the number of the refusal.
-#[derive(Drop)]
+#[derive(Clone, Copy)]
 pub enum CompileAnswer {
     Compiled(Head),
     Refused(u16),
 }
 
 // How many bytes or words of each of the six lent tables there are.
-#[derive(Drop)]
+#[derive(Clone, Copy)]
 struct Lengths {
     values: usize,
     originals: usize,

@@ -8,11 +8,11 @@ use mathlib.Core.List.{List}
 use lib.Dec.{eqb}
 use lib.ListN.{length, get_or}
 use borrow.Author.Tests.{eq-eqb, ne_eqb}
-use Rattle.task.specs.Table.{Row, row_at, effect-kind}
+use Rattle.task.specs.Table.{Row, row_at, effect_kind}
 use Rattle.task.specs.Semantics.{Formula}
 use Rattle.task.specs.Rules.{no_row, EffectRule}
 use Rattle.task.proofs.Bounded.{length-upto, getD-upto}
-use Rattle.normal_form.specs.Builder.{Build, give, bind, pair, Polarity, plain, negated, opposite, image-of-false, image-of-true}
+use Rattle.normal_form.specs.Builder.{Build, give, bind, pair, Polarity, plain, negated, opposite, image_of_false, image_of_true}
 use Rattle.normal_form.specs.Conditions.{Becoming, guarded}
 use Rattle.formula_builder.specs.declared.Words.{Words}
 use Rattle.formula_builder.specs.declared.Frame.{Frame}
@@ -20,21 +20,21 @@ use Rattle.formula_builder.specs.Inner.Held.{side, row_of}
 use Rattle.images.specs.Inner.Images.{tree, becoming}
 use Rattle.atom_sets.specs.Inner.Sets.{lacks, Sets}
 use Rattle.conditions.specs.declared.Target.{Target}
-use Rattle.conditions.specs.Inner.Conditions.{atom-of, acts, atom-row, effect-rows, EffectSource, Unnamed, AtomSets}
-use Rattle.conditions.proofs.Atoms.{touch-other, other-atom}
-use Rattle.conditions.proofs.Rows.{join-with-left, both-lower, under-lower, known-kind, of-atom, of-both, of-under}
+use Rattle.conditions.specs.Inner.Conditions.{atom_of, acts, atom_row, effect_rows, EffectSource, Unnamed, AtomSets}
+use Rattle.conditions.proofs.Atoms.{touch_other, other_atom}
+use Rattle.conditions.proofs.Rows.{join-with-left, both-lower, under-lower, known_kind, of-atom, of-both, of-under}
 
 -- a join of what folds away folds away
-pub idle-pair : (p : Polarity) → pair (opposite p) (give (image-of-false p)) (give (image-of-false p)) ≡ give (image-of-false p)
+pub idle_pair : (p : Polarity) → pair (opposite p) (give (image_of_false p)) (give (image_of_false p)) ≡ give (image_of_false p)
 unfolding pair bind give
-idle-pair plain = join-with-left negated 0
-idle-pair negated = join-with-left plain 1
+idle_pair plain = join-with-left negated 0
+idle_pair negated = join-with-left plain 1
 
 -- and a formula over what folds away is not built
-pub idle-guard : (becomes : Becoming) (p : Polarity) (f : Formula) → bind (give (image-of-false p)) (λ c. guarded becomes p f c) ≡ give (image-of-false p)
+pub idle_guard : (becomes : Becoming) (p : Polarity) (f : Formula) → bind (give (image_of_false p)) (λ c. guarded becomes p f c) ≡ give (image_of_false p)
 unfolding bind give guarded
-idle-guard becomes plain f = refl
-idle-guard becomes negated f = refl
+idle_guard becomes plain f = refl
+idle_guard becomes negated f = refl
 
 module _ (frame : Frame) (formulas effects scratch : List ℕ) (source : EffectSource frame effects scratch) (i : ℕ) (h : i < frame.effects) where
   -- with the words w
@@ -53,7 +53,7 @@ module _ (frame : Frame) (formulas effects scratch : List ℕ) (source : EffectS
         record {
           idle = λ t c e.
               let p = side t.negated in
-              of-both frame formulas effects scratch source i h t k ∙ ap₂ (pair (opposite p)) (l.idle t c e) (r.idle t c e) ∙ idle-pair p;
+              of-both frame formulas effects scratch source i h t k ∙ ap₂ (pair (opposite p)) (l.idle t c e) (r.idle t c e) ∙ idle_pair p;
         }
 
     unnamed-under :
@@ -67,11 +67,11 @@ module _ (frame : Frame) (formulas effects scratch : List ℕ) (source : EffectS
               let f = tree frame formulas (row_at effects i).a in
               of-under frame formulas effects scratch source i h t k
               ∙ ap (λ (m : Build ℕ). bind m (λ c. guarded (becoming frame) p f c)) (l.idle t c e)
-              ∙ idle-guard (becoming frame) p f;
+              ∙ idle_guard (becoming frame) p f;
         }
 
     unnamed-empty : (row_at effects i).kind ≡ 0 → Unnamed frame formulas effects clear v i
-    unfolding acts effect-kind atom-row
+    unfolding acts effect_kind atom_row
     unnamed-empty k =
         record {
           idle = λ t c e.
@@ -83,13 +83,13 @@ module _ (frame : Frame) (formulas effects scratch : List ℕ) (source : EffectS
         → ((row_at effects i).kind ≡ 4 → ⊥)
         → (v ≡ (row_at effects i).a → clear ≡ eqb (row_at effects i).kind 2 → ⊥)
         → Unnamed frame formulas effects clear v i
-    unfolding atom-row
+    unfolding atom_row
     unnamed-atom three four other =
         record {
           idle = λ t c e.
               of-atom frame formulas effects scratch source i h t three four
               ∙ ap
-              (λ (b : Bool). give (cond b (image-of-true (side t.negated)) (image-of-false (side t.negated))))
+              (λ (b : Bool). give (cond b (image_of_true (side t.negated)) (image_of_false (side t.negated))))
               (sym (go t c e (ℕ_discrete (row_at effects i).a t.variable)));
         }
       where
@@ -98,34 +98,34 @@ module _ (frame : Frame) (formulas effects scratch : List ℕ) (source : EffectS
             → t.clear ≡ clear
             → t.variable ≡ v
             → Dec ((row_at effects i).a ≡ t.variable)
-            → false ≡ acts (atom-of t) (effect-kind (row_at effects i).kind) (row_at effects i).a
-        go t c e (no n) = touch-other t.clear t.variable (row_at effects i).a (effect-kind (row_at effects i).kind) n
+            → false ≡ acts (atom_of t) (effect_kind (row_at effects i).kind) (row_at effects i).a
+        go t c e (no n) = touch_other t.clear t.variable (row_at effects i).a (effect_kind (row_at effects i).kind) n
         go t c e (yes s) =
-            other-atom t.clear t.variable (row_at effects i).a (row_at effects i).kind s
+            other_atom t.clear t.variable (row_at effects i).a (row_at effects i).kind s
             (λ z. other (sym e ∙ sym s) (sym c ∙ z))
 
 -- an atom names a variable
-atom-rule : (v f i k a b : ℕ) → EffectRule v f i (effect-kind k) a b → (k ≡ 0 → ⊥) → (k ≡ 3 → ⊥) → (k ≡ 4 → ⊥) → a < v
-unfolding effect-kind
-atom-rule v f i zero a b r x y z = absurd (x refl)
-atom-rule v f i (suc zero) a b r x y z = r.0
-atom-rule v f i (suc (suc zero)) a b r x y z = r.0
-atom-rule v f i (suc (suc (suc zero))) a b r x y z = absurd (y refl)
-atom-rule v f i (suc (suc (suc (suc zero)))) a b r x y z = absurd (z refl)
-atom-rule v f i (suc (suc (suc (suc (suc k))))) a b r x y z = absurd r
+atom_rule : (v f i k a b : ℕ) → EffectRule v f i (effect_kind k) a b → (k ≡ 0 → ⊥) → (k ≡ 3 → ⊥) → (k ≡ 4 → ⊥) → a < v
+unfolding effect_kind
+atom_rule v f i zero a b r x y z = absurd (x refl)
+atom_rule v f i (suc zero) a b r x y z = r.0
+atom_rule v f i (suc (suc zero)) a b r x y z = r.0
+atom_rule v f i (suc (suc (suc zero))) a b r x y z = absurd (y refl)
+atom_rule v f i (suc (suc (suc (suc zero)))) a b r x y z = absurd (z refl)
+atom_rule v f i (suc (suc (suc (suc (suc k))))) a b r x y z = absurd r
 
-pub atom-within :
+pub atom_within :
     (frame : Frame) (effects scratch : List ℕ) (source : EffectSource frame effects scratch) (i : ℕ) (h : i < frame.effects) (w : Words) (q : row_of w ≡ row_at effects i)
     → (w.kind ≡ 0 → ⊥)
     → (w.kind ≡ 3 → ⊥)
     → (w.kind ≡ 4 → ⊥)
     → w.a < frame.variables
-unfolding effect-rows
-atom-within frame effects scratch source i h w q x y z =
-    let there : i < length (effect-rows frame effects) = rw (length-upto frame.effects (row_at effects)) h in
-    let same : get_or (effect-rows frame effects) i no_row ≡ row_of w =
+unfolding effect_rows
+atom_within frame effects scratch source i h w q x y z =
+    let there : i < length (effect_rows frame effects) = rw (length-upto frame.effects (row_at effects)) h in
+    let same : get_or (effect_rows frame effects) i no_row ≡ row_of w =
     getD-upto frame.effects (row_at effects) i no_row h ∙ sym q in
-    atom-rule frame.variables frame.formulas i w.kind w.a w.b (rw same at (source.down.row i there)) x y z
+    atom_rule frame.variables frame.formulas i w.kind w.a w.b (rw same at (source.down.row i there)) x y z
 
 -- The sets are right: by the rows below each row.
 module _ (frame : Frame) (effects scratch notes : List ℕ) (source : EffectSource frame effects scratch) (sets : Sets frame effects notes) where
@@ -175,7 +175,7 @@ module _ (frame : Frame) (effects scratch notes : List ℕ) (source : EffectSour
       go (no x) (no y) (yes k) lower = unnamed-empty frame formulas effects scratch source i g clear v k
       go (no x) (no y) (no z) lower =
           unnamed-atom frame formulas effects scratch source i g clear v x y
-          (atom-lacked clear v i g z x (known-kind frame formulas effects scratch source i g y) q)
+          (atom-lacked clear v i g z x (known_kind frame formulas effects scratch source i g y) q)
 
   pub sets-right : AtomSets frame effects notes
   sets-right =

@@ -9,56 +9,56 @@ use lib.Dec.{eqb}
 use borrow.Author.Tests.{eq-eqb, ne_eqb}
 use Rattle.task.specs.Table.{Row, row_at}
 use Rattle.task.proofs.Bounded.{length-upto}
-use Rattle.normal_form.specs.Builder.{Build, give, bind, join, pair, Polarity, plain, negated, opposite, image-of-false, image-of-true}
+use Rattle.normal_form.specs.Builder.{Build, give, bind, join, pair, Polarity, plain, negated, opposite, image_of_false, image_of_true}
 use Rattle.normal_form.specs.Conditions.{guarded}
-use Rattle.normal_form.proofs.Growth.{steady-give, steady-bind, steady-join}
+use Rattle.normal_form.proofs.Growth.{steady_give, steady_bind, steady_join}
 use Rattle.normal_form.proofs.Steady.{steady-guarded}
 use Rattle.formula_builder.specs.declared.Words.{Words}
 use Rattle.formula_builder.specs.declared.Frame.{Frame}
 use Rattle.formula_builder.specs.declared.Size.{Size}
 use Rattle.formula_builder.specs.declared.Step.{Step}
 use Rattle.formula_builder.specs.Inner.Held.{Store, row_of, held, size_of, stepped, side}
-use Rattle.formula_builder.proofs.Steps.{builds-done, falsity-small}
-use Rattle.images.specs.Inner.Images.{tree, becoming, image-at, Images, Asks as AsksImage}
-use Rattle.images.proofs.Memos.{steady-becoming, steady-image-at}
+use Rattle.formula_builder.proofs.Steps.{builds-done, falsity_small}
+use Rattle.images.specs.Inner.Images.{tree, becoming, image_at, Images, Asks as AsksImage}
+use Rattle.images.proofs.Memos.{steady_becoming, steady_image_at}
 use Rattle.atom_sets.specs.Inner.Sets.{lacks, InSet}
 use Rattle.conditions.specs.declared.Target.{Target}
-use Rattle.conditions.specs.Inner.Conditions.{atom-of, acts, atom-row, condition-at, AsksKept, Recalls, Asks, Conditions}
+use Rattle.conditions.specs.Inner.Conditions.{atom_of, acts, atom_row, condition_at, AsksKept, Recalls, Asks, Conditions}
 use Rattle.conditions.specs.Inner.Joins.{AsksJoin, Joined}
 use Rattle.conditions.proofs.Rows.{join-with-left, join-with-right, both-lower, under-lower, under-else, of-atom, of-both, of-under}
-use Rattle.conditions.proofs.Notes.{steady-condition-at, looks}
-use Rattle.conditions.proofs.Memos.{conditions-as, asks-next, conditions-of-images, conditions-leaf, conditions-bind, conditions-stop, conditions-known}
+use Rattle.conditions.proofs.Notes.{steady_condition_at, looks}
+use Rattle.conditions.proofs.Memos.{conditions-as, asks-next, conditions_of_images, conditions_leaf, conditions_bind, conditions_stop, conditions_known}
 use Rattle.conditions.proofs.Joins.{conditions-joined}
 
-truth-small : (p : Polarity) → image-of-true p < 2
-truth-small plain = omega arith
-truth-small negated = omega arith
+truth_small : (p : Polarity) → image_of_true p < 2
+truth_small plain = omega arith
+truth_small negated = omega arith
 
 -- false or true, on either side
-pub atom-small : (t : Target) (w : Row) → atom-row t w < 2
-unfolding atom-row
-atom-small t w = go (acts (atom-of t) _ w.a)
+pub atom_small : (t : Target) (w : Row) → atom_row t w < 2
+unfolding atom_row
+atom_small t w = go (acts (atom_of t) _ w.a)
   where
-    go : (b : Bool) → cond b (image-of-true (side t.negated)) (image-of-false (side t.negated)) < 2
-    go true = truth-small (side t.negated)
-    go false = falsity-small (side t.negated)
+    go : (b : Bool) → cond b (image_of_true (side t.negated)) (image_of_false (side t.negated)) < 2
+    go true = truth_small (side t.negated)
+    go false = falsity_small (side t.negated)
 
 -- a frame that is the same, as six numbers
-pub lacks-framed :
+pub lacks_framed :
     {f g : Frame} (notes : List ℕ) (clear : Bool) (v e : ℕ) {b : Bool} → f ≡ g → b ≡ lacks f notes clear v e → b ≡ lacks g notes clear v e
-lacks-framed notes clear v e p h = rw (← p) h
+lacks_framed notes clear v e p h = rw (← p) h
 
-side-not : (b : Bool) → opposite (side b) ≡ side (not b)
-side-not true = refl
-side-not false = refl
+side_not : (b : Bool) → opposite (side b) ≡ side (not b)
+side_not true = refl
+side_not false = refl
 
 -- what folds away in the join of "both"
-false-not : (b : Bool) → image-of-false (side b) ≡ image-of-true (side (not b))
-false-not true = refl
-false-not false = refl
+false_not : (b : Bool) → image_of_false (side b) ≡ image_of_true (side (not b))
+false_not true = refl
+false_not false = refl
 
 -- a row that stands is the answer, after a step
-answers-standing :
+answers_standing :
     {m : Build ℕ} {frame : Frame} {formulas effects notes : List ℕ} {at : Size} {before after : Store} {scratch : List ℕ} {r : Step}
     (v : ℕ) {full : Bool}
     → Conditions m frame formulas effects notes at before after scratch r
@@ -68,21 +68,21 @@ answers-standing :
     → Conditions (give v) frame formulas effects notes (size_of r) after after scratch
     (record { rows = r.rows; twins = r.twins; row = v; full = full })
 unfolding give
-answers-standing v x g f h =
-    conditions-leaf (steady-give v) (x.noted g) (x.memo g) (x.effect-memo g)
+answers_standing v x g f h =
+    conditions_leaf (steady_give v) (x.noted g) (x.memo g) (x.effect_memo g)
     (builds-done f (record { value = refl; state = refl; ready = (x.builds.done g).ready; below = h; grew = omega arith }))
 
 -- Row e, with what its condition asks.
 module _ {frame : Frame} {formulas effects notes : List ℕ} {t : Target} {at : Size} {before : Store} {scratch : List ℕ} {e : ℕ}
     (a : Asks frame formulas effects notes t at before scratch e) where
   pub kept-asks : AsksKept frame notes scratch t e
-  kept-asks = record { looks = looks a a.noted.columns; variable = a.variable; formulas = a.source.limit; memo = a.effect-source.memo }
+  kept-asks = record { looks = looks a a.noted.columns; variable = a.variable; formulas = a.source.limit; memo = a.effect_source.memo }
 
   pub in-set : InSet frame t.variable e
   in-set =
       record {
         variables = omega (arith, a.ready.variables);
-        limit = a.effect-source.limit;
+        limit = a.effect_source.limit;
         variable = a.variable;
         effect = a.effect;
       }
@@ -92,11 +92,11 @@ module _ {frame : Frame} {formulas effects notes : List ℕ} {t : Target} {at : 
   lower-asks i h =
       record {
         source = a.source;
-        effect-source = a.effect-source;
+        effect_source = a.effect_source;
         ready = a.ready;
         noted = a.noted;
         memo = a.memo;
-        effect-memo = a.effect-memo;
+        effect_memo = a.effect_memo;
         variable = a.variable;
         effect = omega (arith, a.effect, h);
       }
@@ -105,19 +105,19 @@ module _ {frame : Frame} {formulas effects notes : List ℕ} {t : Target} {at : 
       {w : ℕ}
       → Recalls frame notes scratch t e w
       → 0 < w
-      → Conditions (condition-at frame formulas effects t e) frame formulas effects notes at before before scratch
+      → Conditions (condition_at frame formulas effects t e) frame formulas effects notes at before before scratch
       (stepped at.rows at.twins (w - 1))
-  answers-known r h = conditions-known a (r.known formulas effects (held at before) a.noted a.effect-memo h)
+  answers-known r h = conditions_known a (r.known formulas effects (held at before) a.noted a.effect_memo h)
 
   -- a constant
   constant :
       (x : ℕ)
       → x < 2
-      → condition-at frame formulas effects t e ≡ give x
-      → Conditions (condition-at frame formulas effects t e) frame formulas effects notes at before before scratch (stepped at.rows at.twins x)
+      → condition_at frame formulas effects t e ≡ give x
+      → Conditions (condition_at frame formulas effects t e) frame formulas effects notes at before before scratch (stepped at.rows at.twins x)
   unfolding held give
   constant x h q =
-      conditions-known a
+      conditions_known a
       (record {
         again = ap (λ (m : Build ℕ). m (held at before)) q;
         below = rw (length-upto at.rows (row_at before.table)) (omega (arith, h, a.ready.two));
@@ -126,11 +126,11 @@ module _ {frame : Frame} {formulas effects notes : List ℕ} {t : Target} {at : 
   pub answers-lacking :
       {x : ℕ}
       → true ≡ lacks frame notes t.clear t.variable e
-      → x ≡ image-of-false (side t.negated)
-      → Conditions (condition-at frame formulas effects t e) frame formulas effects notes at before before scratch (stepped at.rows at.twins x)
+      → x ≡ image_of_false (side t.negated)
+      → Conditions (condition_at frame formulas effects t e) frame formulas effects notes at before before scratch (stepped at.rows at.twins x)
   answers-lacking h q =
       let idle = (a.noted.sets.alone formulas t.clear t.variable e a.variable a.effect (sym h)).idle t refl refl in
-      rw q (constant (image-of-false (side t.negated)) (falsity-small (side t.negated)) idle)
+      rw q (constant (image_of_false (side t.negated)) (falsity_small (side t.negated)) idle)
 
   -- by its words
   module _ (w : Words) (q : row_of w ≡ row_at effects e) where
@@ -140,12 +140,12 @@ module _ {frame : Frame} {formulas effects notes : List ℕ} {t : Target} {at : 
     pub answers-atom :
         {x : ℕ}
         → w.kind < 3
-        → x ≡ atom-row t (row_of w)
-        → Conditions (condition-at frame formulas effects t e) frame formulas effects notes at before before scratch (stepped at.rows at.twins x)
+        → x ≡ atom_row t (row_of w)
+        → Conditions (condition_at frame formulas effects t e) frame formulas effects notes at before before scratch (stepped at.rows at.twins x)
     answers-atom low h =
         rw (h, q)
-        (constant (atom-row t (row_at effects e)) (atom-small t (row_at effects e))
-        (of-atom frame formulas effects scratch a.effect-source e a.effect t (λ k. omega (arith, kind-read, low, k))
+        (constant (atom_row t (row_at effects e)) (atom_small t (row_at effects e))
+        (of-atom frame formulas effects scratch a.effect_source e a.effect t (λ k. omega (arith, kind-read, low, k))
         (λ k. omega (arith, kind-read, low, k))))
 
     pub composed : 3 ≤ w.kind → 3 ≤ (row_at effects e).kind
@@ -155,39 +155,39 @@ module _ {frame : Frame} {formulas effects notes : List ℕ} {t : Target} {at : 
     is-both k = sym kind-read ∙ k
 
     pub is-under : 3 ≤ (row_at effects e).kind → (w.kind ≡ 3 → ⊥) → (row_at effects e).kind ≡ 4
-    is-under c other = under-else frame formulas effects scratch a.effect-source e a.effect c (λ k. other (kind-read ∙ k))
+    is-under c other = under-else frame formulas effects scratch a.effect_source e a.effect c (λ k. other (kind-read ∙ k))
 
 -- Row e is both, with the words w.
 module _ {frame : Frame} {formulas effects notes : List ℕ} {t : Target} {at : Size} {before : Store} {scratch : List ℕ} {e : ℕ}
     (a : Asks frame formulas effects notes t at before scratch e) (three : (row_at effects e).kind ≡ 3) (w : Words) (q : row_of w ≡ row_at effects e)
   where
-    abbrev join-both : ℕ → ℕ → Build ℕ
-    join-both l r = join (side (not t.negated)) l r
+    abbrev join_both : ℕ → ℕ → Build ℕ
+    join_both l r = join (side (not t.negated)) l r
 
     abbrev right_of : ℕ → Build ℕ
-    right_of l = bind (condition-at frame formulas effects t w.b) (λ r. join-both l r)
+    right_of l = bind (condition_at frame formulas effects t w.b) (λ r. join_both l r)
 
     pub effects-lower : (w.a < e) × (w.b < e)
     effects-lower =
-        let l = both-lower frame formulas effects scratch a.effect-source e a.effect three in
+        let l = both-lower frame formulas effects scratch a.effect_source e a.effect three in
         (omega (arith, l.0, ap (λ (r : Row). r.a) q), omega (arith, l.1, ap (λ (r : Row). r.b) q))
 
     pub left-asks : Asks frame formulas effects notes t at before scratch w.a
     left-asks = lower-asks a w.a effects-lower.0
 
-    both-reads : condition-at frame formulas effects t e ≡ bind (condition-at frame formulas effects t w.a) (λ l. right_of l)
+    both-reads : condition_at frame formulas effects t e ≡ bind (condition_at frame formulas effects t w.a) (λ l. right_of l)
     unfolding pair
-    both-reads = rw (← (side-not t.negated), ap (λ (r : Row). r.a) q, ap (λ (r : Row). r.b) q) (of-both frame formulas effects scratch a.effect-source e a.effect t three)
+    both-reads = rw (← (side_not t.negated), ap (λ (r : Row). r.a) q, ap (λ (r : Row). r.b) q) (of-both frame formulas effects scratch a.effect_source e a.effect t three)
 
     -- the left effect's condition is built
     module _ {notes₁ : List ℕ} {mid : Store} {s1 : List ℕ} {l : Step}
-        (x : Conditions (condition-at frame formulas effects t w.a) frame formulas effects notes₁ at before mid s1 l) where
+        (x : Conditions (condition_at frame formulas effects t w.a) frame formulas effects notes₁ at before mid s1 l) where
       pub left-full :
-          l.full ≡ true → Conditions (condition-at frame formulas effects t e) frame formulas effects notes₁ at before mid s1 l
+          l.full ≡ true → Conditions (condition_at frame formulas effects t e) frame formulas effects notes₁ at before mid s1 l
       left-full g =
           conditions-as both-reads
-          (conditions-stop (λ l. right_of l)
-          (λ l. steady-bind (steady-condition-at frame formulas effects t w.b) (λ r. steady-join (side (not t.negated)) l r)) x g)
+          (conditions_stop (λ l. right_of l)
+          (λ l. steady_bind (steady_condition_at frame formulas effects t w.b) (λ r. steady_join (side (not t.negated)) l r)) x g)
 
       module _ (g : l.full ≡ false) where
         pub right-asks : length s1 ≡ length scratch → Asks frame formulas effects notes₁ t (size_of l) mid s1 w.b
@@ -195,41 +195,41 @@ module _ {frame : Frame} {formulas effects notes : List ℕ} {t : Target} {at : 
 
         -- and the right one's
         module _ {notes₂ : List ℕ} {after : Store} {s2 : List ℕ} {r : Step}
-            (y : Conditions (condition-at frame formulas effects t w.b) frame formulas effects notes₂ (size_of l) mid after s2 r) where
+            (y : Conditions (condition_at frame formulas effects t w.b) frame formulas effects notes₂ (size_of l) mid after s2 r) where
           pub right-full :
-              r.full ≡ true → Conditions (condition-at frame formulas effects t e) frame formulas effects notes₂ at before after s2 r
+              r.full ≡ true → Conditions (condition_at frame formulas effects t e) frame formulas effects notes₂ at before after s2 r
           right-full k =
               conditions-as both-reads
-              (conditions-bind (λ l. right_of l) x g
-              (conditions-stop (λ r. join-both l.row r) (λ r. steady-join (side (not t.negated)) l.row r) y k))
+              (conditions_bind (λ l. right_of l) x g
+              (conditions_stop (λ r. join_both l.row r) (λ r. steady_join (side (not t.negated)) l.row r) y k))
 
           module _ (k : r.full ≡ false) where
             -- the join gives the whole
             on_both :
                 {notes₃ : List ℕ} {last : Store} {s3 : List ℕ} {z : Step}
-                → Conditions (join-both l.row r.row) frame formulas effects notes₃ (size_of r) after last s3 z
-                → Conditions (condition-at frame formulas effects t e) frame formulas effects notes₃ at before last s3 z
-            on_both j = conditions-as both-reads (conditions-bind (λ l. right_of l) x g (conditions-bind (λ r. join-both l.row r) y k j))
+                → Conditions (join_both l.row r.row) frame formulas effects notes₃ (size_of r) after last s3 z
+                → Conditions (condition_at frame formulas effects t e) frame formulas effects notes₃ at before last s3 z
+            on_both j = conditions-as both-reads (conditions_bind (λ l. right_of l) x g (conditions_bind (λ r. join_both l.row r) y k j))
 
             left-stands : l.row < r.rows
             left-stands = omega (arith, (x.builds.done g).below, (y.builds.done k).grew)
 
             pub left_false :
-                l.row ≡ image-of-false (side t.negated)
-                → Conditions (condition-at frame formulas effects t e) frame formulas effects notes₂ at before after s2 r
+                l.row ≡ image_of_false (side t.negated)
+                → Conditions (condition_at frame formulas effects t e) frame formulas effects notes₂ at before after s2 r
             left_false h =
                 on_both
-                (conditions-as (rw (h, false-not t.negated) (join-with-left (side (not t.negated)) r.row))
-                (answers-standing r.row y k k (y.builds.done k).below))
+                (conditions-as (rw (h, false_not t.negated) (join-with-left (side (not t.negated)) r.row))
+                (answers_standing r.row y k k (y.builds.done k).below))
 
-            pub right-false :
-                r.row ≡ image-of-false (side t.negated)
-                → Conditions (condition-at frame formulas effects t e) frame formulas effects notes₂ at before after s2
+            pub right_false :
+                r.row ≡ image_of_false (side t.negated)
+                → Conditions (condition_at frame formulas effects t e) frame formulas effects notes₂ at before after s2
                 (record { rows = r.rows; twins = r.twins; row = l.row; full = l.full })
-            right-false h =
+            right_false h =
                 on_both
-                (conditions-as (rw (h, false-not t.negated) (join-with-right (side (not t.negated)) l.row))
-                (answers-standing l.row y k g left-stands))
+                (conditions-as (rw (h, false_not t.negated) (join-with-right (side (not t.negated)) l.row))
+                (answers_standing l.row y k g left-stands))
 
             pub both-join-asks : AsksJoin frame notes₂ e r.rows after.table l.row r.row
             both-join-asks =
@@ -246,12 +246,12 @@ module _ {frame : Frame} {formulas effects notes : List ℕ} {t : Target} {at : 
             pub both-done :
                 {notes₃ : List ℕ} {last : Store} {z : Step}
                 → Joined frame notes₂ notes₃ t e (not t.negated) (size_of r) l.row r.row after last z
-                → Conditions (condition-at frame formulas effects t e) frame formulas effects notes₃ at before last s2 z
+                → Conditions (condition_at frame formulas effects t e) frame formulas effects notes₃ at before last s2 z
             both-done j =
                 let flag : t.negated ≡ false → eqb (row_at effects e).kind 3 ≡ not t.negated =
                 λ p. eq-eqb (row_at effects e).kind 3 three ∙ ap (λ b. not b) (sym p) in
                 on_both
-                (conditions-joined (record { ready = (y.builds.done k).ready; noted = y.noted k; flag = flag }) (y.memo k) (y.effect-memo k) j)
+                (conditions-joined (record { ready = (y.builds.done k).ready; noted = y.noted k; flag = flag }) (y.memo k) (y.effect_memo k) j)
 
 -- Row e is a formula over an effect, with the words w.
 module _ {frame : Frame} {formulas effects notes : List ℕ} {t : Target} {at : Size} {before : Store} {scratch : List ℕ} {e : ℕ}
@@ -262,40 +262,40 @@ module _ {frame : Frame} {formulas effects notes : List ℕ} {t : Target} {at : 
 
     pub inner-lower : (w.a < frame.formulas) × (w.b < e)
     inner-lower =
-        let l = under-lower frame formulas effects scratch a.effect-source e a.effect four in
+        let l = under-lower frame formulas effects scratch a.effect_source e a.effect four in
         (omega (arith, l.0, ap (λ (r : Row). r.a) q), omega (arith, l.1, ap (λ (r : Row). r.b) q))
 
     pub inner-asks : Asks frame formulas effects notes t at before scratch w.b
     inner-asks = lower-asks a w.b inner-lower.1
 
-    under-reads : condition-at frame formulas effects t e ≡ bind (condition-at frame formulas effects t w.b) (λ c. over c)
-    under-reads = rw (ap (λ (r : Row). r.a) q, ap (λ (r : Row). r.b) q) (of-under frame formulas effects scratch a.effect-source e a.effect t four)
+    under-reads : condition_at frame formulas effects t e ≡ bind (condition_at frame formulas effects t w.b) (λ c. over c)
+    under-reads = rw (ap (λ (r : Row). r.a) q, ap (λ (r : Row). r.b) q) (of-under frame formulas effects scratch a.effect_source e a.effect t four)
 
     -- the inner effect's condition is built
     module _ {notes₁ : List ℕ} {mid : Store} {s1 : List ℕ} {s : Step}
-        (x : Conditions (condition-at frame formulas effects t w.b) frame formulas effects notes₁ at before mid s1 s) where
+        (x : Conditions (condition_at frame formulas effects t w.b) frame formulas effects notes₁ at before mid s1 s) where
       pub inner-full :
-          s.full ≡ true → Conditions (condition-at frame formulas effects t e) frame formulas effects notes₁ at before mid s1 s
+          s.full ≡ true → Conditions (condition_at frame formulas effects t e) frame formulas effects notes₁ at before mid s1 s
       inner-full g =
           conditions-as under-reads
-          (conditions-stop (λ c. over c) (λ c. steady-guarded (becoming frame) (steady-becoming frame) (side t.negated) (tree frame formulas w.a) c) x g)
+          (conditions_stop (λ c. over c) (λ c. steady-guarded (becoming frame) (steady_becoming frame) (side t.negated) (tree frame formulas w.a) c) x g)
 
       module _ (g : s.full ≡ false) where
         -- what is left gives the whole
         on :
             {notes₂ : List ℕ} {last : Store} {s2 : List ℕ} {z : Step}
             → Conditions (over s.row) frame formulas effects notes₂ (size_of s) mid last s2 z
-            → Conditions (condition-at frame formulas effects t e) frame formulas effects notes₂ at before last s2 z
-        on y = conditions-as under-reads (conditions-bind (λ c. over c) x g y)
+            → Conditions (condition_at frame formulas effects t e) frame formulas effects notes₂ at before last s2 z
+        on y = conditions-as under-reads (conditions_bind (λ c. over c) x g y)
 
         pub inner-false :
-            s.row ≡ image-of-false (side t.negated)
-            → Conditions (condition-at frame formulas effects t e) frame formulas effects notes₁ at before mid s1 s
+            s.row ≡ image_of_false (side t.negated)
+            → Conditions (condition_at frame formulas effects t e) frame formulas effects notes₁ at before mid s1 s
         unfolding guarded give
         inner-false h =
             on
-            (conditions-as (rw (eq-eqb s.row (image-of-false (side t.negated)) h))
-            (answers-standing s.row x g g (x.builds.done g).below))
+            (conditions-as (rw (eq-eqb s.row (image_of_false (side t.negated)) h))
+            (answers_standing s.row x g g (x.builds.done g).below))
 
         pub image-asks : length s1 ≡ length scratch → AsksImage frame formulas (size_of s) mid s1 w.a
         image-asks long =
@@ -303,21 +303,21 @@ module _ {frame : Frame} {formulas effects notes : List ℕ} {t : Target} {at : 
             record { source = n.source; ready = n.ready; memo = n.memo; formula = inner-lower.0 }
 
         -- it is not false, and the formula's image is built
-        module _ (h : s.row ≡ image-of-false (side t.negated) → ⊥) {after : Store} {s2 : List ℕ} {f : Step}
-            (y : Images (image-at frame formulas (side t.negated) w.a) frame formulas (size_of s) mid after s1 s2 f) where
-          joins : over s.row ≡ bind (image-at frame formulas (side t.negated) w.a) (λ z. join (side t.negated) z s.row)
-          unfolding guarded image-at
-          joins = rw (ne_eqb s.row (image-of-false (side t.negated)) h)
+        module _ (h : s.row ≡ image_of_false (side t.negated) → ⊥) {after : Store} {s2 : List ℕ} {f : Step}
+            (y : Images (image_at frame formulas (side t.negated) w.a) frame formulas (size_of s) mid after s1 s2 f) where
+          joins : over s.row ≡ bind (image_at frame formulas (side t.negated) w.a) (λ z. join (side t.negated) z s.row)
+          unfolding guarded image_at
+          joins = rw (ne_eqb s.row (image_of_false (side t.negated)) h)
 
-          image : Conditions (image-at frame formulas (side t.negated) w.a) frame formulas effects notes₁ (size_of s) mid after s2 f
-          image = conditions-of-images (steady-image-at frame formulas (side t.negated) w.a) (x.noted g) (x.effect-memo g) y
+          image : Conditions (image_at frame formulas (side t.negated) w.a) frame formulas effects notes₁ (size_of s) mid after s2 f
+          image = conditions_of_images (steady_image_at frame formulas (side t.negated) w.a) (x.noted g) (x.effect_memo g) y
 
           pub image-full :
-              f.full ≡ true → Conditions (condition-at frame formulas effects t e) frame formulas effects notes₁ at before after s2 f
+              f.full ≡ true → Conditions (condition_at frame formulas effects t e) frame formulas effects notes₁ at before after s2 f
           image-full k =
               on
               (conditions-as joins
-              (conditions-stop (λ z. join (side t.negated) z s.row) (λ z. steady-join (side t.negated) z s.row) image k))
+              (conditions_stop (λ z. join (side t.negated) z s.row) (λ z. steady_join (side t.negated) z s.row) image k))
 
           module _ (k : f.full ≡ false) where
             pub under-join-asks : AsksJoin frame notes₁ e f.rows after.table f.row s.row
@@ -335,12 +335,12 @@ module _ {frame : Frame} {formulas effects notes : List ℕ} {t : Target} {at : 
             pub under-done :
                 {notes₂ : List ℕ} {last : Store} {z : Step}
                 → Joined frame notes₁ notes₂ t e t.negated (size_of f) f.row s.row after last z
-                → Conditions (condition-at frame formulas effects t e) frame formulas effects notes₂ at before last s2 z
+                → Conditions (condition_at frame formulas effects t e) frame formulas effects notes₂ at before last s2 z
             under-done j =
                 let flag : t.negated ≡ false → eqb (row_at effects e).kind 3 ≡ t.negated =
                 λ p. ne_eqb (row_at effects e).kind 3 (λ z. omega (arith, z, four)) ∙ sym p in
                 on
                 (conditions-as joins
-                (conditions-bind (λ z. join (side t.negated) z s.row) image k
+                (conditions_bind (λ z. join (side t.negated) z s.row) image k
                 (conditions-joined (record { ready = (y.builds.done k).ready; noted = image.noted k; flag = flag }) (image.memo k)
-                (image.effect-memo k) j)))
+                (image.effect_memo k) j)))

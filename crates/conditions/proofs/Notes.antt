@@ -14,70 +14,70 @@ use borrow.Author.Tests.{le-leb, lt-leb}
 use Rattle.task.specs.Table.{row_at}
 use Rattle.normal_form.specs.Builder.{St, Build}
 use Rattle.normal_form.specs.Growth.{Grows, Steady}
-use Rattle.normal_form.proofs.Growth.{steady-join}
+use Rattle.normal_form.proofs.Growth.{steady_join}
 use Rattle.normal_form.proofs.Steady.{steady-condition}
 use Rattle.formula_builder.specs.declared.Frame.{Frame}
 use Rattle.formula_builder.specs.declared.Size.{Size}
 use Rattle.formula_builder.specs.declared.Step.{Step}
 use Rattle.formula_builder.specs.Inner.Held.{Store, side, Builds}
 use Rattle.images.specs.Inner.Images.{becoming, Known}
-use Rattle.images.proofs.Memos.{steady-becoming, known-grows}
+use Rattle.images.proofs.Memos.{steady_becoming, known_grows}
 use Rattle.atom_sets.specs.Inner.Sets.{sets_end}
-use Rattle.atom_sets.proofs.Places.{sets_behind, lacks-same}
+use Rattle.atom_sets.proofs.Places.{sets_behind, lacks_same}
 use Rattle.conditions.specs.declared.Target.{Target}
-use Rattle.conditions.specs.Inner.Conditions.{atom-of, effect-tree, condition-at, AtomSets, column, part, width, kept-place, Columns, Kept, join-place, Joins, Noted, Looks, KeptAt, RecallsNoted, KeepsNoted, Asks}
+use Rattle.conditions.specs.Inner.Conditions.{atom_of, effect_tree, condition_at, AtomSets, column, part, width, kept_place, Columns, Kept, join_place, Joins, Noted, Looks, KeptAt, RecallsNoted, KeepsNoted, Asks}
 
-pub steady-condition-at :
-    (frame : Frame) (formulas effects : List ℕ) (t : Target) (e : ℕ) → Steady (condition-at frame formulas effects t e)
-unfolding condition-at
-steady-condition-at frame formulas effects t e =
-    steady-condition (becoming frame) (steady-becoming frame) (side t.negated) (atom-of t) (effect-tree frame formulas effects e)
+pub steady_condition_at :
+    (frame : Frame) (formulas effects : List ℕ) (t : Target) (e : ℕ) → Steady (condition_at frame formulas effects t e)
+unfolding condition_at
+steady_condition_at frame formulas effects t e =
+    steady-condition (becoming frame) (steady_becoming frame) (side t.negated) (atom_of t) (effect_tree frame formulas effects e)
 
-pub noted-grows :
+pub noted_grows :
     {frame : Frame} {formulas effects notes : List ℕ} {s s' : St}
     → Grows s s'
     → Noted frame formulas effects notes s
     → Noted frame formulas effects notes s'
-noted-grows {frame} {formulas} {effects} {notes} g n =
+noted_grows {frame} {formulas} {effects} {notes} g n =
     record {
       sets = n.sets;
       columns = n.columns;
       kept =
           record {
-            known = λ t e r h v p c i w. known-grows (steady-condition-at frame formulas effects t e) g (n.kept.known t e r h v p c i w);
+            known = λ t e r h v p c i w. known_grows (steady_condition_at frame formulas effects t e) g (n.kept.known t e r h v p c i w);
           };
       joins =
           record {
             known = λ e r h w.
-                known-grows
-                (steady-join (side (eqb (row_at effects e).kind 3)) (get_or notes (join-place frame e) 0) (get_or notes (join-place frame e + 1) 0))
+                known_grows
+                (steady_join (side (eqb (row_at effects e).kind 3)) (get_or notes (join_place frame e) 0) (get_or notes (join_place frame e + 1) 0))
                 g (n.joins.known e r h w);
           };
     }
 
 -- the sets stay right while their words stay
-pub sets-stay :
+pub sets_stay :
     {frame : Frame} {effects notes notes' : List ℕ}
     → length notes' ≡ length notes
     → ((j : ℕ) → 4 * frame.effects ≤ j → j < sets_end frame → get_or notes' j 0 ≡ get_or notes j 0)
     → AtomSets frame effects notes
     → AtomSets frame effects notes'
-sets-stay {frame} {effects} {notes} {notes'} long same x =
+sets_stay {frame} {effects} {notes} {notes'} long same x =
     record {
       words = omega (arith, long, x.words);
       alone = λ formulas clear v e h g q.
-          x.alone formulas clear v e h g (sym (lacks-same frame notes notes' clear v e h g same) ∙ q);
+          x.alone formulas clear v e h g (sym (lacks_same frame notes notes' clear v e h g same) ∙ q);
     }
 
 -- the columns stay while their words stay
-pub columns-stay :
+pub columns_stay :
     {frame : Frame} {notes notes' : List ℕ}
     → length notes' ≡ length notes
     → ((d : ℕ) → d < frame.effects → get_or notes' d 0 ≡ get_or notes d 0)
     → Columns frame notes
     → Columns frame notes'
 unfolding column
-columns-stay long same x =
+columns_stay long same x =
     record {
       words = rw long x.words;
       apart = λ d e g h c q. x.apart d e g h (rw (same e h) at c) (sym (same d g) ∙ q ∙ same e h);
@@ -86,12 +86,12 @@ columns-stay long same x =
 behind : (a b : ℕ) → a ≤ a + b
 behind a b = omega arith
 
-place-behind : (frame : Frame) (c : ℕ) (t : Target) → sets_end frame ≤ kept-place frame c t
-unfolding kept-place
-place-behind frame c t = behind (sets_end frame) (c * (width frame.variables * frame.variables) + (width frame.variables * t.variable + part t))
+place_behind : (frame : Frame) (c : ℕ) (t : Target) → sets_end frame ≤ kept_place frame c t
+unfolding kept_place
+place_behind frame c t = behind (sets_end frame) (c * (width frame.variables * frame.variables) + (width frame.variables * t.variable + part t))
 
 -- the conditions that are kept stay right while their words and the columns stay
-pub kept-stay :
+pub kept_stay :
     {frame : Frame} {formulas effects notes notes' : List ℕ} {s : St}
     → length notes' ≡ length notes
     → ((d : ℕ) → d < frame.effects → get_or notes' d 0 ≡ get_or notes d 0)
@@ -99,38 +99,38 @@ pub kept-stay :
     → Kept frame formulas effects notes s
     → Kept frame formulas effects notes' s
 unfolding column
-kept-stay {frame} {notes = notes} {notes' = notes'} long low same x =
+kept_stay {frame} {notes = notes} {notes' = notes'} long low same x =
     record {
       known = λ t e r h v p c i w.
-          let k = kept-place frame (column notes e) t in
+          let k = kept_place frame (column notes e) t in
           let within : k < length notes = rw (low e h, long) at i in
           let there : get_or notes' k 0 ≡ r + 1 = rw (low e h) at w in
-          x.known t e r h v p (rw (low e h) at c) within (sym (same k (place-behind frame (column notes e) t)) ∙ there);
+          x.known t e r h v p (rw (low e h) at c) within (sym (same k (place_behind frame (column notes e) t)) ∙ there);
     }
 
 -- the last joins stay right while their words stay
-pub joins-stay :
+pub joins_stay :
     {frame : Frame} {effects notes notes' : List ℕ} {s : St}
     → ((j : ℕ) → frame.effects ≤ j → j < 4 * frame.effects → get_or notes' j 0 ≡ get_or notes j 0)
     → Joins frame effects notes s
     → Joins frame effects notes' s
-joins-stay {frame} same x =
+joins_stay {frame} same x =
     record {
       known = λ e r h w.
-          let k = join-place frame e in
+          let k = join_place frame e in
           rw (same k (omega arith) (omega arith), same (k + 1) (omega arith) (omega arith))
           (x.known e r h (sym (same (k + 2) (omega arith) (omega arith)) ∙ w));
     }
 
 -- nothing is kept
-pub noted-blank :
+pub noted_blank :
     {frame : Frame} {effects notes : List ℕ} (formulas : List ℕ) (s : St)
     → AtomSets frame effects notes
     → Columns frame notes
     → ((j : ℕ) → frame.effects ≤ j → j < 4 * frame.effects → get_or notes j 0 ≡ 0)
     → ((j : ℕ) → sets_end frame ≤ j → get_or notes j 0 ≡ 0)
     → Noted frame formulas effects notes s
-noted-blank {frame} {effects} {notes} formulas s sets columns free blank =
+noted_blank {frame} {effects} {notes} formulas s sets columns free blank =
     record {
       sets = sets;
       columns = columns;
@@ -139,12 +139,12 @@ noted-blank {frame} {effects} {notes} formulas s sets columns free blank =
             known = λ t e r h v p c i w.
                 absurd
                 (impossible r
-                (sym (blank (kept-place frame (column notes e) t) (place-behind frame (column notes e) t)) ∙ w));
+                (sym (blank (kept_place frame (column notes e) t) (place_behind frame (column notes e) t)) ∙ w));
           };
       joins =
           record {
             known = λ e r h w.
-                absurd (impossible r (sym (free (join-place frame e + 2) (omega arith) (omega arith)) ∙ w));
+                absurd (impossible r (sym (free (join_place frame e + 2) (omega arith) (omega arith)) ∙ w));
           };
     }
   where
@@ -160,7 +160,7 @@ pub looks :
 looks a columns =
     record {
       words = columns.words;
-      limit = a.effect-source.limit;
+      limit = a.effect_source.limit;
       variables = omega (arith, a.ready.variables);
       effect = a.effect;
     }
@@ -179,25 +179,25 @@ small_row b q =
 pub word_small : (n v : ℕ) → n ≤ 3 → v ≤ 512 → n * v ≤ 1536
 word_small n v k g = mul-le-mul {n₂ = 3} {m₂ = 512} k g
 
-pub place-small : (c n v : ℕ) → c < 65536 → n ≤ 3 → v ≤ 512 → c * (n * v) ≤ 100661760
-place-small c n v h k g = mul-le-mul {n₂ = 65535} {m₂ = 1536} (omega arith) (word_small n v k g)
+pub place_small : (c n v : ℕ) → c < 65536 → n ≤ 3 → v ≤ 512 → c * (n * v) ≤ 100661760
+place_small c n v h k g = mul-le-mul {n₂ = 65535} {m₂ = 1536} (omega arith) (word_small n v k g)
 
 pub byte_small : (b : Bool) → bool_byte b ≤ 1
 byte_small true = omega arith
 byte_small false = omega arith
 
-pub byte-is : (b : Bool) → bool_byte b ≡ cond b 1 0
-byte-is true = refl
-byte-is false = refl
+pub byte_is : (b : Bool) → bool_byte b ≡ cond b 1 0
+byte_is true = refl
+byte_is false = refl
 
 -- the code's sum is the part
-pub part-made : (t : Target) → (bool_byte t.clear + 2 * bool_byte t.negated ≡ part t) × (bool_byte t.clear + 2 * bool_byte t.negated ≤ 3)
+pub part_made : (t : Target) → (bool_byte t.clear + 2 * bool_byte t.negated ≡ part t) × (bool_byte t.clear + 2 * bool_byte t.negated ≤ 3)
 unfolding part
-part-made t =
-    (rw (byte-is t.clear, byte-is t.negated) refl, omega (arith, byte_small t.clear, byte_small t.negated))
+part_made t =
+    (rw (byte_is t.clear, byte_is t.negated) refl, omega (arith, byte_small t.clear, byte_small t.negated))
 
 -- the code's sum is the place
-pub place-sum :
+pub place_sum :
     (frame whole : Frame) (t : Target) (c k p : ℕ)
     → whole ≡ frame
     → k ≡ sets_end whole
@@ -206,7 +206,7 @@ pub place-sum :
     → n ≡ width frame.variables
     → k + (c * (n * frame.variables) + (n * t.variable + p))
     ≡ sets_end frame + (c * (width frame.variables * frame.variables) + (width frame.variables * t.variable + part t))
-place-sum frame whole t c k p f s q w = rw (s, q, w, f) refl
+place_sum frame whole t c k p f s q w = rw (s, q, w, f) refl
 
 pub place_found :
     (frame : Frame) (notes : List ℕ) (t : Target) (e k : ℕ)
@@ -216,9 +216,9 @@ pub place_found :
     → k ≡ sets_end frame + (get_or notes e 0 * (width frame.variables * frame.variables) + (width frame.variables * t.variable + part t))
     → k < length notes
     → KeptAt frame notes t e k
-unfolding column kept-place
+unfolding column kept_place
 place_found frame notes t e k c p v q w =
-    record { one = p; variable = v; has-column = omega (arith, c); place = q; within = w }
+    record { one = p; variable = v; has_column = omega (arith, c); place = q; within = w }
 
 pub place_none : (frame : Frame) (notes : List ℕ) (t : Target) (e : ℕ) → 0 < 0 → KeptAt frame notes t e 0
 place_none frame notes t e h = absurd (omega (arith, h))
@@ -238,8 +238,8 @@ atoms v w false false q = (omega arith, refl)
 atoms v w true false q = absurd (omega (arith, q))
 atoms v w false true q = absurd (omega (arith, q))
 
-part-within : (m n v p : ℕ) → v < n → p < m → m * v + p < m * n
-part-within m n v p h g = go (m * v) (m * n) (mul-le-mul {n₂ = m} {m₂ = n} (omega arith) h)
+part_within : (m n v p : ℕ) → v < n → p < m → m * v + p < m * n
+part_within m n v p h g = go (m * v) (m * n) (mul-le-mul {n₂ = m} {m₂ = n} (omega arith) h)
   where
     go : (x y : ℕ) → m * suc v ≤ y → m * v + p < y
     go x y k = omega (arith, k, mul-suc m v)
@@ -254,9 +254,9 @@ unfolding width
 width_two v h = (rw (lt-leb v 256 h) refl, omega arith, omega arith)
 
 -- a part tells the target's two flags
-part-flags : (t u : Target) → part t ≡ part u → (t.clear ≡ u.clear) × (t.negated ≡ u.negated)
+part_flags : (t u : Target) → part t ≡ part u → (t.clear ≡ u.clear) × (t.negated ≡ u.negated)
 unfolding part
-part-flags t u q =
+part_flags t u q =
     let x = atoms (cond t.negated 1 0) (cond u.negated 1 0) t.clear u.clear (omega (arith, q)) in
     (x.1, flag t.negated u.negated x.0)
   where
@@ -270,41 +270,41 @@ cancel : (a b c : ℕ) → a + b ≡ a + c → b ≡ c
 cancel a b c q = omega (arith, q)
 
 -- One word is kept for one column and one target.
-places-apart :
+places_apart :
     (frame : Frame) (c d : ℕ) (t u : Target)
     → t.variable < frame.variables
     → u.variable < frame.variables
     → part t < width frame.variables
     → part u < width frame.variables
-    → kept-place frame c t ≡ kept-place frame d u
+    → kept_place frame c t ≡ kept_place frame d u
     → (c ≡ d) × (t.variable ≡ u.variable) × (t.clear ≡ u.clear) × (t.negated ≡ u.negated)
-unfolding kept-place
-places-apart frame c d t u g h m n q =
+unfolding kept_place
+places_apart frame c d t u g h m n q =
     let w = width frame.variables in
     let x =
     quotients (w * frame.variables) c d (w * t.variable + part t) (w * u.variable + part u)
-    (part-within w frame.variables t.variable (part t) g m) (part-within w frame.variables u.variable (part u) h n)
+    (part_within w frame.variables t.variable (part t) g m) (part_within w frame.variables u.variable (part u) h n)
     (cancel (sets_end frame) _ _ q) in
     let y =
     quotients w t.variable u.variable (part t) (part u) m n
     (ap₂ ◌+◌ (mul_comm t.variable w) refl ∙ x.1 ∙ ap₂ ◌+◌ (mul_comm w u.variable) refl) in
-    let z = part-flags t u y.1 in
+    let z = part_flags t u y.1 in
     (x.0, y.0, z.0, z.1)
 
-pub same-condition :
+pub same_condition :
     (frame : Frame) (formulas effects : List ℕ) (t u : Target) (d e : ℕ)
     → t.negated ≡ u.negated
     → t.variable ≡ u.variable
     → t.clear ≡ u.clear
     → d ≡ e
-    → condition-at frame formulas effects t d ≡ condition-at frame formulas effects u e
-unfolding condition-at
-same-condition frame formulas effects t u d e n v c q = rw (n, v, c, q)
+    → condition_at frame formulas effects t d ≡ condition_at frame formulas effects u e
+unfolding condition_at
+same_condition frame formulas effects t u d e n v c q = rw (n, v, c, q)
 
 -- The word of target t and row e.
 module _ {frame : Frame} {notes : List ℕ} {t : Target} {e k : ℕ} (h : e < frame.effects) (p : KeptAt frame notes t e k) where
   beyond : sets_end frame ≤ k
-  beyond = rw p.place (place-behind frame (column notes e) t)
+  beyond = rw p.place (place_behind frame (column notes e) t)
 
   -- no set and no column is that word
   earlier : (x j : ℕ) → j < sets_end frame → get_or (set notes k x) j 0 ≡ get_or notes j 0
@@ -314,7 +314,7 @@ module _ {frame : Frame} {notes : List ℕ} {t : Target} {e k : ℕ} (h : e < fr
   unfolding column
   same-column x d g = earlier x d (omega (arith, sets_behind frame))
 
-  module _ (formulas effects : List ℕ) (s : St) (r : ℕ) (now : Known (condition-at frame formulas effects t e) s r)
+  module _ (formulas effects : List ℕ) (s : St) (r : ℕ) (now : Known (condition_at frame formulas effects t e) s r)
       (n : Noted frame formulas effects notes s) where
     -- what is read from a word of the notes with r
     read_back :
@@ -323,41 +323,41 @@ module _ {frame : Frame} {notes : List ℕ} {t : Target} {e k : ℕ} (h : e < fr
         → u.variable < frame.variables
         → part u < width frame.variables
         → 0 < column notes d
-        → kept-place frame (column notes d) u < length notes
-        → Dec (kept-place frame (column notes d) u ≡ k)
-        → get_or (set notes k (r + 1)) (kept-place frame (column notes d) u) 0 ≡ x + 1
-        → Known (condition-at frame formulas effects u d) s x
+        → kept_place frame (column notes d) u < length notes
+        → Dec (kept_place frame (column notes d) u ≡ k)
+        → get_or (set notes k (r + 1)) (kept_place frame (column notes d) u) 0 ≡ x + 1
+        → Known (condition_at frame formulas effects u d) s x
     read_back u d x g v m c i (no other) w =
         n.kept.known u d x g v m c i
-        (sym (get_or-set_other notes k (kept-place frame (column notes d) u) (r + 1) 0 other) ∙ w)
+        (sym (get_or-set_other notes k (kept_place frame (column notes d) u) (r + 1) 0 other) ∙ w)
     read_back u d x g v m c i (yes same) w =
-        let z = places-apart frame (column notes d) (column notes e) u t v p.variable m p.one (same ∙ p.place) in
-        let row : d ≡ e = n.columns.apart d e g h p.has-column z.0 in
-        let there : get_or (set notes k (r + 1)) (kept-place frame (column notes d) u) 0 ≡ r + 1 =
+        let z = places_apart frame (column notes d) (column notes e) u t v p.variable m p.one (same ∙ p.place) in
+        let row : d ≡ e = n.columns.apart d e g h p.has_column z.0 in
+        let there : get_or (set notes k (r + 1)) (kept_place frame (column notes d) u) 0 ≡ r + 1 =
         rw same (get_or-set_same notes k (r + 1) 0 (omega (arith, p.within))) in
         let value : x ≡ r = omega (arith, there, w) in
-        rw (same-condition frame formulas effects u t d e z.3 z.1 z.2 row, value) now
+        rw (same_condition frame formulas effects u t d e z.3 z.1 z.2 row, value) now
 
     kept-noted : Noted frame formulas effects (set notes k (r + 1)) s
     kept-noted =
         record {
-          sets = sets-stay (length-set notes k (r + 1)) (λ j g h. earlier (r + 1) j h) n.sets;
-          columns = columns-stay (length-set notes k (r + 1)) (λ d g. earlier (r + 1) d (omega (arith, sets_behind frame))) n.columns;
+          sets = sets_stay (length-set notes k (r + 1)) (λ j g h. earlier (r + 1) j h) n.sets;
+          columns = columns_stay (length-set notes k (r + 1)) (λ d g. earlier (r + 1) d (omega (arith, sets_behind frame))) n.columns;
           kept =
               record {
                 known = λ u d x g v m c i w.
                     let same = same-column (r + 1) d g in
-                    read_back u d x g v m (rw same at c) (rw (same, length-set notes k (r + 1)) at i) (ℕ_discrete (kept-place frame (column notes d) u) k)
+                    read_back u d x g v m (rw same at c) (rw (same, length-set notes k (r + 1)) at i) (ℕ_discrete (kept_place frame (column notes d) u) k)
                     (rw same at w);
               };
-          joins = joins-stay (λ j g h. earlier (r + 1) j (omega (arith, sets_behind frame))) n.joins;
+          joins = joins_stay (λ j g h. earlier (r + 1) j (omega (arith, sets_behind frame))) n.joins;
         }
 
   pub recall-kept : RecallsNoted frame notes t e (get_or notes k 0)
   recall-kept =
       record {
         known = λ formulas effects s n w.
-            n.kept.known t e (get_or notes k 0 - 1) h p.variable p.one p.has-column
+            n.kept.known t e (get_or notes k 0 - 1) h p.variable p.one p.has_column
             (rw p.place at p.within)
             (ap (λ j. get_or notes j 0) (sym p.place) ∙ omega (arith, w));
       }

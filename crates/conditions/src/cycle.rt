@@ -2,7 +2,7 @@
 ghost use Rattle.std.specs.Prelude.{◌≡◌, ◌≤◌};
 ghost use Rattle.task.specs.Table.{row_at};
 ghost use Rattle.formula_builder.specs.Inner.Held.{store, sized, stepped, framed};
-ghost use Rattle.conditions.specs.Inner.Conditions.{Asks, Conditions, condition-at};
+ghost use Rattle.conditions.specs.Inner.Conditions.{Asks, Conditions, condition_at};
 
 use crate::Target;
 use crate::atom::atom;
@@ -29,7 +29,7 @@ pub fn condition(
     scratch: &mut [u16],
 ) -> u16
     requires { Asks (framed frame.now) formulas.now effects.now notes.old t (sized rows.old twins.old) (store table.old originals.old) scratch.old e }
-    ensures { Conditions (condition-at (framed frame.now) formulas.now effects.now t e) (framed frame.now) formulas.now effects.now notes.new (sized rows.old twins.old) (store table.old originals.old) (store table.new originals.new) scratch.new (stepped rows.new twins.new result) }
+    ensures { Conditions (condition_at (framed frame.now) formulas.now effects.now t e) (framed frame.now) formulas.now effects.now notes.new (sized rows.old twins.old) (store table.old originals.old) (store table.new originals.new) scratch.new (stepped rows.new twins.new result) }
 {
     let known = recall(notes, scratch, frame, t, e);
     if 0 < known {
@@ -65,7 +65,7 @@ fn built(
     scratch: &mut [u16],
 ) -> u16
     requires { Asks (framed frame.now) formulas.now effects.now notes.old t (sized rows.old twins.old) (store table.old originals.old) scratch.old e × (3 ≤ (row_at effects.now e).kind) }
-    ensures { Conditions (condition-at (framed frame.now) formulas.now effects.now t e) (framed frame.now) formulas.now effects.now notes.new (sized rows.old twins.old) (store table.old originals.old) (store table.new originals.new) scratch.new (stepped rows.new twins.new result) }
+    ensures { Conditions (condition_at (framed frame.now) formulas.now effects.now t e) (framed frame.now) formulas.now effects.now notes.new (sized rows.old twins.old) (store table.old originals.old) (store table.new originals.new) scratch.new (stepped rows.new twins.new result) }
 {
     let w = read_row(effects, e);
     if w.kind == 3 {
@@ -94,7 +94,7 @@ fn both(
     scratch: &mut [u16],
 ) -> u16
     requires { Asks (framed frame.now) formulas.now effects.now notes.old t (sized rows.old twins.old) (store table.old originals.old) scratch.old e × ((row_at effects.now e).kind ≡ 3) }
-    ensures { Conditions (condition-at (framed frame.now) formulas.now effects.now t e) (framed frame.now) formulas.now effects.now notes.new (sized rows.old twins.old) (store table.old originals.old) (store table.new originals.new) scratch.new (stepped rows.new twins.new result) }
+    ensures { Conditions (condition_at (framed frame.now) formulas.now effects.now t e) (framed frame.now) formulas.now effects.now notes.new (sized rows.old twins.old) (store table.old originals.old) (store table.new originals.new) scratch.new (stepped rows.new twins.new result) }
 {
     let w = read_row(effects, e);
     let l = condition_if(
@@ -155,7 +155,7 @@ pub fn condition_if(
     scratch: &mut [u16],
 ) -> u16
     requires { Asks (framed frame.now) formulas.now effects.now notes.old t (sized rows.old twins.old) (store table.old originals.old) scratch.old e }
-    ensures { Conditions (condition-at (framed frame.now) formulas.now effects.now t e) (framed frame.now) formulas.now effects.now notes.new (sized rows.old twins.old) (store table.old originals.old) (store table.new originals.new) scratch.new (stepped rows.new twins.new result) }
+    ensures { Conditions (condition_at (framed frame.now) formulas.now effects.now t e) (framed frame.now) formulas.now effects.now notes.new (sized rows.old twins.old) (store table.old originals.old) (store table.new originals.new) scratch.new (stepped rows.new twins.new result) }
 {
     if lacks(notes, frame_of(frame), t.clear, t.variable as usize, e) {
         return falsity(t.negated);
@@ -181,7 +181,7 @@ fn under(
     scratch: &mut [u16],
 ) -> u16
     requires { Asks (framed frame.now) formulas.now effects.now notes.old t (sized rows.old twins.old) (store table.old originals.old) scratch.old e × ((row_at effects.now e).kind ≡ 4) }
-    ensures { Conditions (condition-at (framed frame.now) formulas.now effects.now t e) (framed frame.now) formulas.now effects.now notes.new (sized rows.old twins.old) (store table.old originals.old) (store table.new originals.new) scratch.new (stepped rows.new twins.new result) }
+    ensures { Conditions (condition_at (framed frame.now) formulas.now effects.now t e) (framed frame.now) formulas.now effects.now notes.new (sized rows.old twins.old) (store table.old originals.old) (store table.new originals.new) scratch.new (stepped rows.new twins.new result) }
 {
     let w = read_row(effects, e);
     let s = condition(

@@ -3,6 +3,8 @@
 // is the row that was built for effect e, plus 1, and word 2F + E + e is the tag of the target for which it was. The notes: word e is the column
 // of effect e, the three words from E + 3e on are its last join, behind those stand the sets of atoms, and behind these each column above 0 keeps
 // conditions of its row, three words for each variable, or two.
+#![tactic(auto)]
+
 mod atom;
 mod cycle;
 mod joined;
@@ -14,7 +16,7 @@ pub use kept::width_of;
 
 // The atom whose condition is built, "set" or "clear" of a variable; negated, the condition's dual. With the number first it has four bytes, and one
 // access copies it.
-#[derive(Drop)]
+#[derive(Clone, Copy)]
 pub struct Target {
     pub variable: u16,
     pub clear: bool,

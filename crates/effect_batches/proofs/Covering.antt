@@ -5,23 +5,23 @@ use mathlib.Core.Path.{◌≡◌}
 use mathlib.Core.Bool.{Bool, true, false}
 use mathlib.Core.List.{List}
 use lib.ListN.{get_or}
-use Rattle.task.specs.Table.{row_at, operator-at}
+use Rattle.task.specs.Table.{row_at, operator_at}
 use Rattle.normal_form.specs.Builder.{St, Build, bind, each, plain, opposite}
 use Rattle.normal_form.specs.Growth.{Grows, Steady}
 use Rattle.normal_form.specs.Conditions.{condition}
-use Rattle.normal_form.specs.Operators.{changes-of}
-use Rattle.normal_form.proofs.Growth.{steady-bind, steady-each}
+use Rattle.normal_form.specs.Operators.{changes_of}
+use Rattle.normal_form.proofs.Growth.{steady_bind, steady_each}
 use Rattle.normal_form.proofs.Steady.{steady-guarded, steady-changes}
-use Rattle.normal_form.proofs.Adds.{AddsNothing, nothing-first, nothing-next, nothing_left, nothing_right, nothing-each, nothing-sets, nothing-clears}
+use Rattle.normal_form.proofs.Adds.{AddsNothing, nothing-first, nothing-next, nothing_left, nothing_right, nothing_each, nothing-sets, nothing-clears}
 use Rattle.formula_builder.specs.declared.Frame.{Frame}
 use Rattle.formula_builder.specs.declared.Size.{Size}
 use Rattle.formula_builder.specs.Inner.Held.{Store, held, side}
 use Rattle.images.specs.Inner.Images.{tree, becoming}
-use Rattle.images.proofs.Memos.{steady-becoming}
+use Rattle.images.proofs.Memos.{steady_becoming}
 use Rattle.conditions.specs.declared.Target.{Target}
-use Rattle.conditions.specs.Inner.Conditions.{atom-by, effect-tree, condition-at}
+use Rattle.conditions.specs.Inner.Conditions.{atom_by, effect_tree, condition_at}
 use Rattle.conditions.proofs.Rows.{of-both, of-under}
-use Rattle.conditions.proofs.Notes.{steady-condition-at}
+use Rattle.conditions.proofs.Notes.{steady_condition_at}
 use Rattle.effect_batches.specs.Inner.Firsts.{Rows, Names, left, right, inner, Below, here, named, First}
 use Rattle.effect_batches.specs.declared.Batch.{Batch}
 use Rattle.effect_batches.specs.Inner.Numbers.{Before, BeganBatch}
@@ -36,23 +36,23 @@ module _ {frame : Frame} {effects : List ℕ} (rows : Rows frame effects) (formu
       → i < frame.effects
       → (t : Target) (e : ℕ)
       → Names effects i e
-      → AddsNothing (condition-at frame formulas effects t i) s
-      → AddsNothing (condition-at frame formulas effects t e) s
+      → AddsNothing (condition_at frame formulas effects t i) s
+      → AddsNothing (condition_at frame formulas effects t e) s
   below-it i h t e (left k q) z =
       let both = of-both frame formulas effects (memo frame) (source frame effects rows) i h t k in
       rw (← q)
-      (nothing_left (opposite (side t.negated)) (steady-condition-at frame formulas effects t (row_at effects i).a)
-      (steady-condition-at frame formulas effects t (row_at effects i).b) (rw both at z))
+      (nothing_left (opposite (side t.negated)) (steady_condition_at frame formulas effects t (row_at effects i).a)
+      (steady_condition_at frame formulas effects t (row_at effects i).b) (rw both at z))
   below-it i h t e (right k q) z =
       let both = of-both frame formulas effects (memo frame) (source frame effects rows) i h t k in
       rw (← q)
-      (nothing_right (opposite (side t.negated)) (steady-condition-at frame formulas effects t (row_at effects i).a)
-      (steady-condition-at frame formulas effects t (row_at effects i).b) (rw both at z))
+      (nothing_right (opposite (side t.negated)) (steady_condition_at frame formulas effects t (row_at effects i).a)
+      (steady_condition_at frame formulas effects t (row_at effects i).b) (rw both at z))
   below-it i h t e (inner k q) z =
       let under = of-under frame formulas effects (memo frame) (source frame effects rows) i h t k in
       rw (← q)
-      (nothing-first (steady-condition-at frame formulas effects t (row_at effects i).b)
-      (λ c. steady-guarded (becoming frame) (steady-becoming frame) (side t.negated) (tree frame formulas (row_at effects i).a) c) (rw under at z))
+      (nothing-first (steady_condition_at frame formulas effects t (row_at effects i).b)
+      (λ c. steady-guarded (becoming frame) (steady_becoming frame) (side t.negated) (tree frame formulas (row_at effects i).a) c) (rw under at z))
 
   pub covered-below :
       {top e : ℕ} → Below effects top e → Covered frame formulas effects s top → Covered frame formulas effects s e
@@ -77,65 +77,65 @@ module _ {frame : Frame} {effects : List ℕ} (rows : Rows frame effects) (formu
       covered-below ((f.comes e).below o word).1 (k.covered o (omega (arith, b.some, b.earlier)))
 
 -- Row e is covered once the changes of all variables were built for it.
-pub covered-changes :
+pub covered_changes :
     (frame : Frame) (formulas effects : List ℕ) (s : St) (e : ℕ)
     → e < frame.effects
-    → AddsNothing (each frame.variables (changes-of (becoming frame) (effect-tree frame formulas effects e))) s
+    → AddsNothing (each frame.variables (changes_of (becoming frame) (effect_tree frame formulas effects e))) s
     → Covered frame formulas effects s e
-unfolding condition-at
-covered-changes frame formulas effects s e h q =
+unfolding condition_at
+covered_changes frame formulas effects s e h q =
     record { effect = h; again = λ t p v. rw p (go t.clear t.variable v) }
   where
     go :
         (clear : Bool) (v : ℕ)
         → v < frame.variables
-        → AddsNothing (condition (becoming frame) plain (atom-by clear v) (effect-tree frame formulas effects e)) s
-    go false v g = nothing-sets (becoming frame) (steady-becoming frame) frame.variables (effect-tree frame formulas effects e) q g
-    go true v g = nothing-clears (becoming frame) (steady-becoming frame) frame.variables (effect-tree frame formulas effects e) q g
+        → AddsNothing (condition (becoming frame) plain (atom_by clear v) (effect_tree frame formulas effects e)) s
+    go false v g = nothing-sets (becoming frame) (steady_becoming frame) frame.variables (effect_tree frame formulas effects e) q g
+    go true v g = nothing-clears (becoming frame) (steady_becoming frame) frame.variables (effect_tree frame formulas effects e) q g
 
 -- The effects of the first n operators are covered once these were built, each behind a step of its own: its precondition.
-pub covered-built :
+pub covered_built :
     (frame : Frame) (formulas effects operators : List ℕ) (n : ℕ) (m : ℕ → Build ℕ) (s u : St)
     → ((k : ℕ) → Steady (m k))
-    → ((k : ℕ) → k < n → (operator-at operators k).effect < frame.effects)
+    → ((k : ℕ) → k < n → (operator_at operators k).effect < frame.effects)
     → Grows
     (each n
     (λ k.
     bind (m k)
-    (λ p. each frame.variables (changes-of (becoming frame) (effect-tree frame formulas effects (operator-at operators k).effect))))
+    (λ p. each frame.variables (changes_of (becoming frame) (effect_tree frame formulas effects (operator_at operators k).effect))))
     s).st
     u
     → AllCovered frame formulas effects operators n u
-covered-built frame formulas effects operators n m s u steady roots g =
+covered_built frame formulas effects operators n m s u steady roots g =
     record {
       covered = λ k h.
-          covered-changes frame formulas effects u (operator-at operators k).effect (roots k h)
+          covered_changes frame formulas effects u (operator_at operators k).effect (roots k h)
           (nothing-next (steady k) (λ p. all k)
-          (nothing-each n (λ j. steady-bind (steady j) (λ p. all j)) s h g));
+          (nothing_each n (λ j. steady_bind (steady j) (λ p. all j)) s h g));
     }
   where
     all :
         (k : ℕ)
-        → Steady (each frame.variables (changes-of (becoming frame) (effect-tree frame formulas effects (operator-at operators k).effect)))
+        → Steady (each frame.variables (changes_of (becoming frame) (effect_tree frame formulas effects (operator_at operators k).effect)))
     all k =
-        steady-each frame.variables (steady-changes (becoming frame) (steady-becoming frame) (effect-tree frame formulas effects (operator-at operators k).effect))
+        steady_each frame.variables (steady-changes (becoming frame) (steady_becoming frame) (effect_tree frame formulas effects (operator_at operators k).effect))
 
 -- The rows that a batch lists as it begins may be filled.
-pub batch-fills :
+pub batch_fills :
     {frame : Frame} {formulas effects operators : List ℕ} {from count : ℕ} {first notes notes' list : List ℕ} {at : Size} {s : Store} {scratch : List ℕ} {b : Batch}
     → NextBatch frame formulas effects operators from count first notes at s scratch
     → BeganBatch frame effects from count first notes notes' list b
     → Fills frame formulas effects notes' list b.rows at s scratch
-batch-fills {formulas = formulas} {list = list} {at = at} {s = s} a x =
+batch_fills {formulas = formulas} {list = list} {at = at} {s = s} a x =
     record {
       stands =
           record {
             source = a.stands.source;
-            effect-source = a.stands.effect-source;
+            effect_source = a.stands.effect_source;
             ready = a.stands.ready;
             noted = x.noted formulas (held at s) a.stands.noted;
             memo = a.stands.memo;
-            effect-memo = a.stands.effect-memo;
+            effect_memo = a.stands.effect_memo;
           };
       room = x.listed.room;
       covered = λ j h.

@@ -15,7 +15,7 @@ use Rattle.formula_builder.specs.declared.Step.{Step}
 use Rattle.formula_builder.specs.Inner.Held.{Store, held, size_of, Ready, Within}
 use Rattle.atom_sets.specs.Inner.Sets.{InSet}
 use Rattle.conditions.specs.declared.Target.{Target}
-use Rattle.conditions.specs.Inner.Conditions.{condition-at, Asks, Conditions}
+use Rattle.conditions.specs.Inner.Conditions.{condition_at, Asks, Conditions}
 use Rattle.effect_batches.specs.Inner.Filling.{Stands, FillsRow, Fills, FillsAtom, Filled}
 
 -- What is held has so many rows and twins, which are within the frame.
@@ -50,11 +50,11 @@ module _ {frame : Frame} {formulas effects notes : List ℕ} {t : Target} {at : 
   row-asks =
       record {
         source = a.stands.source;
-        effect-source = a.stands.effect-source;
+        effect_source = a.stands.effect_source;
         ready = a.stands.ready;
         noted = a.stands.noted;
         memo = a.stands.memo;
-        effect-memo = a.stands.effect-memo;
+        effect_memo = a.stands.effect_memo;
         variable = a.variable;
         effect = a.covered.effect;
       }
@@ -63,15 +63,15 @@ module _ {frame : Frame} {formulas effects notes : List ℕ} {t : Target} {at : 
   row-in-set =
       record {
         variables = omega (arith, a.stands.ready.variables);
-        limit = a.stands.effect-source.limit;
+        limit = a.stands.effect_source.limit;
         variable = a.variable;
         effect = a.covered.effect;
       }
 
   -- the step is done, and leaves the state as it was
   module _ {notes' : List ℕ} {after : Store} {scratch' : List ℕ} {r : Step} (long : length scratch' ≡ length scratch)
-      (x : Conditions (condition-at frame formulas effects t e) frame formulas effects notes' at s after scratch' r) where
-    same : (condition-at frame formulas effects t e (held at s)).st ≡ held at s
+      (x : Conditions (condition_at frame formulas effects t e) frame formulas effects notes' at s after scratch' r) where
+    same : (condition_at frame formulas effects t e (held at s)).st ≡ held at s
     same = a.covered.again t a.plain a.variable
 
     done : r.full ≡ false
@@ -100,17 +100,17 @@ module _ {frame : Frame} {formulas effects notes : List ℕ} {t : Target} {at : 
                       limit = a.stands.source.limit;
                       down = a.stands.source.down;
                     };
-                effect-source =
+                effect_source =
                     record {
-                      words = a.stands.effect-source.words;
-                      memo = omega (arith, a.stands.effect-source.memo, long);
-                      limit = a.stands.effect-source.limit;
-                      down = a.stands.effect-source.down;
+                      words = a.stands.effect_source.words;
+                      memo = omega (arith, a.stands.effect_source.memo, long);
+                      limit = a.stands.effect_source.limit;
+                      down = a.stands.effect_source.down;
                     };
                 ready = rw sizes at (x.builds.done done).ready;
                 noted = rw sizes at (x.noted done);
                 memo = rw sizes at (x.memo done);
-                effect-memo = rw sizes at (x.effect-memo done);
+                effect_memo = rw sizes at (x.effect_memo done);
               };
         }
 
@@ -121,46 +121,46 @@ pub filled_none :
     → Filled frame formulas effects notes at s s scratch
 filled_none x = record { state = refl; stands = x }
 
-pub filled-then :
+pub filled_then :
     {frame : Frame} {formulas effects n1 n2 : List ℕ} {at : Size} {a b c : Store} {s1 s2 : List ℕ}
     → Filled frame formulas effects n1 at a b s1
     → Filled frame formulas effects n2 at b c s2
     → Filled frame formulas effects n2 at a c s2
-filled-then x y = record { state = y.state ∙ x.state; stands = y.stands }
+filled_then x y = record { state = y.state ∙ x.state; stands = y.stands }
 
 -- What is covered stays so.
-pub fills-then :
+pub fills_then :
     {frame : Frame} {formulas effects notes notes' list : List ℕ} {n : ℕ} {at : Size} {a b : Store} {scratch scratch' : List ℕ}
     → Fills frame formulas effects notes list n at a scratch
     → Filled frame formulas effects notes' at a b scratch'
     → Fills frame formulas effects notes' list n at b scratch'
-fills-then f x = record { stands = x.stands; room = f.room; covered = λ j h. rw x.state (f.covered j h) }
+fills_then f x = record { stands = x.stands; room = f.room; covered = λ j h. rw x.state (f.covered j h) }
 
 -- what one row of the list asks
-pub row-fills :
+pub row_fills :
     {frame : Frame} {formulas effects notes notes' list : List ℕ} {n : ℕ} {t : Target} {at : Size} {a b : Store} {scratch scratch' : List ℕ} (k : ℕ)
     → k < n
     → FillsAtom frame formulas effects notes list n t at a scratch
     → Filled frame formulas effects notes' at a b scratch'
     → FillsRow frame formulas effects notes' t at b scratch' (get_or list k 0)
-row-fills k h f x =
+row_fills k h f x =
     record {
       stands = x.stands;
       plain = f.plain;
       variable = f.variable;
-      covered = (fills-then f.fills x).covered k h;
+      covered = (fills_then f.fills x).covered k h;
     }
 
 -- The same of a frame that is taken apart and put together again.
-pub fills-framed :
+pub fills_framed :
     {frame whole : Frame} {formulas effects notes list : List ℕ} {n : ℕ} {at : Size} {s : Store} {scratch : List ℕ}
     → whole ≡ frame
     → Fills frame formulas effects notes list n at s scratch
     → Fills whole formulas effects notes list n at s scratch
-fills-framed q f = rw q f
+fills_framed q f = rw q f
 
 -- what one atom asks
-pub atom-fills :
+pub atom_fills :
     {frame whole : Frame} {formulas effects notes notes' list : List ℕ} {n : ℕ} {at : Size} {a b : Store} {scratch scratch' : List ℕ} (t : Target)
     → whole ≡ frame
     → Fills frame formulas effects notes list n at a scratch
@@ -168,12 +168,12 @@ pub atom-fills :
     → t.negated ≡ false
     → t.variable < frame.variables
     → FillsAtom whole formulas effects notes' list n t at b scratch'
-atom-fills t q f x plain h =
-    record { fills = fills-then (fills-framed q f) x; plain = plain; variable = rw q h }
+atom_fills t q f x plain h =
+    record { fills = fills_then (fills_framed q f) x; plain = plain; variable = rw q h }
 
-pub filled-framed :
+pub filled_framed :
     {frame whole : Frame} {formulas effects notes : List ℕ} {at : Size} {a b : Store} {scratch : List ℕ}
     → whole ≡ frame
     → Filled whole formulas effects notes at a b scratch
     → Filled frame formulas effects notes at a b scratch
-filled-framed q x = rw q at x
+filled_framed q x = rw q at x

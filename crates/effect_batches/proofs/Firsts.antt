@@ -7,12 +7,12 @@ use mathlib.Core.Logic.{◌⊎◌, inl, inr, ⊎_elim}
 use mathlib.Core.List.{List, []}
 use lib.ListN.{length, get_or, set, replicate, length-replicate}
 use lib.Seq.{get_or-set_same, get_or-set_other}
-use Rattle.task.specs.Table.{Row, row_at, operator-at}
+use Rattle.task.specs.Table.{Row, row_at, operator_at}
 use Rattle.formula_builder.specs.declared.Words.{Words}
 use Rattle.formula_builder.specs.declared.Frame.{Frame}
 use Rattle.formula_builder.specs.Inner.Held.{row_of}
 use Rattle.conditions.specs.Inner.Conditions.{EffectSource}
-use Rattle.conditions.proofs.Rows.{both-lower, under-lower, known-kind}
+use Rattle.conditions.proofs.Rows.{both-lower, under-lower, known_kind}
 use Rattle.effect_batches.specs.Inner.Firsts.{Rows, Names, left, right, inner, RowKept, here, named, Comes, First, Meets}
 
 -- The rows keep the rules, whatever memo there is.
@@ -40,7 +40,7 @@ row_kept {frame} {effects} a i h =
   where
     go : Dec ((row_at effects i).kind ≡ 4) → (row_at effects i).kind ≤ 4
     go (yes k) = omega (arith, k)
-    go (no k) = omega (arith, known-kind frame [] effects (memo frame) (source frame effects a) i h k)
+    go (no k) = omega (arith, known_kind frame [] effects (memo frame) (source frame effects a) i h k)
 
     less : (e : ℕ) → Names effects i e → e < i
     less e (left k q) = omega (arith, (both-lower frame [] effects (memo frame) (source frame effects a) i h k).0, q)
@@ -63,42 +63,42 @@ module _ {effects : List ℕ} {i : ℕ} (a : RowKept effects i) (w : Words) (q :
   names-left some other = left (omega (arith, a.known, some, other, same_kind)) (ap (λ (r : Row). r.a) (sym q))
 
 -- The word of row e is w now, or as it was.
-pub meets-new : (first : List ℕ) (e w : ℕ) → e < length first → Meets first (set first e w) e w
-meets-new first e w h = record { word = λ j. go j (ℕ_discrete j e) }
+pub meets_new : (first : List ℕ) (e w : ℕ) → e < length first → Meets first (set first e w) e w
+meets_new first e w h = record { word = λ j. go j (ℕ_discrete j e) }
   where
     go : (j : ℕ) → Dec (j ≡ e) → (get_or (set first e w) j 0 ≡ get_or first j 0) ⊎ ((j ≡ e) × (get_or (set first e w) j 0 ≡ w))
     go j (yes q) = inr (q, rw q (get_or-set_same first e w 0 h))
     go j (no q) = inl (get_or-set_other first e j w 0 q)
 
-pub meets-old : (first : List ℕ) (e w : ℕ) → Meets first first e w
-meets-old first e w = record { word = λ j. inl refl }
+pub meets_old : (first : List ℕ) (e w : ℕ) → Meets first first e w
+meets_old first e w = record { word = λ j. inl refl }
 
 -- A row met with a word that is right has a word that is right.
-pub first-met :
+pub first_met :
     {effects operators : List ℕ} {count : ℕ} {first first' : List ℕ} {e w : ℕ}
     → Meets first first' e w
     → Comes effects operators count w e
     → First effects operators count first
     → First effects operators count first'
-first-met m c f =
+first_met m c f =
     record { comes = λ j. ⊎_elim (λ q. rw q (f.comes j)) (λ q. rw (q.1, q.0) c) (m.word j) }
 
 -- a row that row i names, met with i's word
-pub comes-below :
+pub comes_below :
     {effects operators : List ℕ} {count w i e : ℕ}
     → Names effects i e
     → Comes effects operators count w i
     → Comes effects operators count w e
-comes-below {i = i} {e = e} n c = record { below = λ k q. ((c.below k q).0, named i e n (c.below k q).1) }
+comes_below {i = i} {e = e} n c = record { below = λ k q. ((c.below k q).0, named i e n (c.below k q).1) }
 
 -- operator k's effect, met with k + 1
-pub comes-root :
+pub comes_root :
     {effects operators : List ℕ} {count k w e : ℕ}
     → k < count
     → w ≡ k + 1
-    → e ≡ (operator-at operators k).effect
+    → e ≡ (operator_at operators k).effect
     → Comes effects operators count w e
-comes-root {effects} {operators} {count} {k} {w} {e} h r q =
+comes_root {effects} {operators} {count} {k} {w} {e} h r q =
     record {
       below = λ j p.
           let same : j ≡ k = omega (arith, r, p) in
@@ -106,9 +106,9 @@ comes-root {effects} {operators} {count} {k} {w} {e} h r q =
     }
 
 -- nothing is said before
-pub first-none :
+pub first_none :
     (effects operators : List ℕ) (count : ℕ) (first : List ℕ)
     → ((e : ℕ) → get_or first e 0 ≡ 0)
     → First effects operators count first
-first-none effects operators count first blank =
+first_none effects operators count first blank =
     record { comes = λ e. record { below = λ k q. absurd (omega (arith, blank e, q)) } }

@@ -6,21 +6,21 @@ use mathlib.Core.Path.{◌≡◌, refl, sym, ◌∙◌}
 use mathlib.Core.List.{List, [], ◌∷◌}
 use lib.ListN.{length, get_or, set, length-set}
 use lib.Seq.{get_or-set_same, get_or-set_other}
-use Rattle.task.specs.Table.{operator-at}
+use Rattle.task.specs.Table.{operator_at}
 use Rattle.normal_form.specs.Builder.{St}
 use Rattle.formula_builder.specs.declared.Frame.{Frame}
 use Rattle.atom_sets.specs.Inner.Sets.{sets_end}
 use Rattle.atom_sets.proofs.Places.{sets_behind}
 use Rattle.conditions.specs.declared.Target.{Target}
-use Rattle.conditions.specs.Inner.Conditions.{column, part, width, kept-place, Noted}
-use Rattle.conditions.proofs.Notes.{sets-stay, joins-stay}
+use Rattle.conditions.specs.Inner.Conditions.{column, part, width, kept_place, Noted}
+use Rattle.conditions.proofs.Notes.{sets_stay, joins_stay}
 use Rattle.effect_batches.specs.Inner.Firsts.{Roots, Names}
 use Rattle.effect_batches.specs.Inner.Numbers.{Numbers, Numbered, NamesRow, NamesBelow, NamesRoots, Room, Renumbered, Cleared, Forgets, Forgot, Before, Listed, Lists, BeginsBatch}
 use Rattle.effect_batches.proofs.Firsts.{row_kept}
 
 -- Words are cleared one after another.
-pub cleared-none : (from : ℕ) (notes : List ℕ) → Cleared from from notes notes
-cleared-none from notes =
+pub cleared_none : (from : ℕ) (notes : List ℕ) → Cleared from from notes notes
+cleared_none from notes =
     record { zero = λ j g h. absurd (omega arith); ahead = λ j h. refl; behind = λ j h. refl }
 
 pub cleared_more :
@@ -41,17 +41,17 @@ cleared_more {from} {i} {first} {notes} low here x =
     go j g h (no q) = get_or-set_other notes i j 0 0 q ∙ x.zero j g (omega (arith, q))
 
 -- None has a column, and then rows get the next ones.
-pub numbers-none :
+pub numbers_none :
     {n : ℕ} {first notes : List ℕ} → Cleared 0 n first notes → Numbers n notes 0
 unfolding column
-numbers-none x =
+numbers_none x =
     record {
       within = λ e h. rw (x.zero e (omega arith) h) (omega arith);
       apart = λ d e g h c q. absurd (omega (arith, c, x.zero e (omega arith) h));
     }
 
-pub numbered-none : (n most last : ℕ) (notes : List ℕ) → Numbered n most last notes notes last
-numbered-none n most last notes = record { numbers = λ n. n; once = omega arith; behind = λ j h. refl }
+pub numbered_none : (n most last : ℕ) (notes : List ℕ) → Numbered n most last notes notes last
+numbered_none n most last notes = record { numbers = λ n. n; once = omega arith; behind = λ j h. refl }
 
 pub numbered_next :
     (n : ℕ) {last e : ℕ} {notes : List ℕ}
@@ -99,13 +99,13 @@ numbered_next n {last} {e} {notes} there effect =
         x.apart c d g h (rw (other d y) at p) (sym (other c z) ∙ q ∙ other d y)
 
 -- one pass after another
-pub numbered-then :
+pub numbered_then :
     {rows m n more last mid r : ℕ} {a b c : List ℕ}
     → m + n ≤ more
     → Numbered rows m last a b mid
     → Numbered rows n mid b c r
     → Numbered rows more last a c r
-numbered-then few x y =
+numbered_then few x y =
     record {
       numbers = λ n. y.numbers (x.numbers n);
       once = omega (arith, x.once, y.once);
@@ -119,52 +119,52 @@ numbered_more few x = record { numbers = x.numbers; once = omega (arith, x.once)
 pub renumbered :
     {rows more r : ℕ} {a b c : List ℕ} → Cleared 0 rows a b → Numbered rows more 0 b c r → Renumbered rows a c r
 renumbered x y =
-    record { numbers = y.numbers (numbers-none x); behind = λ j h. y.behind j h ∙ x.behind j h }
+    record { numbers = y.numbers (numbers_none x); behind = λ j h. y.behind j h ∙ x.behind j h }
 
-pub renumbered-then :
+pub renumbered_then :
     {rows more last r : ℕ} {a b c : List ℕ} → Renumbered rows a b last → Numbered rows more last b c r → Renumbered rows a c r
-renumbered-then x y = record { numbers = y.numbers x.numbers; behind = λ j h. y.behind j h ∙ x.behind j h }
+renumbered_then x y = record { numbers = y.numbers x.numbers; behind = λ j h. y.behind j h ∙ x.behind j h }
 
-pub renumbered-again :
+pub renumbered_again :
     {rows last r : ℕ} {a b c : List ℕ} → Renumbered rows a b last → Renumbered rows b c r → Renumbered rows a c r
-renumbered-again x y = record { numbers = y.numbers; behind = λ j h. y.behind j h ∙ x.behind j h }
+renumbered_again x y = record { numbers = y.numbers; behind = λ j h. y.behind j h ∙ x.behind j h }
 
-pub renumbered-here : {rows r : ℕ} {a b : List ℕ} → Renumbered rows a b r → Renumbered rows b b r
-renumbered-here x = record { numbers = x.numbers; behind = λ j h. refl }
+pub renumbered_here : {rows r : ℕ} {a b : List ℕ} → Renumbered rows a b r → Renumbered rows b b r
+renumbered_here x = record { numbers = x.numbers; behind = λ j h. refl }
 
 -- there is room after a pass, too
-pub room-then :
+pub room_then :
     {frame : Frame} {effects first notes notes' : List ℕ}
     → length notes' ≡ length notes
     → Room frame effects first notes
     → Room frame effects first notes'
-room-then long r = record { rows = r.rows; words = r.words; behind = omega (arith, r.behind, long) }
+room_then long r = record { rows = r.rows; words = r.words; behind = omega (arith, r.behind, long) }
 
 -- the words of columns are among the notes
-pub column-room : {frame : Frame} {effects first notes : List ℕ} → Room frame effects first notes → frame.effects ≤ length notes
-column-room {frame} r = omega (arith, r.behind, sets_behind frame)
+pub column_room : {frame : Frame} {effects first notes : List ℕ} → Room frame effects first notes → frame.effects ≤ length notes
+column_room {frame} r = omega (arith, r.behind, sets_behind frame)
 
 -- what the rows of operators ask
-pub roots-room :
+pub roots_room :
     {frame : Frame} {effects operators first notes : List ℕ} {count : ℕ}
     → Room frame effects first notes
     → Roots frame.effects operators count
     → NamesRoots frame.effects effects operators first notes count
-roots-room r k =
-    record { words = r.rows.words; effect = r.words; within = column-room r; roots = k }
+roots_room r k =
+    record { words = r.rows.words; effect = r.words; within = column_room r; roots = k }
 
 -- more rows, or fewer operators
-pub roots-wider : {n m : ℕ} {operators : List ℕ} {count : ℕ} → n ≤ m → Roots n operators count → Roots m operators count
-roots-wider h r =
+pub roots_wider : {n m : ℕ} {operators : List ℕ} {count : ℕ} → n ≤ m → Roots n operators count → Roots m operators count
+roots_wider h r =
     record { limit = r.limit; words = r.words; effect = λ k g. omega (arith, r.effect k g) }
 
-pub roots-fewer : {n : ℕ} {operators : List ℕ} {few count : ℕ} → few ≤ count → Roots n operators count → Roots n operators few
-roots-fewer h r =
+pub roots_fewer : {n : ℕ} {operators : List ℕ} {few count : ℕ} → few ≤ count → Roots n operators count → Roots n operators few
+roots_fewer h r =
     record { limit = omega (arith, r.limit); words = omega (arith, r.words); effect = λ k g. r.effect k (omega (arith, g)) }
 
 -- Rows are listed one after another.
-pub listed-none : {first : List ℕ} {from rows : ℕ} (list : List ℕ) → Listed rows first from list 0
-listed-none list = record { room = omega arith; each = λ j h. absurd (omega arith) }
+pub listed_none : {first : List ℕ} {from rows : ℕ} (list : List ℕ) → Listed rows first from list 0
+listed_none list = record { room = omega arith; each = λ j h. absurd (omega arith) }
 
 pub listed_next :
     {first : List ℕ} {rows from n e : ℕ} {list : List ℕ}
@@ -186,9 +186,9 @@ listed_next {first} {rows} {from} {n} {e} {list} there b x =
 ahead : (a b : ℕ) → a ≤ a + b
 ahead a b = omega arith
 
-place-behind : (frame : Frame) (c : ℕ) (t : Target) → sets_end frame ≤ kept-place frame c t
-unfolding kept-place
-place-behind frame c t =
+place_behind : (frame : Frame) (c : ℕ) (t : Target) → sets_end frame ≤ kept_place frame c t
+unfolding kept_place
+place_behind frame c t =
     ahead (sets_end frame) (c * (width frame.variables * frame.variables) + (width frame.variables * t.variable + part t))
 
 -- The notes are right with new columns, in which nothing is kept.
@@ -207,7 +207,7 @@ module _ (frame : Frame) {a b c : List ℕ} {last : ℕ} (first : length b ≡ l
   pub noted-anew : {effects : List ℕ} (formulas : List ℕ) (s : St) → Noted frame formulas effects a s → Noted frame formulas effects c s
   noted-anew formulas s n =
       record {
-        sets = sets-stay long (λ j g h. low j (omega (arith, g)) h) n.sets;
+        sets = sets_stay long (λ j g h. low j (omega (arith, g)) h) n.sets;
         columns =
             record {
               words = rw long n.columns.words;
@@ -216,20 +216,20 @@ module _ (frame : Frame) {a b c : List ℕ} {last : ℕ} (first : length b ≡ l
         kept =
             record {
               known = λ t e r h v p k i w.
-                  absurd (omega (arith, y.blank (kept-place frame (column c e) t) (place-behind frame (column c e) t), w));
+                  absurd (omega (arith, y.blank (kept_place frame (column c e) t) (place_behind frame (column c e) t), w));
             };
-        joins = joins-stay (λ j g h. low j g (omega (arith, h, sets_behind frame))) n.joins;
+        joins = joins_stay (λ j g h. low j g (omega (arith, h, sets_behind frame))) n.joins;
       }
 
 -- What a row that row i names asks, and what row i asks.
-pub names-row :
+pub names_row :
     {effects first notes notes' : List ℕ} {i e last last' : ℕ}
     → NamesBelow effects first notes i last
     → Names effects i e
     → length notes' ≡ length notes
     → last' < 65535
     → NamesRow effects first notes' e last'
-names-row {e = e} a n long few =
+names_row {e = e} a n long few =
     let low = a.row.lower e n in
     record {
       words = omega (arith, a.row.words, low);
@@ -238,35 +238,35 @@ names-row {e = e} a n long few =
       few = few;
     }
 
-pub below-asks :
+pub below_asks :
     {frame : Frame} {effects first notes notes' : List ℕ} {i last : ℕ}
     → Room frame effects first notes
     → length notes' ≡ length notes
     → i < frame.effects
     → last < 65534
     → NamesBelow effects first notes' i last
-below-asks {i = i} r long h few =
+below_asks {i = i} r long h few =
     record {
       row = row_kept r.rows i h;
       effect = omega (arith, r.words);
-      within = omega (arith, column-room r, long);
+      within = omega (arith, column_room r, long);
       few = few;
     }
 
 -- the effect of operator k is one of the rows
-pub root_below : {n : ℕ} {operators : List ℕ} {count : ℕ} (k e : ℕ) → Roots n operators count → k < count → e ≡ (operator-at operators k).effect → e < n
+pub root_below : {n : ℕ} {operators : List ℕ} {count : ℕ} (k e : ℕ) → Roots n operators count → k < count → e ≡ (operator_at operators k).effect → e < n
 root_below k e a h q = omega (arith, a.effect k h, q)
 
 -- what it asks
-pub root-asks :
+pub root_asks :
     {n : ℕ} {effects operators first notes notes' : List ℕ} {count last : ℕ} (k e : ℕ)
     → NamesRoots n effects operators first notes count
     → k < count
-    → e ≡ (operator-at operators k).effect
+    → e ≡ (operator_at operators k).effect
     → length notes' ≡ length notes
     → last < 65535
     → NamesRow effects first notes' e last
-root-asks k e a h q long few =
+root_asks k e a h q long few =
     let low = root_below k e a.roots h q in
     record {
       words = omega (arith, a.words, low);
@@ -311,6 +311,6 @@ lists x long =
     record {
       limit = x.sizes.room.rows.limit;
       words = x.sizes.room.words;
-      columns = omega (arith, column-room x.sizes.room, long);
+      columns = omega (arith, column_room x.sizes.room, long);
       entries = x.entries;
     }

@@ -18,6 +18,8 @@
 //     notes    columns (E) | last joins (3 E) | sets | kept conditions    word e of the columns is the number of row e, 0 for none
 //     first    E words     | the first operator that comes to row e, plus 1; 0, if none does
 //     list     E words     | the rows with a column that operators before the batch came to, upwards
+#![tactic(auto)]
+
 mod begin;
 mod fill;
 mod first;
@@ -36,7 +38,7 @@ const UNDER: u16 = 4;
 pub const MOST_ROWS: usize = 4096;
 
 // A batch: where it ends, and how many rows are to be filled.
-#[derive(Drop)]
+#[derive(Clone, Copy)]
 pub struct Batch {
     pub end: usize,
     pub rows: usize,

@@ -1,18 +1,20 @@
 // The entries for a planner written in C: reading, compiling, running, the cheapest plan and translating through numbers and byte slices.
+#![tactic(auto)]
+
 ghost use Rattle.std.specs.Prelude.{length};
 ghost use Rattle.layouts.specs.Layout.{Lays};
-ghost use Rattle.read_entry.specs.Entry.{read-entry};
+ghost use Rattle.read_entry.specs.Entry.{read_entry};
 ghost use Rattle.compiled_file.specs.Filed.{CompileGives};
-ghost use Rattle.compile_entry.specs.Entry.{compile-entry};
-ghost use Rattle.run_entry.specs.Entry.{run-entry};
+ghost use Rattle.compile_entry.specs.Entry.{compile_entry};
+ghost use Rattle.run_entry.specs.Entry.{run_entry};
 ghost use Rattle.run_entry.specs.Entry.{RunEntryGives};
-ghost use Rattle.plan_entry.specs.Entry.{plan-entry, PlanEntryGives};
-ghost use Rattle.translate_entry.specs.Entry.{translate-entry};
+ghost use Rattle.plan_entry.specs.Entry.{plan_entry, PlanEntryGives};
+ghost use Rattle.translate_entry.specs.Entry.{translate_entry};
 
 // Reads a task file: 0 and its tables, or the number and all 0. One pass over the file and one over its tables.
 #[unsafe(no_mangle)]
 pub extern "C" fn pnf_read(file: &[u8], tables: &mut [u8]) -> u32
-    ensures { Lays (read-entry file.now (length tables.old)) result tables.new }
+    ensures { Lays (read_entry file.now (length tables.old)) result tables.new }
 {
     read_entry::read(file, tables)
 }
@@ -21,7 +23,7 @@ pub extern "C" fn pnf_read(file: &[u8], tables: &mut [u8]) -> u32
 // over the compiled task.
 #[unsafe(no_mangle)]
 pub extern "C" fn pnf_compile(file: &[u8], out: &mut [u8], res: &mut [u8]) -> u32
-    ensures { CompileGives (compile-entry file.now (length out.old) (length res.old)) result out.new res.new }
+    ensures { CompileGives (compile_entry file.now (length out.old) (length res.old)) result out.new res.new }
 {
     compile_entry::compile(file, out, res)
 }
@@ -30,7 +32,7 @@ pub extern "C" fn pnf_compile(file: &[u8], out: &mut [u8], res: &mut [u8]) -> u3
 // pass over the file, then the formulas, the effects and the variables a step.
 #[unsafe(no_mangle)]
 pub extern "C" fn pnf_run(file: &[u8], state: &mut [u8], sequence: &[u8], res: &mut [u8]) -> u32
-    ensures { RunEntryGives (run-entry file.now state.old sequence.now (length res.old)) result state.new res.new }
+    ensures { RunEntryGives (run_entry file.now state.old sequence.now (length res.old)) result state.new res.new }
 {
     run_entry::run(file, state, sequence, res)
 }
@@ -39,7 +41,7 @@ pub extern "C" fn pnf_run(file: &[u8], state: &mut [u8], sequence: &[u8], res: &
 // pass over the file, then the search.
 #[unsafe(no_mangle)]
 pub extern "C" fn pnf_plan(file: &[u8], out: &mut [u8], res: &mut [u8]) -> u32
-    ensures { PlanEntryGives (plan-entry file.now (length out.old) (length res.old)) result out.new res.new }
+    ensures { PlanEntryGives (plan_entry file.now (length out.old) (length res.old)) result out.new res.new }
 {
     plan_entry::plan(file, out, res)
 }
@@ -48,7 +50,7 @@ pub extern "C" fn pnf_plan(file: &[u8], out: &mut [u8], res: &mut [u8]) -> u32
 // pass over the words, translating, one pass over the translated task.
 #[unsafe(no_mangle)]
 pub extern "C" fn pnf_translate(tables: &[u8], out: &mut [u8], res: &mut [u8]) -> u32
-    ensures { CompileGives (translate-entry tables.now (length out.old) (length res.old)) result out.new res.new }
+    ensures { CompileGives (translate_entry tables.now (length out.old) (length res.old)) result out.new res.new }
 {
     translate_entry::translate(tables, out, res)
 }

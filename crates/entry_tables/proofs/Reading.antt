@@ -7,91 +7,91 @@ use mathlib.Core.List.{List}
 use lib.ListN.{length, replicate}
 use borrow.Author.Tests.{le-leb}
 use Rattle.task.specs.declared.Head.{Head}
-use Rattle.task.specs.Table.{Lent, Task, lent, task-of, operator-width}
-use Rattle.task.specs.Check.{counts-kept, goal-kept, refusal}
-use Rattle.task.specs.Words.{head_of, words_of, operator-words, padded}
+use Rattle.task.specs.Table.{Lent, Task, lent, task_of, operator_width}
+use Rattle.task.specs.Check.{counts_kept, goal_kept, refusal}
+use Rattle.task.specs.Words.{head_of, words_of, operator_words, padded}
 use Rattle.task.proofs.Bounded.{and_both}
-use Rattle.task.proofs.Words.{lent-in, task-in, kept_in}
-use Rattle.task.proofs.Passed.{counts-tested}
+use Rattle.task.proofs.Words.{lent_in, task-in, kept_in}
+use Rattle.task.proofs.Passed.{counts_tested}
 use Rattle.task_file.specs.declared.ReadAnswer.{ReadAnswer}
 use Rattle.task_file.specs.declared.ReadAnswer.TheVariants.{Read, Refused}
 use Rattle.file_format.specs.Parse.{Parsed, parsed, unparsed, next, kept}
-use Rattle.file_format.specs.Reading.{Lengths, room, head_read, head-kept, Verdict, accepted, rejected, at-end, task-read, reading}
-use Rattle.task_file.specs.Outcome.{ReadOutcome, outcome-of, read_left, read-outcome}
+use Rattle.file_format.specs.Reading.{Lengths, room, head_read, head_kept, Verdict, accepted, rejected, at_end, task_read, reading}
+use Rattle.task_file.specs.Outcome.{ReadOutcome, outcome_of, read_left, read_outcome}
 use Rattle.file_format.proofs.Parse.{Bytes}
 use Rattle.file_format.proofs.RoundTrip.{Accepted, written_read}
 use Rattle.entry_tables.specs.Own.{own}
 
 -- Own tables have room for every head that keeps the limits.
-pub limits-room : (h : Head) → counts-kept h ≡ true → room own h ≡ true
+pub limits_room : (h : Head) → counts_kept h ≡ true → room own h ≡ true
 unfolding room own
-limits-room h e =
-    let c = (counts-tested h).0 e in
+limits_room h e =
+    let c = (counts_tested h).0 e in
     and_both (le-leb h.variables 512 c.variables)
     (and_both (le-leb h.twins 256 (omega (arith, c.variables, c.twins)))
     (and_both (le-leb (3 * h.formulas) 12288 (omega (arith, c.formulas)))
     (and_both (le-leb (3 * h.effects) 12288 (omega (arith, c.effects)))
-    (le-leb (operator-width * h.operators) (operator-width * 256) (omega (arith, c.operators))))))
+    (le-leb (operator_width * h.operators) (operator_width * 256) (omega (arith, c.operators))))))
 
-same_head : (l : Lengths) (h : Head) (rest : List ℕ) → (head-kept l h rest ≡ unparsed 5 → ⊥) → head-kept l h rest ≡ head-kept own h rest
-unfolding head-kept next kept
-same_head l h rest d = go (counts-kept h) (goal-kept h) (room l h) refl refl refl
+same_head : (l : Lengths) (h : Head) (rest : List ℕ) → (head_kept l h rest ≡ unparsed 5 → ⊥) → head_kept l h rest ≡ head_kept own h rest
+unfolding head_kept next kept
+same_head l h rest d = go (counts_kept h) (goal_kept h) (room l h) refl refl refl
   where
-    go : (a b c : Bool) → counts-kept h ≡ a → goal-kept h ≡ b → room l h ≡ c → head-kept l h rest ≡ head-kept own h rest
+    go : (a b c : Bool) → counts_kept h ≡ a → goal_kept h ≡ b → room l h ≡ c → head_kept l h rest ≡ head_kept own h rest
     go false b c x y z = rw x
     go true false c x y z = rw (x, y)
     go true true false x y z = absurd (d (rw (x, y, z)))
-    go true true true x y z = rw (x, y, z, limits-room h x)
+    go true true true x y z = rw (x, y, z, limits_room h x)
 
 -- so reading through tables of any lengths, unless it comes to 5, comes to what it does through one's own
-pub same-reading : (l : Lengths) (file : List ℕ) → (reading l file ≡ rejected 5 → ⊥) → reading l file ≡ reading own file
-unfolding reading task-read next at-end
-same-reading l file d = go (head_read file) refl
+pub same_reading : (l : Lengths) (file : List ℕ) → (reading l file ≡ rejected 5 → ⊥) → reading l file ≡ reading own file
+unfolding reading task_read next at_end
+same_reading l file d = go (head_read file) refl
   where
     go : (p : Parsed Head) → head_read file ≡ p → reading l file ≡ reading own file
     go (parsed h rest) x =
-        let s : head-kept l h rest ≡ head-kept own h rest = same_head l h rest (λ y. d (rw (x, y))) in
+        let s : head_kept l h rest ≡ head_kept own h rest = same_head l h rest (λ y. d (rw (x, y))) in
         rw (x, s)
     go (unparsed n) x = rw x
 
 -- Tables that hold what a file was read as, through tables of these lengths: the task's words stand in front.
 pub record ReadAs (m : Lengths) (file : List ℕ) (l : Lent) : Type 0 where
-  pub read : reading m file ≡ accepted (task-of l)
+  pub read : reading m file ≡ accepted (task_of l)
   pub kept : refusal l ≡ 0
-  pub initial-rest : List ℕ
-  pub twins-rest : List ℕ
-  pub formulas-rest : List ℕ
-  pub effects-rest : List ℕ
-  pub operators-rest : List ℕ
-  pub held : l ≡ lent-in (task-of l) initial-rest twins-rest formulas-rest effects-rest operators-rest
+  pub initial_rest : List ℕ
+  pub twins_rest : List ℕ
+  pub formulas_rest : List ℕ
+  pub effects_rest : List ℕ
+  pub operators_rest : List ℕ
+  pub held : l ≡ lent_in (task_of l) initial_rest twins_rest formulas_rest effects_rest operators_rest
 
-held_in : (m : Lengths) (file : List ℕ) (l : Lent) (t : Task) (i w f e o : List ℕ) → l ≡ lent-in t i w f e o → Accepted m file t → reading m file ≡ accepted t → ReadAs m file l
+held_in : (m : Lengths) (file : List ℕ) (l : Lent) (t : Task) (i w f e o : List ℕ) → l ≡ lent_in t i w f e o → Accepted m file t → reading m file ≡ accepted t → ReadAs m file l
 held_in m file l t i w f e o s a r =
-    let same : task-of l ≡ t = ap task-of s ∙ task-in t i w f e o in
+    let same : task_of l ≡ t = ap task_of s ∙ task-in t i w f e o in
     record {
       read = r ∙ ap accepted (sym same);
       kept = ap refusal s ∙ kept_in t i w f e o a.rules;
-      initial-rest = i;
-      twins-rest = w;
-      formulas-rest = f;
-      effects-rest = e;
-      operators-rest = o;
-      held = s ∙ ap (λ (x : Task). lent-in x i w f e o) (sym same);
+      initial_rest = i;
+      twins_rest = w;
+      formulas_rest = f;
+      effects_rest = e;
+      operators_rest = o;
+      held = s ∙ ap (λ (x : Task). lent_in x i w f e o) (sym same);
     }
 
 -- the two answers of reading through tables of any lengths
-module _ (m : Lengths) (file : List ℕ) {r : ReadAnswer} {i' w' f' e' o' : List ℕ} (reads : read_left r i' w' f' e' o' ≡ read-outcome m file) where
-  reads-by : read_left r i' w' f' e' o' ≡ outcome-of m (reading m file)
-  unfolding read-outcome
+module _ (m : Lengths) (file : List ℕ) {r : ReadAnswer} {i' w' f' e' o' : List ℕ} (reads : read_left r i' w' f' e' o' ≡ read_outcome m file) where
+  reads-by : read_left r i' w' f' e' o' ≡ outcome_of m (reading m file)
+  unfolding read_outcome
   reads-by = reads
 
   pub read_as : {head : Head} → r ≡ Read head → Bytes file → ReadAs m file (lent head i' w' f' e' o')
-  unfolding outcome-of padded lent-in
+  unfolding outcome_of padded lent_in
   read_as {head} q b = go (reading m file) refl
     where
       go : (x : Verdict) → reading m file ≡ x → ReadAs m file (lent head i' w' f' e' o')
       go (accepted t) x =
-          let s : read_left r i' w' f' e' o' ≡ outcome-of m (accepted t) = reads-by ∙ ap (outcome-of m) x in
+          let s : read_left r i' w' f' e' o' ≡ outcome_of m (accepted t) = reads-by ∙ ap (outcome_of m) x in
           let h : Read head ≡ Read (head_of t) = sym q ∙ ap (λ (y : ReadOutcome). y.answer) s in
           let g : head ≡ head_of t = cc in
           held_in m file (lent head i' w' f' e' o') t
@@ -99,25 +99,25 @@ module _ (m : Lengths) (file : List ℕ) {r : ReadAnswer} {i' w' f' e' o' : List
           (replicate (m.twins - length t.originals) 0)
           (replicate (m.formulas - length (words_of t.formulas)) 0)
           (replicate (m.effects - length (words_of t.effects)) 0)
-          (replicate (m.operators - length (operator-words t.operators)) 0)
+          (replicate (m.operators - length (operator_words t.operators)) 0)
           (λ j. lent (g j) (s j).initial (s j).twins (s j).formulas (s j).effects (s j).operators)
           (written_read m file t b x) x
       go (rejected n) x =
-          let s : read_left r i' w' f' e' o' ≡ outcome-of m (rejected n) = reads-by ∙ ap (outcome-of m) x in
+          let s : read_left r i' w' f' e' o' ≡ outcome_of m (rejected n) = reads-by ∙ ap (outcome_of m) x in
           let h : Read head ≡ Refused n = sym q ∙ ap (λ (y : ReadOutcome). y.answer) s in
           absurd (let z : ◌≡◌ {A = ℕ} 0 1 = cc in omega arith)
 
   pub refused_as : {n : ℕ} → r ≡ Refused n → reading m file ≡ rejected n
-  unfolding outcome-of
+  unfolding outcome_of
   refused_as {n} q = go (reading m file) refl
     where
       go : (x : Verdict) → reading m file ≡ x → reading m file ≡ rejected n
       go (accepted t) x =
-          let s : read_left r i' w' f' e' o' ≡ outcome-of m (accepted t) = reads-by ∙ ap (outcome-of m) x in
+          let s : read_left r i' w' f' e' o' ≡ outcome_of m (accepted t) = reads-by ∙ ap (outcome_of m) x in
           let h : Refused n ≡ Read (head_of t) = sym q ∙ ap (λ (y : ReadOutcome). y.answer) s in
           absurd (let z : ◌≡◌ {A = ℕ} 0 1 = cc in omega arith)
       go (rejected k) x =
-          let s : read_left r i' w' f' e' o' ≡ outcome-of m (rejected k) = reads-by ∙ ap (outcome-of m) x in
+          let s : read_left r i' w' f' e' o' ≡ outcome_of m (rejected k) = reads-by ∙ ap (outcome_of m) x in
           let h : Refused n ≡ Refused k = sym q ∙ ap (λ (y : ReadOutcome). y.answer) s in
           let g : k ≡ n = cc in
           x ∙ ap rejected g

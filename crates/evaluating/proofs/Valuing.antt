@@ -9,25 +9,25 @@ use lib.ListN.{length, get_or, set, drop, length-set}
 use lib.Seq.{drop-drop, drop-set-lt}
 use lib.Dec.{eqb}
 use Rattle.task.specs.Bounded.{upto}
-use Rattle.task.specs.Table.{FormulaKind, row_at, formula-kind}
+use Rattle.task.specs.Table.{FormulaKind, row_at, formula_kind}
 use Rattle.task.specs.Rules.{no_row, FormulaRule}
 use Rattle.task.specs.Semantics.{holds}
-use Rattle.task.specs.Tree.{formula-of}
+use Rattle.task.specs.Tree.{formula_of}
 use Rattle.task.proofs.Bounded.{length-upto, getD-upto}
 use Rattle.task.proofs.Trees.{formula-grows}
 use Rattle.task.specs.Inner.Rows.{FormulasDown}
-use Rattle.task.proofs.Values.{bit-small, values-stored}
-use Rattle.task.specs.Inner.Values.{bit, told, kind-value, row-value, Values}
-use Rattle.evaluating.specs.Inner.Values.{joins, truth-table, rows_of, RowReady, Valuable, Valued}
+use Rattle.task.proofs.Values.{bit_small, values-stored}
+use Rattle.task.specs.Inner.Values.{bit, told, kind_value, row_value, Values}
+use Rattle.evaluating.specs.Inner.Values.{joins, truth_table, rows_of, RowReady, Valuable, Valued}
 
 -- a bit is 0 or 1
 by_bit : (P : Type 0) (x : ℕ) → x ≤ 1 → (x ≡ 0 → P) → (x ≡ 1 → P) → P
 by_bit P zero h no-bit one_bit = no-bit refl
 by_bit P (suc n) h no-bit one_bit = one_bit (omega arith)
 
-pub bit-told : (x : ℕ) → x ≤ 1 → x ≡ bit (eqb x 1)
+pub bit_told : (x : ℕ) → x ≤ 1 → x ≡ bit (eqb x 1)
 unfolding bit
-bit-told x h = by_bit (x ≡ cond (eqb x 1) 1 0) x h (λ e. rw e) (λ e. rw e)
+bit_told x h = by_bit (x ≡ cond (eqb x 1) 1 0) x h (λ e. rw e) (λ e. rw e)
 
 pub bit_not : (x : ℕ) → x ≤ 1 → 1 - x ≡ bit (not (eqb x 1))
 unfolding bit
@@ -37,90 +37,90 @@ all_small :
     (k : FormulaKind)
     → (bit (joins k false false) ≤ 1) × (bit (joins k false true) ≤ 1) × (bit (joins k true false) ≤ 1) × (bit (joins k true true) ≤ 1)
 all_small k =
-    (bit-small (joins k false false), bit-small (joins k false true), bit-small (joins k true false), bit-small (joins k true true))
+    (bit_small (joins k false false), bit_small (joins k false true), bit_small (joins k true false), bit_small (joins k true true))
 
 -- a truth table tells each of its cases
-pub table-tells :
+pub table_tells :
     (k : FormulaKind) (n x y : ℕ)
-    → n ≡ truth-table k
+    → n ≡ truth_table k
     → x ≤ 1
     → y ≤ 1
     → (n / 2 ^ (2 * x + y)) % 2 ≡ bit (joins k (eqb x 1) (eqb y 1))
-unfolding truth-table
-table-tells k n zero zero e hx hy = omega (arith, all_small k)
-table-tells k n zero (suc zero) e hx hy = omega (arith, all_small k)
-table-tells k n (suc zero) zero e hx hy = omega (arith, all_small k)
-table-tells k n (suc zero) (suc zero) e hx hy = omega (arith, all_small k)
-table-tells k n zero (suc (suc y)) e hx hy = absurd (omega arith)
-table-tells k n (suc zero) (suc (suc y)) e hx hy = absurd (omega arith)
-table-tells k n (suc (suc x)) y e hx hy = absurd (omega arith)
+unfolding truth_table
+table_tells k n zero zero e hx hy = omega (arith, all_small k)
+table_tells k n zero (suc zero) e hx hy = omega (arith, all_small k)
+table_tells k n (suc zero) zero e hx hy = omega (arith, all_small k)
+table_tells k n (suc zero) (suc zero) e hx hy = omega (arith, all_small k)
+table_tells k n zero (suc (suc y)) e hx hy = absurd (omega arith)
+table_tells k n (suc zero) (suc (suc y)) e hx hy = absurd (omega arith)
+table_tells k n (suc (suc x)) y e hx hy = absurd (omega arith)
 
 -- the kinds behind "not" that keep a rule name two formulas
-rule-joins :
+rule_joins :
     (v i n a b : ℕ)
-    → FormulaRule v i (formula-kind n) a b
+    → FormulaRule v i (formula_kind n) a b
     → (n ≡ 0 → ⊥)
     → (n ≡ 1 → ⊥)
     → (n ≡ 2 → ⊥)
     → (n ≡ 3 → ⊥)
     → (4 ≤ n) × (n < 8) × (a < i) × (b < i)
-unfolding formula-kind
-rule-joins v i zero a b r d0 d1 d2 d3 = absurd (d0 refl)
-rule-joins v i (suc zero) a b r d0 d1 d2 d3 = absurd (d1 refl)
-rule-joins v i (suc (suc zero)) a b r d0 d1 d2 d3 = absurd (d2 refl)
-rule-joins v i (suc (suc (suc zero))) a b r d0 d1 d2 d3 = absurd (d3 refl)
-rule-joins v i (suc (suc (suc (suc zero)))) a b r d0 d1 d2 d3 = (omega arith, omega arith, r.0, r.1)
-rule-joins v i (suc (suc (suc (suc (suc zero))))) a b r d0 d1 d2 d3 = (omega arith, omega arith, r.0, r.1)
-rule-joins v i (suc (suc (suc (suc (suc (suc zero)))))) a b r d0 d1 d2 d3 = (omega arith, omega arith, r.0, r.1)
-rule-joins v i (suc (suc (suc (suc (suc (suc (suc zero))))))) a b r d0 d1 d2 d3 = (omega arith, omega arith, r.0, r.1)
-rule-joins v i (suc (suc (suc (suc (suc (suc (suc (suc n)))))))) a b r d0 d1 d2 d3 = absurd r
+unfolding formula_kind
+rule_joins v i zero a b r d0 d1 d2 d3 = absurd (d0 refl)
+rule_joins v i (suc zero) a b r d0 d1 d2 d3 = absurd (d1 refl)
+rule_joins v i (suc (suc zero)) a b r d0 d1 d2 d3 = absurd (d2 refl)
+rule_joins v i (suc (suc (suc zero))) a b r d0 d1 d2 d3 = absurd (d3 refl)
+rule_joins v i (suc (suc (suc (suc zero)))) a b r d0 d1 d2 d3 = (omega arith, omega arith, r.0, r.1)
+rule_joins v i (suc (suc (suc (suc (suc zero))))) a b r d0 d1 d2 d3 = (omega arith, omega arith, r.0, r.1)
+rule_joins v i (suc (suc (suc (suc (suc (suc zero)))))) a b r d0 d1 d2 d3 = (omega arith, omega arith, r.0, r.1)
+rule_joins v i (suc (suc (suc (suc (suc (suc (suc zero))))))) a b r d0 d1 d2 d3 = (omega arith, omega arith, r.0, r.1)
+rule_joins v i (suc (suc (suc (suc (suc (suc (suc (suc n)))))))) a b r d0 d1 d2 d3 = absurd r
 
-join-value :
+join_value :
     (s values : List ℕ) (n a b : ℕ)
     → 4 ≤ n
     → n < 8
-    → kind-value s values (formula-kind n) a b ≡ joins (formula-kind n) (told values a) (told values b)
-unfolding formula-kind kind-value joins
-join-value s values zero a b h l = absurd (omega arith)
-join-value s values (suc zero) a b h l = absurd (omega arith)
-join-value s values (suc (suc zero)) a b h l = absurd (omega arith)
-join-value s values (suc (suc (suc zero))) a b h l = absurd (omega arith)
-join-value s values (suc (suc (suc (suc zero)))) a b h l = refl
-join-value s values (suc (suc (suc (suc (suc zero))))) a b h l = refl
-join-value s values (suc (suc (suc (suc (suc (suc zero)))))) a b h l = refl
-join-value s values (suc (suc (suc (suc (suc (suc (suc zero))))))) a b h l = refl
-join-value s values (suc (suc (suc (suc (suc (suc (suc (suc n)))))))) a b h l = refl
+    → kind_value s values (formula_kind n) a b ≡ joins (formula_kind n) (told values a) (told values b)
+unfolding formula_kind kind_value joins
+join_value s values zero a b h l = absurd (omega arith)
+join_value s values (suc zero) a b h l = absurd (omega arith)
+join_value s values (suc (suc zero)) a b h l = absurd (omega arith)
+join_value s values (suc (suc (suc zero))) a b h l = absurd (omega arith)
+join_value s values (suc (suc (suc (suc zero)))) a b h l = refl
+join_value s values (suc (suc (suc (suc (suc zero))))) a b h l = refl
+join_value s values (suc (suc (suc (suc (suc (suc zero)))))) a b h l = refl
+join_value s values (suc (suc (suc (suc (suc (suc (suc zero))))))) a b h l = refl
+join_value s values (suc (suc (suc (suc (suc (suc (suc (suc n)))))))) a b h l = refl
 
 -- the arms of `value_of`
 module _ {words : List ℕ} {i : ℕ} {s values : List ℕ} (ready : RowReady words i s values) where
-  pub false-row : (row_at words i).kind ≡ 0 → 0 ≡ bit (row-value s values (row_at words i))
-  unfolding bit row-value kind-value formula-kind
-  false-row k = rw k
+  pub false_row : (row_at words i).kind ≡ 0 → 0 ≡ bit (row_value s values (row_at words i))
+  unfolding bit row_value kind_value formula_kind
+  false_row k = rw k
 
-  pub true-row : (row_at words i).kind ≡ 1 → 1 ≡ bit (row-value s values (row_at words i))
-  unfolding bit row-value kind-value formula-kind
-  true-row k = rw k
+  pub true_row : (row_at words i).kind ≡ 1 → 1 ≡ bit (row_value s values (row_at words i))
+  unfolding bit row_value kind_value formula_kind
+  true_row k = rw k
 
   pub variable-ref : (row_at words i).kind ≡ 2 → (row_at words i).a < length s
-  unfolding formula-kind
-  variable-ref k = let r : FormulaRule (length s) i (formula-kind 2) (row_at words i).a (row_at words i).b = rw k at ready.rule in r.0
+  unfolding formula_kind
+  variable-ref k = let r : FormulaRule (length s) i (formula_kind 2) (row_at words i).a (row_at words i).b = rw k at ready.rule in r.0
 
-  pub variable-row :
-      (row_at words i).kind ≡ 2 → get_or s (row_at words i).a 0 ≡ bit (row-value s values (row_at words i))
-  unfolding row-value kind-value formula-kind
-  variable-row k =
+  pub variable_row :
+      (row_at words i).kind ≡ 2 → get_or s (row_at words i).a 0 ≡ bit (row_value s values (row_at words i))
+  unfolding row_value kind_value formula_kind
+  variable_row k =
       rw k
-      (bit-told (get_or s (row_at words i).a 0) (ready.state-bits (row_at words i).a (variable-ref k)))
+      (bit_told (get_or s (row_at words i).a 0) (ready.state_bits (row_at words i).a (variable-ref k)))
 
   pub not-ref : (row_at words i).kind ≡ 3 → (row_at words i).a < i
-  unfolding formula-kind
-  not-ref k = let r : FormulaRule (length s) i (formula-kind 3) (row_at words i).a (row_at words i).b = rw k at ready.rule in r.0
+  unfolding formula_kind
+  not-ref k = let r : FormulaRule (length s) i (formula_kind 3) (row_at words i).a (row_at words i).b = rw k at ready.rule in r.0
 
   pub not-row :
-      (row_at words i).kind ≡ 3 → 1 - get_or values (row_at words i).a 0 ≡ bit (row-value s values (row_at words i))
-  unfolding row-value kind-value formula-kind
+      (row_at words i).kind ≡ 3 → 1 - get_or values (row_at words i).a 0 ≡ bit (row_value s values (row_at words i))
+  unfolding row_value kind_value formula_kind
   not-row k =
-      rw k (bit_not (get_or values (row_at words i).a 0) (ready.value-bits (row_at words i).a (not-ref k)))
+      rw k (bit_not (get_or values (row_at words i).a 0) (ready.value_bits (row_at words i).a (not-ref k)))
 
   module _
       (d0 : (row_at words i).kind ≡ 0 → ⊥)
@@ -130,16 +130,16 @@ module _ {words : List ℕ} {i : ℕ} {s values : List ℕ} (ready : RowReady wo
     pub join-refs :
         (4 ≤ (row_at words i).kind) × ((row_at words i).kind < 8) × ((row_at words i).a < i) × ((row_at words i).b < i)
     join-refs =
-        rule-joins (length s) i (row_at words i).kind (row_at words i).a (row_at words i).b ready.rule d0 d1 d2 d3
+        rule_joins (length s) i (row_at words i).kind (row_at words i).a (row_at words i).b ready.rule d0 d1 d2 d3
 
     pub join-row :
-        bit (joins (formula-kind (row_at words i).kind) (told values (row_at words i).a) (told values (row_at words i).b))
-        ≡ bit (row-value s values (row_at words i))
-    unfolding row-value
+        bit (joins (formula_kind (row_at words i).kind) (told values (row_at words i).a) (told values (row_at words i).b))
+        ≡ bit (row_value s values (row_at words i))
+    unfolding row_value
     join-row =
         ap bit
         (sym
-        (join-value s values (row_at words i).kind (row_at words i).a (row_at words i).b join-refs.0 join-refs.1))
+        (join_value s values (row_at words i).kind (row_at words i).a (row_at words i).b join-refs.0 join-refs.1))
 
 -- what the loop has done before row i
 pub record Evaluating (words : List ℕ) (n : ℕ) (s before : List ℕ) (i : ℕ) (t : List ℕ) : Type 0 where
@@ -160,7 +160,7 @@ module _ {words : List ℕ} {from n : ℕ} {s scratch : List ℕ} (able : Valuab
 
   -- rows behind do not change a row's formula
   same-formula :
-      (m d j : ℕ) → m + d ≤ n → j < m → formula-of (rows_of (m + d) words) j ≡ formula-of (rows_of m words) j
+      (m d j : ℕ) → m + d ≤ n → j < m → formula_of (rows_of (m + d) words) j ≡ formula_of (rows_of m words) j
   unfolding upto
   same-formula m zero j h l = rw (add-zero m)
   same-formula m (suc d) j h l =
@@ -173,11 +173,11 @@ module _ {words : List ℕ} {from n : ℕ} {s scratch : List ℕ} (able : Valuab
       (m j : ℕ)
       → m ≤ n
       → j < m
-      → holds s (formula-of (rows_of m words) j) ≡ holds s (formula-of (rows_of n words) j)
+      → holds s (formula_of (rows_of m words) j) ≡ holds s (formula_of (rows_of n words) j)
   same-holds m j b l =
       let e : m + (n - m) ≡ n = omega arith in
       ap (holds s)
-      (sym (same-formula m (n - m) j (omega arith) l) ∙ ap (λ (k : ℕ). formula-of (rows_of k words) j) e)
+      (sym (same-formula m (n - m) j (omega arith) l) ∙ ap (λ (k : ℕ). formula_of (rows_of k words) j) e)
 
   pub same-values :
       (m : ℕ) (t : List ℕ) → m ≤ n → Values s (rows_of m words) m t → Values s (rows_of n words) m t
@@ -193,13 +193,13 @@ module _ {words : List ℕ} {from n : ℕ} {s scratch : List ℕ} (able : Valuab
         record {
           there = omega (arith, able.there);
           rule = able.rule i h;
-          state-bits = able.state-bits;
+          state_bits = able.state_bits;
           room = omega (arith, able.room, so_far.same);
-          value-bits = λ j l. rw (so_far.known.at j l) (bit-small (holds s (formula-of (rows_of n words) j)));
+          value_bits = λ j l. rw (so_far.known.at j l) (bit_small (holds s (formula_of (rows_of n words) j)));
         }
 
     pub one_more :
-        {x : ℕ} → x ≡ bit (row-value s t (row_at words i)) → Evaluating words n s scratch (i + 1) (set t i x)
+        {x : ℕ} → x ≡ bit (row_value s t (row_at words i)) → Evaluating words n s scratch (i + 1) (set t i x)
     one_more {x} e =
         record {
           inside = omega arith;

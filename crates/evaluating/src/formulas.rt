@@ -1,10 +1,10 @@
 // The values of formulas in a state, bottom-up.
 ghost use Rattle.std.specs.Prelude.{◌+◌, ◌≤◌, ◌<◌, ◌≡◌, eqb};
 ghost use Rattle.task.specs.Semantics.{holds};
-ghost use Rattle.task.specs.Table.{row_at, formula-kind};
-ghost use Rattle.task.specs.Tree.{formula-of};
-ghost use Rattle.task.specs.Inner.Values.{bit, row-value};
-ghost use Rattle.evaluating.specs.Inner.Values.{joins, truth-table, rows_of, RowReady, Valuable, Valued};
+ghost use Rattle.task.specs.Table.{row_at, formula_kind};
+ghost use Rattle.task.specs.Tree.{formula_of};
+ghost use Rattle.task.specs.Inner.Values.{bit, row_value};
+ghost use Rattle.evaluating.specs.Inner.Values.{joins, truth_table, rows_of, RowReady, Valuable, Valued};
 
 // Truth tables: bit 2x + y says what a kind makes of the bits x and y.
 const AND: u8 = 8;
@@ -18,7 +18,7 @@ const EQUIVALENT: u8 = 9;
 // The truth table of a kind that names two formulas. Constant time.
 fn truth_table(kind: u16) -> u8
     requires { (4 ≤ kind) × (kind < 8) }
-    ensures { result ≡ truth-table (formula-kind kind) }
+    ensures { result ≡ truth_table (formula_kind kind) }
 {
     match kind {
         4 => AND,
@@ -31,7 +31,7 @@ fn truth_table(kind: u16) -> u8
 // "and", "or", "implies", "equivalent" of two bits, without a branch for their values. Constant time.
 fn joined(kind: u16, x: u8, y: u8) -> u8
     requires { (4 ≤ kind) × (kind < 8) × (x ≤ 1) × (y ≤ 1) }
-    ensures { result ≡ bit (joins (formula-kind kind) (eqb x 1) (eqb y 1)) }
+    ensures { result ≡ bit (joins (formula_kind kind) (eqb x 1) (eqb y 1)) }
 {
     let truths = truth_table(kind);
     let place = (2 * x + y) as usize;
@@ -41,7 +41,7 @@ fn joined(kind: u16, x: u8, y: u8) -> u8
 // The value of row i, from the values of the rows below it. Constant time.
 fn value_of(formulas: &[u16], i: usize, state: &[u8], values: &[u8]) -> u8
     requires { RowReady formulas.now i state.now values.now }
-    ensures { result ≡ bit (row-value state.now values.now (row_at formulas.now i)) }
+    ensures { result ≡ bit (row_value state.now values.now (row_at formulas.now i)) }
 {
     let kind = formulas[3 * i];
     let a = formulas[3 * i + 1] as usize;
@@ -71,7 +71,7 @@ pub fn evaluate(formulas: &[u16], from: usize, to: usize, state: &[u8], scratch:
 // Whether a formula holds in the state; the values of the rows up to it stay at the front of scratch. Linear in those rows.
 pub fn holds(formulas: &[u16], formula: usize, state: &[u8], scratch: &mut [u8]) -> bool
     requires { Valuable formulas.now 0 (formula + 1) state.now scratch.old }
-    ensures value { result ≡ holds state.now (formula-of (rows_of (formula + 1) formulas.now) formula) }
+    ensures value { result ≡ holds state.now (formula_of (rows_of (formula + 1) formulas.now) formula) }
     ensures valued { Valued formulas.now (formula + 1) state.now scratch.old scratch.new }
 {
     evaluate(formulas, 0, formula + 1, state, scratch);

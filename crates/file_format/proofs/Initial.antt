@@ -14,10 +14,10 @@ use lib.Dec.{eqb}
 use borrow.Author.Tests.{eqb-true, eqb-false, eq-eqb, ne_eqb}
 use Rattle.task.specs.Bounded.{upto}
 use Rattle.task.proofs.Bounded.{length-upto, getD-upto}
-use Rattle.file_format.specs.Bytes.{number, bytes-for, packed}
-use Rattle.file_format.specs.Reading.{bit-of, spare-clear}
+use Rattle.file_format.specs.Bytes.{number, bytes_for, packed}
+use Rattle.file_format.specs.Reading.{bit_of, spare_clear}
 use Rattle.file_format.proofs.Parse.{Bytes}
-use Rattle.file_format.proofs.Fields.{double-pow}
+use Rattle.file_format.proofs.Fields.{double_pow}
 
 pub byte_at : (bytes : List ℕ) (j : ℕ) → Bytes bytes → get_or bytes j 0 < 256
 byte_at [] j b = omega arith
@@ -58,16 +58,16 @@ unfolding number
 number_more [] b = omega arith
 number_more (c ∷ bits) b =
     let i = number_more bits b in
-    let d : 2 ^ suc (length bits) * b ≡ 2 * (2 ^ length bits * b) = double-pow (length bits) b in
+    let d : 2 ^ suc (length bits) * b ≡ 2 * (2 ^ length bits * b) = double_pow (length bits) b in
     omega arith
 
 -- the number of the lowest n bits of x
-number-of-bits : (n x : ℕ) → number (upto n (λ k. x / 2 ^ k % 2)) ≡ x % 2 ^ n
+number_of_bits : (n x : ℕ) → number (upto n (λ k. x / 2 ^ k % 2)) ≡ x % 2 ^ n
 unfolding number upto
-number-of-bits zero x = omega arith
-number-of-bits (suc n) x =
+number_of_bits zero x = omega arith
+number_of_bits (suc n) x =
     number_more (upto n (λ k. x / 2 ^ k % 2)) (x / 2 ^ n % 2)
-    ∙ rw (length-upto n (λ k. x / 2 ^ k % 2), number-of-bits n x, ← (add-one n))
+    ∙ rw (length-upto n (λ k. x / 2 ^ k % 2), number_of_bits n x, ← (add-one n))
     (last ∙ ap (λ (m : ℕ). x % 2 ^ m) (omega arith))
   where
     last : x % 2 ^ n + 2 ^ n * (x / 2 ^ n % 2) ≡ x % 2 ^ (1 + n)
@@ -76,13 +76,13 @@ number-of-bits (suc n) x =
         omega (arith, mul_comm (2 ^ n) (x / 2 ^ n % 2))
 
 -- numbers of equal bits
-pub upto-same : (n : ℕ) (f g : ℕ → ℕ) → ((k : ℕ) → k < n → f k ≡ g k) → upto n f ≡ upto n g
+pub upto_same : (n : ℕ) (f g : ℕ → ℕ) → ((k : ℕ) → k < n → f k ≡ g k) → upto n f ≡ upto n g
 unfolding upto
-upto-same zero f g h = refl
-upto-same (suc n) f g h = rw (upto-same n f g (λ k l. h k (omega arith)), h n (omega arith))
+upto_same zero f g h = refl
+upto_same (suc n) f g h = rw (upto_same n f g (λ k l. h k (omega arith)), h n (omega arith))
 
-bits-upto : (n : ℕ) (f : ℕ → ℕ) → ((k : ℕ) → f k ≤ 1) → Bits (upto n f)
-bits-upto n f h k = go (dec_lt k n)
+bits_upto : (n : ℕ) (f : ℕ → ℕ) → ((k : ℕ) → f k ≤ 1) → Bits (upto n f)
+bits_upto n f h k = go (dec_lt k n)
   where
     go : Dec (k < n) → get_or (upto n f) k 0 ≤ 1
     go (yes l) = rw (getD-upto n f k 0 l) (h k)
@@ -91,8 +91,8 @@ bits-upto n f h k = go (dec_lt k n)
         rw (get_or-eq_default (upto n f) 0 e) (omega arith)
 
 -- bits of a state, also past its end
-pub bits-of-state : (state : List ℕ) → ((v : ℕ) → v < length state → get_or state v 0 ≤ 1) → Bits state
-bits-of-state state h v = go (dec_lt v (length state))
+pub bits_of_state : (state : List ℕ) → ((v : ℕ) → v < length state → get_or state v 0 ≤ 1) → Bits state
+bits_of_state state h v = go (dec_lt v (length state))
   where
     go : Dec (v < length state) → get_or state v 0 ≤ 1
     go (yes l) = h v l
@@ -101,43 +101,43 @@ bits-of-state state h v = go (dec_lt v (length state))
         rw (get_or-eq_default state 0 e) (omega arith)
 
 -- the byte that holds the eight variables from 8 × j on
-byte-number : List ℕ → ℕ → ℕ
-byte-number state j = number (upto 8 (λ k. get_or state (8 * j + k) 0))
+byte_number : List ℕ → ℕ → ℕ
+byte_number state j = number (upto 8 (λ k. get_or state (8 * j + k) 0))
 
-pub packed-length : (state : List ℕ) → length (packed state) ≡ bytes-for (length state)
+pub packed_length : (state : List ℕ) → length (packed state) ≡ bytes_for (length state)
 unfolding packed
-packed-length state = length-upto (bytes-for (length state)) (λ j. number (upto 8 (λ k. get_or state (8 * j + k) 0)))
+packed_length state = length-upto (bytes_for (length state)) (λ j. number (upto 8 (λ k. get_or state (8 * j + k) 0)))
 
-packed-at : (state : List ℕ) (j : ℕ) → j < bytes-for (length state) → get_or (packed state) j 0 ≡ byte-number state j
-unfolding packed byte-number
-packed-at state j h = getD-upto (bytes-for (length state)) (λ j. number (upto 8 (λ k. get_or state (8 * j + k) 0))) j 0 h
+packed_at : (state : List ℕ) (j : ℕ) → j < bytes_for (length state) → get_or (packed state) j 0 ≡ byte_number state j
+unfolding packed byte_number
+packed_at state j h = getD-upto (bytes_for (length state)) (λ j. number (upto 8 (λ k. get_or state (8 * j + k) 0))) j 0 h
 
-packed-bit : (state : List ℕ) → Bits state → (v : ℕ) → v < length state → bit-of (packed state) v ≡ get_or state v 0
-unfolding bit-of bytes-for byte-number
-packed-bit state b v h =
+packed_bit : (state : List ℕ) → Bits state → (v : ℕ) → v < length state → bit_of (packed state) v ≡ get_or state v 0
+unfolding bit_of bytes_for byte_number
+packed_bit state b v h =
     let bits = upto 8 (λ k. get_or state (8 * (v / 8) + k) 0) in
     let e : 8 * (v / 8) + v % 8 ≡ v = omega arith in
-    ap (λ (x : ℕ). x / 2 ^ (v % 8) % 2) (packed-at state (v / 8) (omega arith))
-    ∙ number_bit bits (v % 8) (bits-upto 8 (λ k. get_or state (8 * (v / 8) + k) 0) (λ k. b (8 * (v / 8) + k)))
+    ap (λ (x : ℕ). x / 2 ^ (v % 8) % 2) (packed_at state (v / 8) (omega arith))
+    ∙ number_bit bits (v % 8) (bits_upto 8 (λ k. get_or state (8 * (v / 8) + k) 0) (λ k. b (8 * (v / 8) + k)))
     ∙ getD-upto 8 (λ k. get_or state (8 * (v / 8) + k) 0) (v % 8) 0 (omega arith)
     ∙ ap (λ (x : ℕ). get_or state x 0) e
 
 -- a packed state has bytes
 pub packed_byte : (state : List ℕ) → Bits state → (j : ℕ) → j < length (packed state) → get_or (packed state) j 0 < 256
-unfolding byte-number
+unfolding byte_number
 packed_byte state b j h =
     let f : ℕ → ℕ = λ k. get_or state (8 * j + k) 0 in
     let past : (k : ℕ) → 8 ≤ k → get_or (upto 8 f) k 0 ≡ 0 = λ k m. get_or-eq_default (upto 8 f) 0 (omega (arith, length-upto 8 f)) in
-    rw (packed-at state j (rw (packed-length state) at h))
-    (number_lt 8 (upto 8 f) (bits-upto 8 f (λ k. b (8 * j + k))) past)
+    rw (packed_at state j (rw (packed_length state) at h))
+    (number_lt 8 (upto 8 f) (bits_upto 8 f (λ k. b (8 * j + k))) past)
 
 -- unpacking undoes packing
-pub unpacked-packed : (state : List ℕ) → Bits state → upto (length state) (bit-of (packed state)) ≡ state
-unpacked-packed state b =
-    ext_get_or 0 (upto (length state) (bit-of (packed state))) state (length-upto (length state) (bit-of (packed state)))
+pub unpacked_packed : (state : List ℕ) → Bits state → upto (length state) (bit_of (packed state)) ≡ state
+unpacked_packed state b =
+    ext_get_or 0 (upto (length state) (bit_of (packed state))) state (length-upto (length state) (bit_of (packed state)))
     (λ v h.
-    let l : v < length state = rw (length-upto (length state) (bit-of (packed state))) at h in
-    getD-upto (length state) (bit-of (packed state)) v 0 l ∙ packed-bit state b v l)
+    let l : v < length state = rw (length-upto (length state) (bit_of (packed state))) at h in
+    getD-upto (length state) (bit_of (packed state)) v 0 l ∙ packed_bit state b v l)
 
 or_right : (a b : Bool) → b ≡ true → (a || b) ≡ true
 or_right true b e = refl
@@ -146,29 +146,29 @@ or_right false b e = e
 or_left : (a b : Bool) → a ≡ true → (a || b) ≡ true
 or_left a b e = rw e
 
-or-second : (a b : Bool) → (a || b) ≡ true → a ≡ false → b ≡ true
-or-second a b e f = rw f at e
+or_second : (a b : Bool) → (a || b) ≡ true → a ≡ false → b ≡ true
+or_second a b e f = rw f at e
 
 -- the byte behind the last whole one: from the first spare bit on all is 0
-last-lt : (state : List ℕ) → Bits state → byte-number state (length state / 8) < 2 ^ (length state % 8)
-unfolding byte-number
-last-lt state b =
-    number_lt (length state % 8) (upto 8 f) (bits-upto 8 f (λ k. b (8 * (length state / 8) + k))) (λ k h. zero-at k h (dec_lt k 8))
+last_lt : (state : List ℕ) → Bits state → byte_number state (length state / 8) < 2 ^ (length state % 8)
+unfolding byte_number
+last_lt state b =
+    number_lt (length state % 8) (upto 8 f) (bits_upto 8 f (λ k. b (8 * (length state / 8) + k))) (λ k h. zero_at k h (dec_lt k 8))
   where
     f : ℕ → ℕ
     f k = get_or state (8 * (length state / 8) + k) 0
 
-    zero-at : (k : ℕ) → length state % 8 ≤ k → Dec (k < 8) → get_or (upto 8 f) k 0 ≡ 0
-    zero-at k h (yes l) =
+    zero_at : (k : ℕ) → length state % 8 ≤ k → Dec (k < 8) → get_or (upto 8 f) k 0 ≡ 0
+    zero_at k h (yes l) =
         let past : length state ≤ 8 * (length state / 8) + k = omega arith in
         getD-upto 8 f k 0 l ∙ get_or-eq_default state 0 past
-    zero-at k h (no m) =
+    zero_at k h (no m) =
         let past : length (upto 8 f) ≤ k = omega (arith, length-upto 8 f) in
         get_or-eq_default (upto 8 f) 0 past
 
-pub packed-clear : (state : List ℕ) → Bits state → spare-clear (packed state) (length state) ≡ true
-unfolding spare-clear bytes-for
-packed-clear state b = go (eqb (length state % 8) 0) refl
+pub packed_clear : (state : List ℕ) → Bits state → spare_clear (packed state) (length state) ≡ true
+unfolding spare_clear bytes_for
+packed_clear state b = go (eqb (length state % 8) 0) refl
   where
     byte : ℕ
     byte = get_or (packed state) (length state / 8) 0
@@ -178,25 +178,25 @@ packed-clear state b = go (eqb (length state % 8) 0) refl
     go false e =
         let some : length state % 8 ≡ 0 → ⊥ = eqb-false (length state % 8) 0 e in
         let inside : length state / 8 < (length state + 7) / 8 = omega arith in
-        let small : byte < 2 ^ (length state % 8) = rw (packed-at state (length state / 8) inside) (last-lt state b) in
+        let small : byte < 2 ^ (length state % 8) = rw (packed_at state (length state / 8) inside) (last_lt state b) in
         or_right (eqb (length state % 8) 0) (eqb (byte / 2 ^ (length state % 8)) 0)
         (eq-eqb (byte / 2 ^ (length state % 8)) 0 (div-eq_of_lt small))
 
 -- packing undoes unpacking, of bytes whose spare bits are 0
-module _ (bytes : List ℕ) (v : ℕ) (b : Bytes bytes) (size : length bytes ≡ bytes-for v) (clear : spare-clear bytes v ≡ true) where
-  state-of : List ℕ
-  state-of = upto v (bit-of bytes)
+module _ (bytes : List ℕ) (v : ℕ) (b : Bytes bytes) (size : length bytes ≡ bytes_for v) (clear : spare_clear bytes v ≡ true) where
+  state_of : List ℕ
+  state_of = upto v (bit_of bytes)
 
   -- no bit stands behind the last variable
-  spare : (j k : ℕ) → j < bytes-for v → k < 8 → v ≤ 8 * j + k → get_or bytes j 0 / 2 ^ k % 2 ≡ 0
-  unfolding spare-clear bytes-for
+  spare : (j k : ℕ) → j < bytes_for v → k < 8 → v ≤ 8 * j + k → get_or bytes j 0 / 2 ^ k % 2 ≡ 0
+  unfolding spare_clear bytes_for
   spare j k hj hk past =
       let at : j ≡ v / 8 = omega arith in
       let some : v % 8 ≡ 0 → ⊥ = λ e. omega arith in
       let beyond : v % 8 ≤ k = omega arith in
       let none : get_or bytes (v / 8) 0 / 2 ^ (v % 8) ≡ 0 =
       eqb-true (get_or bytes (v / 8) 0 / 2 ^ (v % 8)) 0
-      (or-second (eqb (v % 8) 0) (eqb (get_or bytes (v / 8) 0 / 2 ^ (v % 8)) 0) clear (ne_eqb (v % 8) 0 some))
+      (or_second (eqb (v % 8) 0) (eqb (get_or bytes (v / 8) 0 / 2 ^ (v % 8)) 0) clear (ne_eqb (v % 8) 0 some))
       in
       let sum : v % 8 + (k - v % 8) ≡ k = omega arith in
       let shift : get_or bytes (v / 8) 0 / 2 ^ k ≡ 0 =
@@ -207,31 +207,31 @@ module _ (bytes : List ℕ) (v : ℕ) (b : Bytes bytes) (size : length bytes ≡
       in
       ap (λ (i : ℕ). get_or bytes i 0 / 2 ^ k % 2) at ∙ ap (λ (x : ℕ). x % 2) shift
 
-  bit_at : (j k : ℕ) → j < bytes-for v → k < 8 → Dec (8 * j + k < v) → get_or state-of (8 * j + k) 0 ≡ get_or bytes j 0 / 2 ^ k % 2
-  unfolding state-of bit-of
+  bit_at : (j k : ℕ) → j < bytes_for v → k < 8 → Dec (8 * j + k < v) → get_or state_of (8 * j + k) 0 ≡ get_or bytes j 0 / 2 ^ k % 2
+  unfolding state_of bit_of
   bit_at j k hj hk (yes l) =
       let q : (8 * j + k) / 8 ≡ j = omega arith in
       let r : (8 * j + k) % 8 ≡ k = omega arith in
-      getD-upto v (bit-of bytes) (8 * j + k) 0 l ∙ rw (q, r)
+      getD-upto v (bit_of bytes) (8 * j + k) 0 l ∙ rw (q, r)
   bit_at j k hj hk (no m) =
       let past : v ≤ 8 * j + k = omega arith in
-      let out : length (upto v (bit-of bytes)) ≤ 8 * j + k = rw (length-upto v (bit-of bytes)) past in
-      get_or-eq_default (upto v (bit-of bytes)) 0 out ∙ sym (spare j k hj hk past)
+      let out : length (upto v (bit_of bytes)) ≤ 8 * j + k = rw (length-upto v (bit_of bytes)) past in
+      get_or-eq_default (upto v (bit_of bytes)) 0 out ∙ sym (spare j k hj hk past)
 
-  number_at : (j : ℕ) → j < bytes-for v → byte-number state-of j ≡ get_or bytes j 0
-  unfolding byte-number
+  number_at : (j : ℕ) → j < bytes_for v → byte_number state_of j ≡ get_or bytes j 0
+  unfolding byte_number
   number_at j h =
-      ap number (upto-same 8 (λ k. get_or state-of (8 * j + k) 0) (λ k. get_or bytes j 0 / 2 ^ k % 2) (λ k l. bit_at j k h l (dec_lt (8 * j + k) v)))
-      ∙ number-of-bits 8 (get_or bytes j 0)
+      ap number (upto_same 8 (λ k. get_or state_of (8 * j + k) 0) (λ k. get_or bytes j 0 / 2 ^ k % 2) (λ k l. bit_at j k h l (dec_lt (8 * j + k) v)))
+      ∙ number_of_bits 8 (get_or bytes j 0)
       ∙ mod-eq_of_lt (byte_at bytes j b)
 
-  pub packed-unpacked : packed (upto v (bit-of bytes)) ≡ bytes
-  unfolding state-of
+  pub packed-unpacked : packed (upto v (bit_of bytes)) ≡ bytes
+  unfolding state_of
   packed-unpacked =
-      ext_get_or 0 (packed state-of) bytes (len ∙ sym size)
+      ext_get_or 0 (packed state_of) bytes (len ∙ sym size)
       (λ j h.
-      let l : j < bytes-for v = rw len at h in
-      packed-at state-of j (rw (length-upto v (bit-of bytes)) l) ∙ number_at j l)
+      let l : j < bytes_for v = rw len at h in
+      packed_at state_of j (rw (length-upto v (bit_of bytes)) l) ∙ number_at j l)
     where
-      len : length (packed state-of) ≡ bytes-for v
-      len = packed-length state-of ∙ ap bytes-for (length-upto v (bit-of bytes))
+      len : length (packed state_of) ≡ bytes_for v
+      len = packed_length state_of ∙ ap bytes_for (length-upto v (bit_of bytes))

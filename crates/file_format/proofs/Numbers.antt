@@ -7,10 +7,10 @@ use mathlib.Core.List.{List, [], ◌∷◌}
 use lib.Dec.{eqb}
 use Rattle.task.specs.declared.Head.{Head}
 use Rattle.task.specs.Table.{Operator, Task}
-use Rattle.task.specs.Check.{unless, counts-kept, goal-kept, operator-kept, percent_kept, operator-number}
-use Rattle.file_format.specs.Bytes.{head-defaults, row-defaults, operator-defaults, bytes-for}
-use Rattle.file_format.specs.Parse.{Parsed, parsed, unparsed, next, kept, byte-read, word_read, field-read, fields_read, mapped-read, table-read}
-use Rattle.file_format.specs.Reading.{Lengths, room, head_read, head-kept, initial-read, twin-read, row_read, formula-read, effect-read, operator-fields-read, operator-right, operator-read, tables-read, task-read, accepted, rejected, at-end, reading}
+use Rattle.task.specs.Check.{unless, counts_kept, goal_kept, operator_kept, percent_kept, operator_number}
+use Rattle.file_format.specs.Bytes.{head_defaults, row_defaults, operator_defaults, bytes_for}
+use Rattle.file_format.specs.Parse.{Parsed, parsed, unparsed, next, kept, byte_read, word_read, field_read, fields_read, mapped_read, table_read}
+use Rattle.file_format.specs.Reading.{Lengths, room, head_read, head_kept, initial_read, twin_read, row_read, formula_read, effect_read, operator_fields_read, operator_right, operator_read, tables_read, task_read, accepted, rejected, at_end, reading}
 
 -- 1 to 12, and 24
 pub data Told (n : ℕ) : Type 0 where
@@ -21,134 +21,134 @@ abbrev Numbered : {A : Type 0} → Parsed A → Type 0
 Numbered (parsed x rest) = Unit {0}
 Numbered (unparsed n) = Told n
 
-next-numbered :
+next_numbered :
     {A B : Type 0} (p : Parsed A) (more : A → List ℕ → Parsed B)
     → Numbered p
     → ((x : A) (rest : List ℕ) → Numbered (more x rest))
     → Numbered (next p more)
 unfolding next
-next-numbered (parsed x rest) more first second = second x rest
-next-numbered (unparsed n) more first second = first
+next_numbered (parsed x rest) more first second = second x rest
+next_numbered (unparsed n) more first second = first
 
-kept-numbered : {A : Type 0} (b : Bool) (n : ℕ) (x : A) (rest : List ℕ) → 1 ≤ n → n ≤ 12 → Numbered (kept b n x rest)
+kept_numbered : {A : Type 0} (b : Bool) (n : ℕ) (x : A) (rest : List ℕ) → 1 ≤ n → n ≤ 12 → Numbered (kept b n x rest)
 unfolding kept
-kept-numbered true n x rest least most = tt
-kept-numbered false n x rest least most = low least most
+kept_numbered true n x rest least most = tt
+kept_numbered false n x rest least most = low least most
 
-byte-numbered : (bytes : List ℕ) → Numbered (byte-read bytes)
-unfolding byte-read
-byte-numbered [] = low (omega arith) (omega arith)
-byte-numbered (x ∷ rest) = tt
+byte_numbered : (bytes : List ℕ) → Numbered (byte_read bytes)
+unfolding byte_read
+byte_numbered [] = low (omega arith) (omega arith)
+byte_numbered (x ∷ rest) = tt
 
-word-numbered : (bytes : List ℕ) → Numbered (word_read bytes)
+word_numbered : (bytes : List ℕ) → Numbered (word_read bytes)
 unfolding word_read
-word-numbered bytes =
-    next-numbered (byte-read bytes) _ (byte-numbered bytes)
-    (λ low rest. next-numbered (byte-read rest) _ (byte-numbered rest) (λ high rest. tt))
+word_numbered bytes =
+    next_numbered (byte_read bytes) _ (byte_numbered bytes)
+    (λ low rest. next_numbered (byte_read rest) _ (byte_numbered rest) (λ high rest. tt))
 
-field-numbered : (default bit : ℕ) (bytes : List ℕ) → Numbered (field-read default bit bytes)
-unfolding field-read
-field-numbered default zero bytes = tt
-field-numbered default (suc bit) bytes =
-    next-numbered (word_read bytes) _ (word-numbered bytes)
-    (λ w rest. kept-numbered (not (eqb w default)) 3 w rest (omega arith) (omega arith))
+field_numbered : (default bit : ℕ) (bytes : List ℕ) → Numbered (field_read default bit bytes)
+unfolding field_read
+field_numbered default zero bytes = tt
+field_numbered default (suc bit) bytes =
+    next_numbered (word_read bytes) _ (word_numbered bytes)
+    (λ w rest. kept_numbered (not (eqb w default)) 3 w rest (omega arith) (omega arith))
 
-fields-numbered : (ds : List ℕ) (m : ℕ) (bytes : List ℕ) → Numbered (fields_read ds m bytes)
+fields_numbered : (ds : List ℕ) (m : ℕ) (bytes : List ℕ) → Numbered (fields_read ds m bytes)
 unfolding fields_read
-fields-numbered [] m bytes = tt
-fields-numbered (d ∷ ds) m bytes =
-    next-numbered (field-read d (m % 2) bytes) _ (field-numbered d (m % 2) bytes)
-    (λ w rest. next-numbered (fields_read ds (m / 2) rest) _ (fields-numbered ds (m / 2) rest) (λ ws rest. tt))
+fields_numbered [] m bytes = tt
+fields_numbered (d ∷ ds) m bytes =
+    next_numbered (field_read d (m % 2) bytes) _ (field_numbered d (m % 2) bytes)
+    (λ w rest. next_numbered (fields_read ds (m / 2) rest) _ (fields_numbered ds (m / 2) rest) (λ ws rest. tt))
 
-mapped-numbered :
+mapped_numbered :
     {A : Type 0} (ds : List ℕ) (clear : ℕ → Bool) (made : ℕ → List ℕ → A) (bytes : List ℕ)
-    → Numbered (mapped-read ds clear made bytes)
-unfolding mapped-read
-mapped-numbered ds clear made bytes =
-    next-numbered (byte-read bytes) _ (byte-numbered bytes)
+    → Numbered (mapped_read ds clear made bytes)
+unfolding mapped_read
+mapped_numbered ds clear made bytes =
+    next_numbered (byte_read bytes) _ (byte_numbered bytes)
     (λ m rest.
-    next-numbered (kept (clear m) 2 m rest) _ (kept-numbered (clear m) 2 m rest (omega arith) (omega arith))
-    (λ m rest. next-numbered (fields_read ds m rest) _ (fields-numbered ds m rest) (λ ws rest. tt)))
+    next_numbered (kept (clear m) 2 m rest) _ (kept_numbered (clear m) 2 m rest (omega arith) (omega arith))
+    (λ m rest. next_numbered (fields_read ds m rest) _ (fields_numbered ds m rest) (λ ws rest. tt)))
 
-table-numbered :
+table_numbered :
     {A : Type 0} (row : ℕ → List A → List ℕ → Parsed A)
     → ((i : ℕ) (done : List A) (bytes : List ℕ) → Numbered (row i done bytes))
     → (n : ℕ) (bytes : List ℕ)
-    → Numbered (table-read row n bytes)
-unfolding table-read
-table-numbered row each zero bytes = tt
-table-numbered row each (suc i) bytes =
-    next-numbered (table-read row i bytes) _ (table-numbered row each i bytes)
-    (λ done rest. next-numbered (row i done rest) _ (each i done rest) (λ r rest. tt))
+    → Numbered (table_read row n bytes)
+unfolding table_read
+table_numbered row each zero bytes = tt
+table_numbered row each (suc i) bytes =
+    next_numbered (table_read row i bytes) _ (table_numbered row each i bytes)
+    (λ done rest. next_numbered (row i done rest) _ (each i done rest) (λ r rest. tt))
 
-initial-numbered : (v : ℕ) (bytes : List ℕ) → Numbered (initial-read v bytes)
-unfolding initial-read
-initial-numbered v bytes =
-    next-numbered (table-read (λ i done. byte-read) (bytes-for v) bytes) _
-    (table-numbered (λ i done. byte-read) (λ i done. byte-numbered) (bytes-for v) bytes)
-    (λ packed rest. kept-numbered _ 2 _ rest (omega arith) (omega arith))
+initial_numbered : (v : ℕ) (bytes : List ℕ) → Numbered (initial_read v bytes)
+unfolding initial_read
+initial_numbered v bytes =
+    next_numbered (table_read (λ i done. byte_read) (bytes_for v) bytes) _
+    (table_numbered (λ i done. byte_read) (λ i done. byte_numbered) (bytes_for v) bytes)
+    (λ packed rest. kept_numbered _ 2 _ rest (omega arith) (omega arith))
 
-twin-numbered : (bound k : ℕ) (done bytes : List ℕ) → Numbered (twin-read bound k done bytes)
-unfolding twin-read
-twin-numbered bound k done bytes =
-    next-numbered (word_read bytes) _ (word-numbered bytes) (λ w rest. kept-numbered _ 9 w rest (omega arith) (omega arith))
+twin_numbered : (bound k : ℕ) (done bytes : List ℕ) → Numbered (twin_read bound k done bytes)
+unfolding twin_read
+twin_numbered bound k done bytes =
+    next_numbered (word_read bytes) _ (word_numbered bytes) (λ w rest. kept_numbered _ 9 w rest (omega arith) (omega arith))
 
-operator-numbered : (f e : ℕ) (o : Operator) (rest : List ℕ) → Numbered (kept (operator-right f e o) (operator-number f e o) o rest)
-unfolding operator-number kept
-operator-numbered f e o rest = go (operator-kept f e o) (percent_kept o)
+operator_numbered : (f e : ℕ) (o : Operator) (rest : List ℕ) → Numbered (kept (operator_right f e o) (operator_number f e o) o rest)
+unfolding operator_number kept
+operator_numbered f e o rest = go (operator_kept f e o) (percent_kept o)
   where
     go : (a b : Bool) → let n = unless a 12 (unless b 24 0) in Numbered (kept (eqb n 0) n o rest)
     go true true = tt
     go true false = high refl
     go false b = low (omega arith) (omega arith)
 
-tables-numbered : (h : Head) (bytes : List ℕ) → Numbered (tables-read h bytes)
-unfolding tables-read formula-read row_read effect-read operator-read operator-fields-read
-tables-numbered h bytes =
-    next-numbered (initial-read h.variables bytes) _ (initial-numbered h.variables bytes)
+tables_numbered : (h : Head) (bytes : List ℕ) → Numbered (tables_read h bytes)
+unfolding tables_read formula_read row_read effect_read operator_read operator_fields_read
+tables_numbered h bytes =
+    next_numbered (initial_read h.variables bytes) _ (initial_numbered h.variables bytes)
     (λ initial rest.
-    next-numbered (table-read (twin-read (h.variables - h.twins)) h.twins rest) _
-    (table-numbered _ (twin-numbered (h.variables - h.twins)) h.twins rest)
+    next_numbered (table_read (twin_read (h.variables - h.twins)) h.twins rest) _
+    (table_numbered _ (twin_numbered (h.variables - h.twins)) h.twins rest)
     (λ originals rest.
-    next-numbered (table-read (formula-read h.variables) h.formulas rest) _
-    (table-numbered (formula-read h.variables)
+    next_numbered (table_read (formula_read h.variables) h.formulas rest) _
+    (table_numbered (formula_read h.variables)
     (λ i done bytes.
-    next-numbered (row_read bytes) _ (mapped-numbered row-defaults _ _ bytes)
-    (λ r rest. kept-numbered _ 10 r rest (omega arith) (omega arith)))
+    next_numbered (row_read bytes) _ (mapped_numbered row_defaults _ _ bytes)
+    (λ r rest. kept_numbered _ 10 r rest (omega arith) (omega arith)))
     h.formulas rest)
     (λ formulas rest.
-    next-numbered (table-read (effect-read h.variables h.formulas) h.effects rest) _
-    (table-numbered (effect-read h.variables h.formulas)
+    next_numbered (table_read (effect_read h.variables h.formulas) h.effects rest) _
+    (table_numbered (effect_read h.variables h.formulas)
     (λ i done bytes.
-    next-numbered (row_read bytes) _ (mapped-numbered row-defaults _ _ bytes)
-    (λ r rest. kept-numbered _ 11 r rest (omega arith) (omega arith)))
+    next_numbered (row_read bytes) _ (mapped_numbered row_defaults _ _ bytes)
+    (λ r rest. kept_numbered _ 11 r rest (omega arith) (omega arith)))
     h.effects rest)
     (λ effects rest.
-    next-numbered (table-read (operator-read h.formulas h.effects) h.operators rest) _
-    (table-numbered (operator-read h.formulas h.effects)
+    next_numbered (table_read (operator_read h.formulas h.effects) h.operators rest) _
+    (table_numbered (operator_read h.formulas h.effects)
     (λ i done bytes.
-    next-numbered (operator-fields-read bytes) _ (mapped-numbered operator-defaults _ _ bytes)
-    (λ o rest. operator-numbered h.formulas h.effects o rest))
+    next_numbered (operator_fields_read bytes) _ (mapped_numbered operator_defaults _ _ bytes)
+    (λ o rest. operator_numbered h.formulas h.effects o rest))
     h.operators rest)
     (λ operators rest. tt)))))
 
-task-numbered : (l : Lengths) (file : List ℕ) → Numbered (task-read l file)
-unfolding task-read head_read head-kept
-task-numbered l file =
-    next-numbered (head_read file) _ (mapped-numbered head-defaults _ _ file)
+task_numbered : (l : Lengths) (file : List ℕ) → Numbered (task_read l file)
+unfolding task_read head_read head_kept
+task_numbered l file =
+    next_numbered (head_read file) _ (mapped_numbered head_defaults _ _ file)
     (λ h rest.
-    next-numbered (head-kept l h rest) _
-    (next-numbered (kept (counts-kept h) 6 h rest) _ (kept-numbered _ 6 h rest (omega arith) (omega arith))
+    next_numbered (head_kept l h rest) _
+    (next_numbered (kept (counts_kept h) 6 h rest) _ (kept_numbered _ 6 h rest (omega arith) (omega arith))
     (λ h rest.
-    next-numbered (kept (goal-kept h) 7 h rest) _ (kept-numbered _ 7 h rest (omega arith) (omega arith))
-    (λ h rest. kept-numbered (room l h) 5 h rest (omega arith) (omega arith))))
-    tables-numbered)
+    next_numbered (kept (goal_kept h) 7 h rest) _ (kept_numbered _ 7 h rest (omega arith) (omega arith))
+    (λ h rest. kept_numbered (room l h) 5 h rest (omega arith) (omega arith))))
+    tables_numbered)
 
-pub rejected-by : (l : Lengths) (file : List ℕ) (n : ℕ) → reading l file ≡ rejected n → Told n
-unfolding reading at-end
-rejected-by l file n e = go (task-read l file) refl (task-numbered l file)
+pub rejected_by : (l : Lengths) (file : List ℕ) (n : ℕ) → reading l file ≡ rejected n → Told n
+unfolding reading at_end
+rejected_by l file n e = go (task_read l file) refl (task_numbered l file)
   where
-    go : (p : Parsed Task) → task-read l file ≡ p → Numbered p → Told n
+    go : (p : Parsed Task) → task_read l file ≡ p → Numbered p → Told n
     go (parsed t []) q b =
         let f : accepted t ≡ rejected n = rw q at e in
         absurd (let z : ◌≡◌ {A = ℕ} 0 1 = cc in omega arith)

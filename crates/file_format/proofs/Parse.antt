@@ -5,20 +5,20 @@ use native.Mathlib.Omega.{arith}
 use mathlib.Core.Path.{◌≡◌, refl, sym, ap, ◌∙◌}
 use mathlib.Core.Bool.{Bool, true, false}
 use mathlib.Core.List.{List, [], ◌∷◌, ◌++◌}
-use Rattle.file_format.specs.Parse.{Parsed, parsed, unparsed, next, kept, byte-read}
+use Rattle.file_format.specs.Parse.{Parsed, parsed, unparsed, next, kept, byte_read}
 
 -- each is a byte
 abbrev pub Bytes : List ℕ → Type 0
 Bytes [] = Unit {0}
 Bytes (x ∷ xs) = (x < 256) × Bytes xs
 
-pub bytes-behind : (front rest : List ℕ) → Bytes (front ++ rest) → Bytes rest
-bytes-behind [] rest h = h
-bytes-behind (x ∷ front) rest h = bytes-behind front rest h.1
+pub bytes_behind : (front rest : List ℕ) → Bytes (front ++ rest) → Bytes rest
+bytes_behind [] rest h = h
+bytes_behind (x ∷ front) rest h = bytes_behind front rest h.1
 
-pub bytes-front : (front rest : List ℕ) → Bytes (front ++ rest) → Bytes front
-bytes-front [] rest h = tt
-bytes-front (x ∷ front) rest h = (h.0, bytes-front front rest h.1)
+pub bytes_front : (front rest : List ℕ) → Bytes (front ++ rest) → Bytes front
+bytes_front [] rest h = tt
+bytes_front (x ∷ front) rest h = (h.0, bytes_front front rest h.1)
 
 module _ {A : Type 0} where
   pub parsed-value : {x y : A} {a b : List ℕ} → parsed x a ≡ parsed y b → x ≡ y
@@ -86,10 +86,10 @@ module _ {A : Type 0} where
       whole front (ap {B = Parsed A} (λ (z : A). parsed z front) (parsed-value e)) (sym (parsed-rest e))
   kept-stable false n y front more x rest e = absurd (refused-parsed e)
 
-pub byte-stable : Stable byte-read
-unfolding byte-read
-byte-stable [] more x rest e = short refl
-byte-stable (y ∷ front) more x rest e =
+pub byte_stable : Stable byte_read
+unfolding byte_read
+byte_stable [] more x rest e = short refl
+byte_stable (y ∷ front) more x rest e =
     whole front (ap {B = Parsed ℕ} (λ (z : ℕ). parsed z front) (parsed-value e)) (sym (parsed-rest e))
 
 module _ {A B : Type 0} (p : List ℕ → Parsed A) (f : A → List ℕ → Parsed B) where

@@ -5,7 +5,7 @@ use mathlib.Core.List.{List, [], ◌∷◌, ◌++◌}
 use Rattle.task.specs.Bounded.{upto}
 use Rattle.task.specs.Table.{Task}
 use Rattle.task.specs.Words.{joined, head_of}
-use Rattle.file_format.specs.Bytes.{file-of, head_bytes, head-fields, map_of, number, present, fields-bytes, field-bytes, word_bytes, row-bytes, operator-bytes, packed, bytes-for}
+use Rattle.file_format.specs.Bytes.{file_of, head_bytes, head_fields, map_of, number, present, fields_bytes, field_bytes, word_bytes, row_bytes, operator_bytes, packed, bytes_for}
 
 abbrev pub smallest : Task
 smallest =
@@ -18,6 +18,6 @@ smallest =
       goal = 0;
     }
 
-pub smallest-file : file-of smallest ≡ 0x04 ∷ 0x01 ∷ 0x00 ∷ 0x10 ∷ []
-unfolding file-of head_bytes head-fields map_of number present fields-bytes field-bytes word_bytes row-bytes packed bytes-for head_of joined upto
-smallest-file = refl
+pub smallest_file : file_of smallest ≡ 0x04 ∷ 0x01 ∷ 0x00 ∷ 0x10 ∷ []
+unfolding file_of head_bytes head_fields map_of number present fields_bytes field_bytes word_bytes row_bytes packed bytes_for head_of joined upto
+smallest_file = refl

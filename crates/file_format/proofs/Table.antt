@@ -9,9 +9,9 @@ use mathlib.Core.List.{List, [], ◌∷◌, ◌++◌, append_assoc, append-nil}
 use lib.ListN.{length, get_or, take, length-append, get_or-append}
 use lib.Seq.{take-suc, take-append-le, take-length, take-append_seam, get_or-append_seam}
 use Rattle.task.specs.Words.{joined}
-use Rattle.task.proofs.Words.{joined-append}
-use Rattle.file_format.specs.Parse.{Parsed, parsed, next, table-read}
-use Rattle.file_format.proofs.Parse.{Bytes, bytes-behind, parsed-value, parsed-rest, next-parsed, next-to, Stable, pure-stable, next-stable}
+use Rattle.task.proofs.Words.{joined_append}
+use Rattle.file_format.specs.Parse.{Parsed, parsed, next, table_read}
+use Rattle.file_format.proofs.Parse.{Bytes, bytes_behind, parsed-value, parsed-rest, next-parsed, next-to, Stable, pure-stable, next-stable}
 use Rattle.file_format.proofs.Fields.{Written}
 
 module _ {A : Type 0} (q : A → List ℕ) where
@@ -19,7 +19,7 @@ module _ {A : Type 0} (q : A → List ℕ) where
   pub joined-more : (xs : List A) (x : A) (rest : List ℕ) → joined q (xs ++ (x ∷ [])) ++ rest ≡ joined q xs ++ (q x ++ rest)
   unfolding joined
   joined-more xs x rest =
-      ap (λ (l : List ℕ). l ++ rest) (joined-append q xs (x ∷ []) ∙ ap (λ (l : List ℕ). joined q xs ++ l) (append-nil (q x)))
+      ap (λ (l : List ℕ). l ++ rest) (joined_append q xs (x ∷ []) ∙ ap (λ (l : List ℕ). joined q xs ++ l) (append-nil (q x)))
       ∙ append_assoc (joined q xs) (q x) rest
 
 module _ {A : Type 0} (q : A → List ℕ) (row : ℕ → List A → List ℕ → Parsed A) (d : A) where
@@ -30,14 +30,14 @@ module _ {A : Type 0} (q : A → List ℕ) (row : ℕ → List A → List ℕ �
       → (n : ℕ)
       → n ≤ length rows
       → (rest : List ℕ)
-      → table-read row n (joined q (take n rows) ++ rest) ≡ parsed (take n rows) rest
-  unfolding table-read joined
+      → table_read row n (joined q (take n rows) ++ rest) ≡ parsed (take n rows) rest
+  unfolding table_read joined
   reads_first rows each zero h rest = refl
   reads_first rows each (suc n) h rest =
       let r = get_or rows n d in
       let more : List A → List ℕ → Parsed (List A) = λ done rest. next (row n done rest) (λ r. parsed (done ++ (r ∷ []))) in
-      ap (λ (l : List A). table-read row (suc n) (joined q l ++ rest)) (take-suc rows n d h)
-      ∙ ap (table-read row (suc n)) (joined-more q (take n rows) r rest)
+      ap (λ (l : List A). table_read row (suc n) (joined q l ++ rest)) (take-suc rows n d h)
+      ∙ ap (table_read row (suc n)) (joined-more q (take n rows) r rest)
       ∙ next-to more (reads_first rows each n (omega arith) (q r ++ rest))
       ∙ next-to (λ r. parsed (take n rows ++ (r ∷ []))) (each n h rest)
       ∙ ap {B = Parsed (List A)} (λ (l : List A). parsed l rest) (sym (take-suc rows n d h))
@@ -46,7 +46,7 @@ module _ {A : Type 0} (q : A → List ℕ) (row : ℕ → List A → List ℕ �
       (rows : List A)
       → ((i : ℕ) → i < length rows → (rest : List ℕ) → row i (take i rows) (q (get_or rows i d) ++ rest) ≡ parsed (get_or rows i d) rest)
       → (rest : List ℕ)
-      → table-read row (length rows) (joined q rows ++ rest) ≡ parsed rows rest
+      → table_read row (length rows) (joined q rows ++ rest) ≡ parsed rows rest
   table-reads rows each rest =
       rw take-length at (reads_first rows each (length rows) (omega arith) rest)
 
@@ -79,17 +79,17 @@ module _ {A : Type 0} (q : A → List ℕ) (row : ℕ → List A → List ℕ �
       → {rows : List A}
       → {rest : List ℕ}
       → Bytes bytes
-      → table-read row n bytes ≡ parsed rows rest
+      → table_read row n bytes ≡ parsed rows rest
       → Table Rule n bytes rows rest
-  unfolding table-read joined
+  unfolding table_read joined
   table-parsed Rule one zero bytes {rows} {rest} b e =
       table_same (parsed-value e) (parsed-rest e) (record { same = refl; size = refl; each = λ i h. absurd (not-suc-le-zero h) })
   table-parsed Rule one (suc n) bytes {rows} {rest} b e =
-      let s = next-parsed (table-read row n bytes) (λ done rest. next (row n done rest) (λ r. parsed (done ++ (r ∷ [])))) e in
+      let s = next-parsed (table_read row n bytes) (λ done rest. next (row n done rest) (λ r. parsed (done ++ (r ∷ [])))) e in
       let t = table-parsed Rule one n bytes b s.first in
       let done = s.value in
       let u = next-parsed (row n done s.mid) (λ r. parsed (done ++ (r ∷ []))) s.second in
-      let below : Bytes s.mid = bytes-behind (joined q done) s.mid (rw t.same at b) in
+      let below : Bytes s.mid = bytes_behind (joined q done) s.mid (rw t.same at b) in
       let w = one n done s.mid u.value u.mid below u.first in
       let size : length (done ++ (u.value ∷ [])) ≡ suc n = length-append done (u.value ∷ []) ∙ add-one (length done) ∙ ap suc t.size in
       table_same (parsed-value u.second) (parsed-rest u.second)
@@ -100,9 +100,9 @@ module _ {A : Type 0} (q : A → List ℕ) (row : ℕ → List A → List ℕ �
       })
 
 module _ {A : Type 0} (row : ℕ → List A → List ℕ → Parsed A) where
-  pub table-stable : ((i : ℕ) (done : List A) → Stable (row i done)) → (n : ℕ) → Stable (table-read row n)
-  unfolding table-read
+  pub table-stable : ((i : ℕ) (done : List A) → Stable (row i done)) → (n : ℕ) → Stable (table_read row n)
+  unfolding table_read
   table-stable one zero = pure-stable []
   table-stable one (suc n) =
-      next-stable (table-read row n) (λ done rest. next (row n done rest) (λ r. parsed (done ++ (r ∷ [])))) (table-stable one n)
+      next-stable (table_read row n) (λ done rest. next (row n done rest) (λ r. parsed (done ++ (r ∷ [])))) (table-stable one n)
       (λ done. next-stable (row n done) (λ r. parsed (done ++ (r ∷ []))) (one n done) (λ r. pure-stable (done ++ (r ∷ []))))

@@ -3,7 +3,7 @@ use Rattle.std.specs.Prelude.{ℕ, ◌+◌, ◌*◌, ◌/◌, ◌%◌, cond, Lis
 use Rattle.task.specs.declared.Head.{Head}
 use Rattle.task.specs.Bounded.{upto}
 use Rattle.task.specs.Table.{Row, Operator, Task}
-use Rattle.task.specs.Words.{joined, head_of, operator-row-words}
+use Rattle.task.specs.Words.{joined, head_of, operator_row_words}
 
 -- the number whose bits these are, the lowest first
 unfoldable pub number : List ℕ → ℕ
@@ -15,17 +15,17 @@ unfoldable pub word_bytes : ℕ → List ℕ
 word_bytes w = w % 256 ∷ w / 256 ∷ []
 
 -- an absent field is its default and a present one is not: so a field that is its default has no bytes, and one task has one file
-unfoldable pub field-bytes : (default w : ℕ) → List ℕ
-field-bytes default w = cond (eqb w default) [] (word_bytes w)
+unfoldable pub field_bytes : (default w : ℕ) → List ℕ
+field_bytes default w = cond (eqb w default) [] (word_bytes w)
 
 unfoldable pub present : (default w : ℕ) → ℕ
 present default w = cond (eqb w default) 0 1
 
 -- some fields by their defaults: their bytes, one after another
-unfoldable pub fields-bytes : (defaults fields : List ℕ) → List ℕ
-fields-bytes [] ws = []
-fields-bytes (d ∷ ds) [] = []
-fields-bytes (d ∷ ds) (w ∷ ws) = field-bytes d w ++ fields-bytes ds ws
+unfoldable pub fields_bytes : (defaults fields : List ℕ) → List ℕ
+fields_bytes [] ws = []
+fields_bytes (d ∷ ds) [] = []
+fields_bytes (d ∷ ds) (w ∷ ws) = field_bytes d w ++ fields_bytes ds ws
 
 -- and their bit map: the first field's bit is the lowest
 unfoldable pub map_of : (defaults fields : List ℕ) → ℕ
@@ -37,42 +37,42 @@ map_of (d ∷ ds) (w ∷ ws) = present d w + 2 * map_of ds ws
 abbrev pub zeros : List ℕ
 zeros = 0 ∷ 0 ∷ 0 ∷ []
 
-abbrev pub head-defaults : List ℕ
-head-defaults = zeros ++ zeros
+abbrev pub head_defaults : List ℕ
+head_defaults = zeros ++ zeros
 
-abbrev pub row-defaults : List ℕ
-row-defaults = 0 ∷ 0 ∷ []
+abbrev pub row_defaults : List ℕ
+row_defaults = 0 ∷ 0 ∷ []
 
-abbrev pub operator-defaults : List ℕ
-operator-defaults = 0 ∷ 0 ∷ 0 ∷ 100 ∷ []
+abbrev pub operator_defaults : List ℕ
+operator_defaults = 0 ∷ 0 ∷ 0 ∷ 100 ∷ []
 
-unfoldable pub head-fields : Head → List ℕ
-head-fields h = h.variables ∷ h.twins ∷ h.formulas ∷ h.effects ∷ h.operators ∷ h.goal ∷ []
+unfoldable pub head_fields : Head → List ℕ
+head_fields h = h.variables ∷ h.twins ∷ h.formulas ∷ h.effects ∷ h.operators ∷ h.goal ∷ []
 
 -- head map: bits 0 to 5 for V, W, F, E, O, goal
 unfoldable pub head_bytes : Head → List ℕ
-head_bytes h = map_of head-defaults (head-fields h) ∷ fields-bytes head-defaults (head-fields h)
+head_bytes h = map_of head_defaults (head_fields h) ∷ fields_bytes head_defaults (head_fields h)
 
 -- a formula's or an effect's row: bit 0 for a, bit 1 for b, the kind in bits 4 to 7
-unfoldable pub row-bytes : Row → List ℕ
-row-bytes r = (map_of row-defaults (r.a ∷ r.b ∷ []) + 16 * r.kind) ∷ fields-bytes row-defaults (r.a ∷ r.b ∷ [])
+unfoldable pub row_bytes : Row → List ℕ
+row_bytes r = (map_of row_defaults (r.a ∷ r.b ∷ []) + 16 * r.kind) ∷ fields_bytes row_defaults (r.a ∷ r.b ∷ [])
 
 -- an operator's map uses bits 0 to 3
-unfoldable pub operator-bytes : Operator → List ℕ
-operator-bytes o = map_of operator-defaults (operator-row-words o) ∷ fields-bytes operator-defaults (operator-row-words o)
+unfoldable pub operator_bytes : Operator → List ℕ
+operator_bytes o = map_of operator_defaults (operator_row_words o) ∷ fields_bytes operator_defaults (operator_row_words o)
 
 -- the bytes that so many bits take
-unfoldable pub bytes-for : ℕ → ℕ
-bytes-for bits = (bits + 7) / 8
+unfoldable pub bytes_for : ℕ → ℕ
+bytes_for bits = (bits + 7) / 8
 
 -- variable v in bit v mod 8 of byte v / 8; past the last variable the bits are 0
 unfoldable pub packed : List ℕ → List ℕ
-packed state = upto (bytes-for (length state)) (λ j. number (upto 8 (λ k. get_or state (8 * j + k) 0)))
+packed state = upto (bytes_for (length state)) (λ j. number (upto 8 (λ k. get_or state (8 * j + k) 0)))
 
 -- the head, the initial state, the originals, the formulas, the effects, the operators
-unfoldable pub file-of : Task → List ℕ
-file-of t =
+unfoldable pub file_of : Task → List ℕ
+file_of t =
     head_bytes (head_of t)
     ++ (packed t.initial
     ++ (joined word_bytes t.originals
-    ++ (joined row-bytes t.formulas ++ (joined row-bytes t.effects ++ joined operator-bytes t.operators))))
+    ++ (joined row_bytes t.formulas ++ (joined row_bytes t.effects ++ joined operator_bytes t.operators))))

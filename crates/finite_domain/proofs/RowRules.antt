@@ -6,112 +6,112 @@ use mathlib.Core.List.{List}
 use lib.ListN.{length, get_or}
 use lib.Dec.{ltb}
 use borrow.Author.Tests.{ltb-true, lt-ltb}
-use Rattle.task.specs.Table.{Row, FormulaKind, false-kind, true-kind, variable-kind, not-kind, and-kind, or-kind, implies-kind, equivalent-kind, unknown-formula, EffectKind, empty-kind, set-kind, clear-kind, both-kind, under-kind, unknown-effect}
-use Rattle.task.specs.Check.{unless, formula-words-kept, effect-words-kept}
-use Rattle.task.proofs.RowRules.{formula-told, formula-passes, effect-told, effect-passes, passes, rest_of}
-use Rattle.finite_domain.specs.Table.{finite-formula-kind, finite-effect-kind}
-use Rattle.finite_domain.specs.Check.{value-kept, finite-formula-kept, formula-value-kept, finite-formula-number, finite-effect-kept, effect-value-kept, finite-effect-number}
+use Rattle.task.specs.Table.{Row, FormulaKind, false_kind, true_kind, variable_kind, not_kind, and_kind, or_kind, implies_kind, equivalent_kind, unknown_formula, EffectKind, empty_kind, set_kind, clear_kind, both_kind, under_kind, unknown_effect}
+use Rattle.task.specs.Check.{unless, formula_words_kept, effect_words_kept}
+use Rattle.task.proofs.RowRules.{formula_told, formula_passes, effect_told, effect_passes, passes, rest_of}
+use Rattle.finite_domain.specs.Table.{finite_formula_kind, finite_effect_kind}
+use Rattle.finite_domain.specs.Check.{value_kept, finite_formula_kept, formula_value_kept, finite_formula_number, finite_effect_kept, effect_value_kept, finite_effect_number}
 use Rattle.finite_domain.specs.Rules.{ValueRule, FiniteFormulaRule, FiniteEffectRule}
 
 -- the first v of the lent counts are the task's
 module _
     (lent counts : List ℕ) (v : ℕ) (long : length counts ≡ v) (same : (a : ℕ) → a < v → get_or counts a 0 ≡ get_or lent a 0)
   where
-    value-told : (a b : ℕ) → ltb a v ≡ true → value-kept lent a b ≡ true → ValueRule counts a b
-    unfolding value-kept
-    value-told a b p q =
+    value_told : (a b : ℕ) → ltb a v ≡ true → value_kept lent a b ≡ true → ValueRule counts a b
+    unfolding value_kept
+    value_told a b p q =
         let h = ltb-true a v p in
         record { variable = rw long h; value = rw (same a h) (ltb-true b (get_or lent a 0) q) }
 
     variable-passes : (a b : ℕ) → ValueRule counts a b → ltb a v ≡ true
     variable-passes a b r = lt-ltb a v (rw long at r.variable)
 
-    value_passes : (a b : ℕ) → ValueRule counts a b → value-kept lent a b ≡ true
-    unfolding value-kept
+    value_passes : (a b : ℕ) → ValueRule counts a b → value_kept lent a b ≡ true
+    unfolding value_kept
     value_passes a b r =
         let h : a < v = rw long at r.variable in
         lt-ltb b (get_or lent a 0) (rw (same a h) at r.value)
 
     module _ (i : ℕ) where
-      abbrev Formula-told : FormulaKind → (a b : ℕ) → ℕ
-      Formula-told k a b = unless (finite-formula-kept v i k a b) 10 (unless (formula-value-kept lent k a b) 26 0)
+      abbrev Formula_told : FormulaKind → (a b : ℕ) → ℕ
+      Formula_told k a b = unless (finite_formula_kept v i k a b) 10 (unless (formula_value_kept lent k a b) 26 0)
 
-      formula-kind-told : (k : FormulaKind) (a b : ℕ) → Formula-told k a b ≡ 0 → FiniteFormulaRule counts i k a b
-      unfolding finite-formula-kept formula-value-kept
-      formula-kind-told false-kind a b e = formula-told v i false-kind a b (passes (formula-words-kept v i false-kind a b) 9 0 e)
-      formula-kind-told true-kind a b e = formula-told v i true-kind a b (passes (formula-words-kept v i true-kind a b) 9 0 e)
-      formula-kind-told variable-kind a b e =
-          let rest = unless (value-kept lent a b) 26 0 in
-          value-told a b (passes (ltb a v) 9 rest e) (passes (value-kept lent a b) 25 0 (rest_of (ltb a v) 9 rest e))
-      formula-kind-told not-kind a b e = formula-told v i not-kind a b (passes (formula-words-kept v i not-kind a b) 9 0 e)
-      formula-kind-told and-kind a b e = formula-told v i and-kind a b (passes (formula-words-kept v i and-kind a b) 9 0 e)
-      formula-kind-told or-kind a b e = formula-told v i or-kind a b (passes (formula-words-kept v i or-kind a b) 9 0 e)
-      formula-kind-told implies-kind a b e =
-          formula-told v i implies-kind a b (passes (formula-words-kept v i implies-kind a b) 9 0 e)
-      formula-kind-told equivalent-kind a b e =
-          formula-told v i equivalent-kind a b (passes (formula-words-kept v i equivalent-kind a b) 9 0 e)
-      formula-kind-told unknown-formula a b e = false≢true (passes false 9 0 e)
+      formula-kind-told : (k : FormulaKind) (a b : ℕ) → Formula_told k a b ≡ 0 → FiniteFormulaRule counts i k a b
+      unfolding finite_formula_kept formula_value_kept
+      formula-kind-told false_kind a b e = formula_told v i false_kind a b (passes (formula_words_kept v i false_kind a b) 9 0 e)
+      formula-kind-told true_kind a b e = formula_told v i true_kind a b (passes (formula_words_kept v i true_kind a b) 9 0 e)
+      formula-kind-told variable_kind a b e =
+          let rest = unless (value_kept lent a b) 26 0 in
+          value_told a b (passes (ltb a v) 9 rest e) (passes (value_kept lent a b) 25 0 (rest_of (ltb a v) 9 rest e))
+      formula-kind-told not_kind a b e = formula_told v i not_kind a b (passes (formula_words_kept v i not_kind a b) 9 0 e)
+      formula-kind-told and_kind a b e = formula_told v i and_kind a b (passes (formula_words_kept v i and_kind a b) 9 0 e)
+      formula-kind-told or_kind a b e = formula_told v i or_kind a b (passes (formula_words_kept v i or_kind a b) 9 0 e)
+      formula-kind-told implies_kind a b e =
+          formula_told v i implies_kind a b (passes (formula_words_kept v i implies_kind a b) 9 0 e)
+      formula-kind-told equivalent_kind a b e =
+          formula_told v i equivalent_kind a b (passes (formula_words_kept v i equivalent_kind a b) 9 0 e)
+      formula-kind-told unknown_formula a b e = false≢true (passes false 9 0 e)
 
-      formula-kind-passes : (k : FormulaKind) (a b : ℕ) → FiniteFormulaRule counts i k a b → Formula-told k a b ≡ 0
-      unfolding finite-formula-kept formula-value-kept
-      formula-kind-passes false-kind a b r = rw (formula-passes v i false-kind a b r) refl
-      formula-kind-passes true-kind a b r = rw (formula-passes v i true-kind a b r) refl
-      formula-kind-passes variable-kind a b r = rw (variable-passes a b r, value_passes a b r) refl
-      formula-kind-passes not-kind a b r = rw (formula-passes v i not-kind a b r) refl
-      formula-kind-passes and-kind a b r = rw (formula-passes v i and-kind a b r) refl
-      formula-kind-passes or-kind a b r = rw (formula-passes v i or-kind a b r) refl
-      formula-kind-passes implies-kind a b r = rw (formula-passes v i implies-kind a b r) refl
-      formula-kind-passes equivalent-kind a b r = rw (formula-passes v i equivalent-kind a b r) refl
-      formula-kind-passes unknown-formula a b r = absurd r
+      formula-kind-passes : (k : FormulaKind) (a b : ℕ) → FiniteFormulaRule counts i k a b → Formula_told k a b ≡ 0
+      unfolding finite_formula_kept formula_value_kept
+      formula-kind-passes false_kind a b r = rw (formula_passes v i false_kind a b r) refl
+      formula-kind-passes true_kind a b r = rw (formula_passes v i true_kind a b r) refl
+      formula-kind-passes variable_kind a b r = rw (variable-passes a b r, value_passes a b r) refl
+      formula-kind-passes not_kind a b r = rw (formula_passes v i not_kind a b r) refl
+      formula-kind-passes and_kind a b r = rw (formula_passes v i and_kind a b r) refl
+      formula-kind-passes or_kind a b r = rw (formula_passes v i or_kind a b r) refl
+      formula-kind-passes implies_kind a b r = rw (formula_passes v i implies_kind a b r) refl
+      formula-kind-passes equivalent_kind a b r = rw (formula_passes v i equivalent_kind a b r) refl
+      formula-kind-passes unknown_formula a b r = absurd r
 
       pub finite-formula-told :
           (r : Row)
-          → finite-formula-number lent v i r ≡ 0
-          → FiniteFormulaRule counts i (finite-formula-kind r.kind) r.a r.b
-      unfolding finite-formula-number
-      finite-formula-told r e = formula-kind-told (finite-formula-kind r.kind) r.a r.b e
+          → finite_formula_number lent v i r ≡ 0
+          → FiniteFormulaRule counts i (finite_formula_kind r.kind) r.a r.b
+      unfolding finite_formula_number
+      finite-formula-told r e = formula-kind-told (finite_formula_kind r.kind) r.a r.b e
 
       pub finite-formula-passes :
           (r : Row)
-          → FiniteFormulaRule counts i (finite-formula-kind r.kind) r.a r.b
-          → finite-formula-number lent v i r ≡ 0
-      unfolding finite-formula-number
-      finite-formula-passes r rule = formula-kind-passes (finite-formula-kind r.kind) r.a r.b rule
+          → FiniteFormulaRule counts i (finite_formula_kind r.kind) r.a r.b
+          → finite_formula_number lent v i r ≡ 0
+      unfolding finite_formula_number
+      finite-formula-passes r rule = formula-kind-passes (finite_formula_kind r.kind) r.a r.b rule
 
     module _ (f i : ℕ) where
-      abbrev Effect-told : EffectKind → (a b : ℕ) → ℕ
-      Effect-told k a b = unless (finite-effect-kept v f i k a b) 11 (unless (effect-value-kept lent k a b) 26 0)
+      abbrev Effect_told : EffectKind → (a b : ℕ) → ℕ
+      Effect_told k a b = unless (finite_effect_kept v f i k a b) 11 (unless (effect_value_kept lent k a b) 26 0)
 
-      effect-kind-told : (k : EffectKind) (a b : ℕ) → Effect-told k a b ≡ 0 → FiniteEffectRule counts f i k a b
-      unfolding finite-effect-kept effect-value-kept
-      effect-kind-told empty-kind a b e = effect-told v f i empty-kind a b (passes (effect-words-kept v f i empty-kind a b) 10 0 e)
-      effect-kind-told set-kind a b e =
-          let rest = unless (value-kept lent a b) 26 0 in
-          value-told a b (passes (ltb a v) 10 rest e) (passes (value-kept lent a b) 25 0 (rest_of (ltb a v) 10 rest e))
-      effect-kind-told clear-kind a b e = false≢true (passes false 10 0 e)
-      effect-kind-told both-kind a b e = effect-told v f i both-kind a b (passes (effect-words-kept v f i both-kind a b) 10 0 e)
-      effect-kind-told under-kind a b e = effect-told v f i under-kind a b (passes (effect-words-kept v f i under-kind a b) 10 0 e)
-      effect-kind-told unknown-effect a b e = false≢true (passes false 10 0 e)
+      effect-kind-told : (k : EffectKind) (a b : ℕ) → Effect_told k a b ≡ 0 → FiniteEffectRule counts f i k a b
+      unfolding finite_effect_kept effect_value_kept
+      effect-kind-told empty_kind a b e = effect_told v f i empty_kind a b (passes (effect_words_kept v f i empty_kind a b) 10 0 e)
+      effect-kind-told set_kind a b e =
+          let rest = unless (value_kept lent a b) 26 0 in
+          value_told a b (passes (ltb a v) 10 rest e) (passes (value_kept lent a b) 25 0 (rest_of (ltb a v) 10 rest e))
+      effect-kind-told clear_kind a b e = false≢true (passes false 10 0 e)
+      effect-kind-told both_kind a b e = effect_told v f i both_kind a b (passes (effect_words_kept v f i both_kind a b) 10 0 e)
+      effect-kind-told under_kind a b e = effect_told v f i under_kind a b (passes (effect_words_kept v f i under_kind a b) 10 0 e)
+      effect-kind-told unknown_effect a b e = false≢true (passes false 10 0 e)
 
-      effect-kind-passes : (k : EffectKind) (a b : ℕ) → FiniteEffectRule counts f i k a b → Effect-told k a b ≡ 0
-      unfolding finite-effect-kept effect-value-kept
-      effect-kind-passes empty-kind a b r = rw (effect-passes v f i empty-kind a b r) refl
-      effect-kind-passes set-kind a b r = rw (variable-passes a b r, value_passes a b r) refl
-      effect-kind-passes clear-kind a b r = absurd r
-      effect-kind-passes both-kind a b r = rw (effect-passes v f i both-kind a b r) refl
-      effect-kind-passes under-kind a b r = rw (effect-passes v f i under-kind a b r) refl
-      effect-kind-passes unknown-effect a b r = absurd r
+      effect-kind-passes : (k : EffectKind) (a b : ℕ) → FiniteEffectRule counts f i k a b → Effect_told k a b ≡ 0
+      unfolding finite_effect_kept effect_value_kept
+      effect-kind-passes empty_kind a b r = rw (effect_passes v f i empty_kind a b r) refl
+      effect-kind-passes set_kind a b r = rw (variable-passes a b r, value_passes a b r) refl
+      effect-kind-passes clear_kind a b r = absurd r
+      effect-kind-passes both_kind a b r = rw (effect_passes v f i both_kind a b r) refl
+      effect-kind-passes under_kind a b r = rw (effect_passes v f i under_kind a b r) refl
+      effect-kind-passes unknown_effect a b r = absurd r
 
       pub finite-effect-told :
           (r : Row)
-          → finite-effect-number lent v f i r ≡ 0
-          → FiniteEffectRule counts f i (finite-effect-kind r.kind) r.a r.b
-      unfolding finite-effect-number
-      finite-effect-told r e = effect-kind-told (finite-effect-kind r.kind) r.a r.b e
+          → finite_effect_number lent v f i r ≡ 0
+          → FiniteEffectRule counts f i (finite_effect_kind r.kind) r.a r.b
+      unfolding finite_effect_number
+      finite-effect-told r e = effect-kind-told (finite_effect_kind r.kind) r.a r.b e
 
       pub finite-effect-passes :
           (r : Row)
-          → FiniteEffectRule counts f i (finite-effect-kind r.kind) r.a r.b
-          → finite-effect-number lent v f i r ≡ 0
-      unfolding finite-effect-number
-      finite-effect-passes r rule = effect-kind-passes (finite-effect-kind r.kind) r.a r.b rule
+          → FiniteEffectRule counts f i (finite_effect_kind r.kind) r.a r.b
+          → finite_effect_number lent v f i r ≡ 0
+      unfolding finite_effect_number
+      finite-effect-passes r rule = effect-kind-passes (finite_effect_kind r.kind) r.a r.b rule

@@ -2,29 +2,29 @@
 use Rattle.std.specs.Prelude.{ℕ, List, [], ◌∷◌, get_or, take}
 use Rattle.task.specs.declared.Head.{Head}
 use Rattle.task.specs.Bounded.{upto}
-use Rattle.task.specs.Table.{Row, Operator, row_at, operator-at, FormulaKind, false-kind, true-kind, variable-kind, not-kind, and-kind, or-kind, implies-kind, equivalent-kind, unknown-formula, EffectKind, empty-kind, set-kind, both-kind, under-kind, unknown-effect}
+use Rattle.task.specs.Table.{Row, Operator, row_at, operator_at, FormulaKind, false_kind, true_kind, variable_kind, not_kind, and_kind, or_kind, implies_kind, equivalent_kind, unknown_formula, EffectKind, empty_kind, set_kind, both_kind, under_kind, unknown_effect}
 
 -- 02, "formula kind 8, variable a has value b, replaces 2": 01's kinds, where the leaf, 01's variable, is kind 8 and has both words. Kind 2 is unknown here.
-unfoldable pub finite-formula-kind : ℕ → FormulaKind
-finite-formula-kind n =
+unfoldable pub finite_formula_kind : ℕ → FormulaKind
+finite_formula_kind n =
     get_or
-    (false-kind
-    ∷ true-kind
-    ∷ unknown-formula
-    ∷ not-kind
-    ∷ and-kind
-    ∷ or-kind
-    ∷ implies-kind
-    ∷ equivalent-kind
-    ∷ variable-kind
+    (false_kind
+    ∷ true_kind
+    ∷ unknown_formula
+    ∷ not_kind
+    ∷ and_kind
+    ∷ or_kind
+    ∷ implies_kind
+    ∷ equivalent_kind
+    ∷ variable_kind
     ∷ [])
     n
-    unknown-formula
+    unknown_formula
 
 -- 02, "effect kind 5, variable a becomes value b, replaces 1 and 2": 01's kinds, where the only atom, 01's set, is kind 5 and has both words.
-unfoldable pub finite-effect-kind : ℕ → EffectKind
-finite-effect-kind n =
-    get_or (empty-kind ∷ unknown-effect ∷ unknown-effect ∷ both-kind ∷ under-kind ∷ set-kind ∷ []) n unknown-effect
+unfoldable pub finite_effect_kind : ℕ → EffectKind
+finite_effect_kind n =
+    get_or (empty_kind ∷ unknown_effect ∷ unknown_effect ∷ both_kind ∷ under_kind ∷ set_kind ∷ []) n unknown_effect
 
 -- What a caller lends: the head, a value count and an initial value for each variable, and 01's three tables of rows.
 pub record FiniteLent : Type 0 where
@@ -45,17 +45,17 @@ pub record FiniteTask : Type 0 where
   pub goal : ℕ
 
 -- what a call on such tables is lent, from its arguments
-abbrev pub finite-lent : Head → (counts initial formulas effects operators : List ℕ) → FiniteLent
-finite-lent h c i f e o = record { head = h; counts = c; initial = i; formulas = f; effects = e; operators = o }
+abbrev pub finite_lent : Head → (counts initial formulas effects operators : List ℕ) → FiniteLent
+finite_lent h c i f e o = record { head = h; counts = c; initial = i; formulas = f; effects = e; operators = o }
 
 -- The task that lent tables hold. What is lent beyond the counts does not belong to it.
-unfoldable pub finite-task-of : FiniteLent → FiniteTask
-finite-task-of l =
+unfoldable pub finite_task_of : FiniteLent → FiniteTask
+finite_task_of l =
     record {
       counts = take l.head.variables l.counts;
       initial = take l.head.variables l.initial;
       formulas = upto l.head.formulas (row_at l.formulas);
       effects = upto l.head.effects (row_at l.effects);
-      operators = upto l.head.operators (operator-at l.operators);
+      operators = upto l.head.operators (operator_at l.operators);
       goal = l.head.goal;
     }

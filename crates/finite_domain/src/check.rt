@@ -1,9 +1,9 @@
 // The check of lent finite-domain tables: 0, or the first number in order.
 ghost use Rattle.std.specs.Prelude.{◌*◌, ◌≤◌, ◌≡◌, length};
 ghost use Rattle.task.specs.Inner.Tables.{width};
-ghost use Rattle.finite_domain.specs.Table.{finite-lent};
-ghost use Rattle.finite_domain.specs.Check.{finite-refusal};
-ghost use Rattle.finite_domain.specs.Inner.Tables.{finite-tables-number};
+ghost use Rattle.finite_domain.specs.Table.{finite_lent};
+ghost use Rattle.finite_domain.specs.Check.{finite_refusal};
+ghost use Rattle.finite_domain.specs.Inner.Tables.{finite_tables_number};
 
 use crate::counts::finite_counts_kept;
 use crate::lengths::finite_long_enough;
@@ -21,7 +21,7 @@ fn tables_number(
     operators: &[u16],
 ) -> u16
     requires { (head.variables ≤ length counts.now) × (3 * head.formulas ≤ length formulas.now) × (3 * head.effects ≤ length effects.now) × (width Table.Operators * head.operators ≤ length operators.now) }
-    ensures { result ≡ finite-tables-number head counts.now formulas.now effects.now operators.now }
+    ensures { result ≡ finite_tables_number head counts.now formulas.now effects.now operators.now }
 {
     let formula = rows_number(
         Table::Formulas,
@@ -55,7 +55,7 @@ pub fn check(
     effects: &[u16],
     operators: &[u16],
 ) -> u16
-    ensures { result ≡ finite-refusal (finite-lent head counts.now initial.now formulas.now effects.now operators.now) }
+    ensures { result ≡ finite_refusal (finite_lent head counts.now initial.now formulas.now effects.now operators.now) }
 {
     if !finite_counts_kept(head) {
         return 6;

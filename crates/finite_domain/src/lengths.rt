@@ -1,7 +1,7 @@
 // Whether lent tables are long enough for their counts: 5.
 ghost use Rattle.std.specs.Prelude.{◌≡◌};
-ghost use Rattle.finite_domain.specs.Table.{finite-lent};
-ghost use Rattle.finite_domain.specs.Check.{finite-long-enough};
+ghost use Rattle.finite_domain.specs.Table.{finite_lent};
+ghost use Rattle.finite_domain.specs.Check.{finite_long_enough};
 
 use task::Head;
 use task::operator_rows::OPERATOR_WORDS;
@@ -15,7 +15,7 @@ pub fn finite_long_enough(
     effects: &[u16],
     operators: &[u16],
 ) -> bool
-    ensures { result ≡ finite-long-enough (finite-lent head counts.now initial.now formulas.now effects.now operators.now) }
+    ensures { result ≡ finite_long_enough (finite_lent head counts.now initial.now formulas.now effects.now operators.now) }
 {
     if counts.len() < head.variables as usize {
         return false;

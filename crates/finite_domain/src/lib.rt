@@ -1,4 +1,6 @@
 // Tasks with named values (finite domains): their tables and the check of these; in specs/ their meaning and their plain run.
+#![tactic(auto)]
+
 pub mod check;
 mod counts;
 mod lengths;

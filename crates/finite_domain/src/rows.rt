@@ -1,10 +1,10 @@
 // The numbers of rows: 10 and 26 of formulas, 11 and 26 of effects, 12 and 24 of operators.
 ghost use Rattle.std.specs.Prelude.{◌*◌, ◌≤◌, ◌≡◌, length};
-ghost use Rattle.task.specs.Bounded.{first-number};
-ghost use Rattle.task.specs.Check.{unless as unless-kept};
+ghost use Rattle.task.specs.Bounded.{first_number};
+ghost use Rattle.task.specs.Check.{unless as unless_kept};
 ghost use Rattle.task.specs.Inner.Tables.{width};
-ghost use Rattle.finite_domain.specs.Check.{finite-formula-number, finite-effect-number};
-ghost use Rattle.finite_domain.specs.Inner.Tables.{finite-words-number, finite-row-number};
+ghost use Rattle.finite_domain.specs.Check.{finite_formula_number, finite_effect_number};
+ghost use Rattle.finite_domain.specs.Inner.Tables.{finite_words_number, finite_row_number};
 
 use crate::values::value_number;
 use task::rows::{effect_kept, formula_kept, operator_number};
@@ -13,7 +13,7 @@ use task::{Head, Table, TableRow};
 
 // The number, unless the rule is kept.
 fn unless(kept: bool, number: u16) -> u16
-    ensures { result ≡ unless-kept kept number 0 }
+    ensures { result ≡ unless_kept kept number 0 }
 {
     if kept { 0 } else { number }
 }
@@ -21,7 +21,7 @@ fn unless(kept: bool, number: u16) -> u16
 // The number of formula row i: kind 8 names a variable and its value, 2 is unknown, the others are as in 01. Constant time, as are the two below.
 fn formula_number(counts: &[u16], variables: usize, i: usize, kind: u16, a: u16, b: u16) -> u16
     requires { variables ≤ length counts.now }
-    ensures { result ≡ finite-formula-number counts.now variables i (record { kind = kind; a = a; b = b }) }
+    ensures { result ≡ finite_formula_number counts.now variables i (record { kind = kind; a = a; b = b }) }
 {
     match kind {
         8 => value_number(counts, variables, a, b, 10),
@@ -41,7 +41,7 @@ fn effect_number(
     b: u16,
 ) -> u16
     requires { variables ≤ length counts.now }
-    ensures { result ≡ finite-effect-number counts.now variables formulas i (record { kind = kind; a = a; b = b }) }
+    ensures { result ≡ finite_effect_number counts.now variables formulas i (record { kind = kind; a = a; b = b }) }
 {
     match kind {
         5 => value_number(counts, variables, a, b, 11),
@@ -54,7 +54,7 @@ fn effect_number(
 // The number of row i of a table: 0, or that of the rule which it breaks.
 fn row_number(table: Table, head: Head, counts: &[u16], i: usize, row: TableRow) -> u16
     requires { head.variables ≤ length counts.now }
-    ensures { result ≡ finite-words-number table head counts.now i row }
+    ensures { result ≡ finite_words_number table head counts.now i row }
 {
     let variables = head.variables as usize;
     let formulas = head.formulas as usize;
@@ -77,7 +77,7 @@ fn row_number(table: Table, head: Head, counts: &[u16], i: usize, row: TableRow)
 // The first number among the first `count` rows of a table, 0 if all keep their rule. Linear.
 pub fn rows_number(table: Table, head: Head, counts: &[u16], words: &[u16], count: usize) -> u16
     requires { (head.variables ≤ length counts.now) × (width table * count ≤ length words.now) }
-    ensures { result ≡ first-number count (finite-row-number table head counts.now words.now) }
+    ensures { result ≡ first_number count (finite_row_number table head counts.now words.now) }
 {
     let mut i = 0;
     while i < count {

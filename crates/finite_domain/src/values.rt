@@ -2,7 +2,7 @@
 ghost use Rattle.std.specs.Prelude.{◌≤◌, ◌≡◌, length, get_or, ltb};
 ghost use Rattle.task.specs.Bounded.{every};
 ghost use Rattle.task.specs.Check.{unless};
-ghost use Rattle.finite_domain.specs.Check.{count_kept, value-kept};
+ghost use Rattle.finite_domain.specs.Check.{count_kept, value_kept};
 
 use crate::MOST_VALUES;
 
@@ -34,7 +34,7 @@ pub fn value_counts_kept(counts: &[u16], variables: usize) -> bool
 // Whether each initial value is below its variable's count. Linear.
 pub fn initial_values_kept(counts: &[u16], initial: &[u16], variables: usize) -> bool
     requires { (variables ≤ length counts.now) × (variables ≤ length initial.now) }
-    ensures { result ≡ every variables (λ a. value-kept counts.now a (get_or initial.now a 0)) }
+    ensures { result ≡ every variables (λ a. value_kept counts.now a (get_or initial.now a 0)) }
 {
     let mut a = 0;
     while a < variables {
@@ -49,7 +49,7 @@ pub fn initial_values_kept(counts: &[u16], initial: &[u16], variables: usize) ->
 // The number of a row that names variable a and its value b: 0, the table's own number if there is no such variable, or 26. Constant time.
 pub fn value_number(counts: &[u16], variables: usize, a: u16, b: u16, own: u16) -> u16
     requires { variables ≤ length counts.now }
-    ensures { result ≡ unless (ltb a variables) own (unless (value-kept counts.now a b) 26 0) }
+    ensures { result ≡ unless (ltb a variables) own (unless (value_kept counts.now a b) 26 0) }
 {
     if variables <= a as usize {
         return own;

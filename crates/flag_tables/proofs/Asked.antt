@@ -6,31 +6,31 @@ use mathlib.Core.List.{List}
 use lib.ListN.{length, get_or, take}
 use lib.Seq.{get_or-take, length-take-le}
 use Rattle.task.specs.Bounded.{upto}
-use Rattle.task.specs.Table.{Row, row_at, operator-width, operator-at, FormulaKind, variable-kind, EffectKind, set-kind, both-kind, under-kind}
-use Rattle.task.specs.Rules.{no_row, no-operator, OperatorRule}
+use Rattle.task.specs.Table.{Row, row_at, operator_width, operator_at, FormulaKind, variable_kind, EffectKind, set_kind, both_kind, under_kind}
+use Rattle.task.specs.Rules.{no_row, no_operator, OperatorRule}
 use Rattle.task.specs.Words.{words_of}
 use Rattle.task.proofs.Bounded.{length-upto, getD-upto}
-use Rattle.finite_domain.specs.Table.{FiniteLent, finite-task-of, finite-formula-kind, finite-effect-kind}
+use Rattle.finite_domain.specs.Table.{FiniteLent, finite_task_of, finite_formula_kind, finite_effect_kind}
 use Rattle.finite_domain.specs.Rules.{ValueRule, FiniteFormulaRule, FiniteEffectRule, FiniteRules, FiniteLongEnough}
-use Rattle.finite_domain.specs.Run.{finite-operator-of}
-use Rattle.translation.specs.Flags.{first-flag}
-use Rattle.translation.specs.Inner.Rows.{flagged-formulas, flagged-effects}
-use Rattle.translation.specs.Translated.{guarded, effects-of, translated-operator, translated}
-use Rattle.translation.proofs.Flags.{first-flag-after}
+use Rattle.finite_domain.specs.Run.{finite_operator_of}
+use Rattle.translation.specs.Flags.{first_flag}
+use Rattle.translation.specs.Inner.Rows.{flagged_formulas, flagged_effects}
+use Rattle.translation.specs.Translated.{guarded, effects_of, translated_operator, translated}
+use Rattle.translation.proofs.Flags.{first_flag_after}
 use Rattle.flag_tables.specs.Inner.Front.{at_front}
-use Rattle.flag_tables.specs.Inner.Flags.{CountsReady, FirstFlags, rows-over, LeafReady, LeavesReady, ValuesReady}
-use Rattle.flag_tables.specs.Inner.Operators.{operators-over, OperatorsReady}
+use Rattle.flag_tables.specs.Inner.Flags.{CountsReady, FirstFlags, rows_over, LeafReady, LeavesReady, ValuesReady}
+use Rattle.flag_tables.specs.Inner.Operators.{operators_over, OperatorsReady}
 use Rattle.flag_tables.specs.Inner.Effects.{BecomesReady, EffectsReady, Tells}
-use Rattle.flag_tables.proofs.FirstFound.{first-flag-small, first-flag-lent}
+use Rattle.flag_tables.proofs.FirstFound.{first_flag_small, first_flag_lent}
 use Rattle.flag_tables.proofs.Flagged.{formulas-over, effects-over}
-use Rattle.flag_tables.proofs.OperatorRows.{operators-translated}
-use Rattle.flag_tables.proofs.EffectTable.{five-becomes}
+use Rattle.flag_tables.proofs.OperatorRows.{operators_translated}
+use Rattle.flag_tables.proofs.EffectTable.{five_becomes}
 
-eight-leaf : (n : ℕ) → n ≡ 8 → finite-formula-kind n ≡ variable-kind
-unfolding finite-formula-kind
-eight-leaf n e = rw e refl
+eight_leaf : (n : ℕ) → n ≡ 8 → finite_formula_kind n ≡ variable_kind
+unfolding finite_formula_kind
+eight_leaf n e = rw e refl
 
-module _ (l : FiniteLent) (rules : FiniteRules (finite-task-of l)) (long : FiniteLongEnough l) where
+module _ (l : FiniteLent) (rules : FiniteRules (finite_task_of l)) (long : FiniteLongEnough l) where
   abbrev v : ℕ
   v = l.head.variables
 
@@ -40,24 +40,24 @@ module _ (l : FiniteLent) (rules : FiniteRules (finite-task-of l)) (long : Finit
   width : length (take v counts) ≡ v
   width = length-take-le v counts long.counts
 
-  few-variables : v ≤ 64
-  unfolding finite-task-of
-  few-variables = omega (arith, width, rules.limits.variables)
+  few_variables : v ≤ 64
+  unfolding finite_task_of
+  few_variables = omega (arith, width, rules.limits.variables)
 
   few-values : (a : ℕ) → a < v → get_or counts a 0 ≤ 16
-  unfolding finite-task-of
-  few-values a h = rw (get_or-take v counts a 0 h) at (rules.count-high a (omega (arith, width)))
+  unfolding finite_task_of
+  few-values a h = rw (get_or-take v counts a 0 h) at (rules.count_high a (omega (arith, width)))
 
   pub counts-asked : (firsts : List ℕ) → v < length firsts → CountsReady counts v firsts
-  counts-asked firsts h = record { limit = few-variables; there = long.counts; small = few-values; space = h }
+  counts-asked firsts h = record { limit = few_variables; there = long.counts; small = few-values; space = h }
 
-  pub values-asked : (out : List ℕ) → first-flag counts v ≤ length out → ValuesReady counts l.initial v out
+  pub values-asked : (out : List ℕ) → first_flag counts v ≤ length out → ValuesReady counts l.initial v out
   values-asked out h = record { there = long.counts; values = long.initial; space = h }
 
   -- the rows, by their kinds
   formula-rule :
-      (i : ℕ) → i < l.head.formulas → let r = row_at l.formulas i in FiniteFormulaRule (take v counts) i (finite-formula-kind r.kind) r.a r.b
-  unfolding finite-task-of
+      (i : ℕ) → i < l.head.formulas → let r = row_at l.formulas i in FiniteFormulaRule (take v counts) i (finite_formula_kind r.kind) r.a r.b
+  unfolding finite_task_of
   formula-rule i h =
       let n = l.head.formulas in
       let rows = row_at l.formulas in
@@ -67,8 +67,8 @@ module _ (l : FiniteLent) (rules : FiniteRules (finite-task-of l)) (long : Finit
       (i : ℕ)
       → i < l.head.effects
       → let r = row_at l.effects i in
-      FiniteEffectRule (take v counts) l.head.formulas i (finite-effect-kind r.kind) r.a r.b
-  unfolding finite-task-of
+      FiniteEffectRule (take v counts) l.head.formulas i (finite_effect_kind r.kind) r.a r.b
+  unfolding finite_task_of
   effect-rule i h =
       let n = l.head.effects in
       let rows = row_at l.effects in
@@ -78,36 +78,36 @@ module _ (l : FiniteLent) (rules : FiniteRules (finite-task-of l)) (long : Finit
   formula-leaf : (i : ℕ) → i < l.head.formulas → (row_at l.formulas i).kind ≡ 8 → ValueRule (take v counts) (row_at l.formulas i).a (row_at l.formulas i).b
   formula-leaf i h e =
       let r = row_at l.formulas i in
-      subst (λ (k : FormulaKind). FiniteFormulaRule (take v counts) i k r.a r.b) (eight-leaf r.kind e) (formula-rule i h)
+      subst (λ (k : FormulaKind). FiniteFormulaRule (take v counts) i k r.a r.b) (eight_leaf r.kind e) (formula-rule i h)
 
   pub formula-variable : (i : ℕ) → i < l.head.formulas → (row_at l.formulas i).kind ≡ 8 → (row_at l.formulas i).a < v
   formula-variable i h e = omega (arith, width, (formula-leaf i h e).variable)
 
-  effect-kept :
+  effect_kept :
       (i : ℕ) (k : EffectKind)
       → i < l.head.effects
       → let r = row_at l.effects i in
-      finite-effect-kind r.kind ≡ k
+      finite_effect_kind r.kind ≡ k
       → FiniteEffectRule (take v counts) l.head.formulas i k r.a r.b
-  effect-kept i k h e =
+  effect_kept i k h e =
       let r = row_at l.effects i in
       subst (λ (x : EffectKind). FiniteEffectRule (take v counts) l.head.formulas i x r.a r.b) e (effect-rule i h)
 
   pub effect-variable : (i : ℕ) → i < l.head.effects → (row_at l.effects i).kind ≡ 5 → (row_at l.effects i).a < v
   effect-variable i h e =
-      omega (arith, width, (effect-kept i set-kind h (five-becomes (row_at l.effects i).kind e)).variable)
+      omega (arith, width, (effect_kept i set_kind h (five_becomes (row_at l.effects i).kind e)).variable)
 
   -- Once the first flags are found.
   module _ (firsts : List ℕ) (found : FirstFlags counts v firsts) (space : v < length firsts) where
     becomes-asked : (a b : ℕ) → ValueRule (take v counts) a b → BecomesReady counts firsts a b
     becomes-asked a b rule =
         let below : a < v = omega (arith, width, rule.variable) in
-        let all = first-flag-small counts v few-values v (omega arith) in
+        let all = first_flag_small counts v few-values v (omega arith) in
         record {
           counted = omega (arith, long.counts);
           told = omega arith;
           value = rw (get_or-take v counts a 0 below) at rule.value;
-          flags = omega (arith, found.at a (omega arith), first-flag-after counts a v below, few-variables);
+          flags = omega (arith, found.at a (omega arith), first_flag_after counts a v below, few_variables);
         }
 
     leaf-asked : (leaf : ℕ) (r : Row) → (r.kind ≡ leaf → ValueRule (take v counts) r.a r.b) → LeafReady firsts leaf r
@@ -133,23 +133,23 @@ module _ (l : FiniteLent) (rules : FiniteRules (finite-task-of l)) (long : Finit
           there = long.effects;
           space = h;
           leaves = λ i b.
-              leaf-asked 5 (row_at l.effects i) (λ e. effect-kept i set-kind b (five-becomes (row_at l.effects i).kind e));
+              leaf-asked 5 (row_at l.effects i) (λ e. effect_kept i set_kind b (five_becomes (row_at l.effects i).kind e));
         }
 
     -- the rows that are left are the source's over flags
-    pub formulas-left :
+    pub formulas_left :
         (before out : List ℕ)
-        → out ≡ at_front (words_of (rows-over firsts 8 2 l.formulas l.head.formulas)) before
-        → upto l.head.formulas (row_at out) ≡ flagged-formulas (finite-task-of l)
-    unfolding flagged-formulas finite-task-of
-    formulas-left before out e = formulas-over counts v firsts found l.formulas l.head.formulas before out formula-variable e
+        → out ≡ at_front (words_of (rows_over firsts 8 2 l.formulas l.head.formulas)) before
+        → upto l.head.formulas (row_at out) ≡ flagged_formulas (finite_task_of l)
+    unfolding flagged_formulas finite_task_of
+    formulas_left before out e = formulas-over counts v firsts found l.formulas l.head.formulas before out formula-variable e
 
-    pub effects-left :
+    pub effects_left :
         (before out : List ℕ)
-        → out ≡ at_front (words_of (rows-over firsts 5 1 l.effects l.head.effects)) before
-        → upto l.head.effects (row_at out) ≡ flagged-effects (finite-task-of l)
-    unfolding flagged-effects finite-task-of
-    effects-left before out e = effects-over counts v firsts found l.effects l.head.effects before out effect-variable e
+        → out ≡ at_front (words_of (rows_over firsts 5 1 l.effects l.head.effects)) before
+        → upto l.head.effects (row_at out) ≡ flagged_effects (finite_task_of l)
+    unfolding flagged_effects finite_task_of
+    effects_left before out e = effects-over counts v firsts found l.effects l.head.effects before out effect-variable e
 
     -- where the memo has a row for each formula
     pub effects-asked :
@@ -166,10 +166,10 @@ module _ (l : FiniteLent) (rules : FiniteRules (finite-task-of l)) (long : Finit
           rows = λ i b.
               let r = row_at l.effects i in
               record {
-                becomes = λ e. becomes-asked r.a r.b (effect-kept i set-kind b e);
-                both = λ e. effect-kept i both-kind b e;
+                becomes = λ e. becomes-asked r.a r.b (effect_kept i set_kind b e);
+                both = λ e. effect_kept i both_kind b e;
                 under = λ e.
-                    let rule = effect-kept i under-kind b e in
+                    let rule = effect_kept i under_kind b e in
                     record { there = omega (arith, rule.0); built = built r.a rule.0; effect = rule.1 };
               };
           placed = placed;
@@ -179,30 +179,30 @@ module _ (l : FiniteLent) (rules : FiniteRules (finite-task-of l)) (long : Finit
 
     -- the task's counts, and the rows at which its formulas stand
     pub effects-told :
-        (memo formulas-at : List ℕ)
-        → ((a : ℕ) → a < l.head.formulas → get_or memo a 0 ≡ get_or formulas-at a 0 + 1)
-        → Tells (take v counts) formulas-at l.effects l.head.effects counts firsts memo
-    effects-told memo formulas-at rows =
+        (memo formulas_at : List ℕ)
+        → ((a : ℕ) → a < l.head.formulas → get_or memo a 0 ≡ get_or formulas_at a 0 + 1)
+        → Tells (take v counts) formulas_at l.effects l.head.effects counts firsts memo
+    effects-told memo formulas_at rows =
         record {
           count = λ i b e.
-              let rule = effect-kept i set-kind b e in
+              let rule = effect_kept i set_kind b e in
               sym (get_or-take v counts (row_at l.effects i).a 0 (omega (arith, width, rule.variable)));
           first = λ i b e.
-              let rule = effect-kept i set-kind b e in
+              let rule = effect_kept i set_kind b e in
               let below : (row_at l.effects i).a < v = omega (arith, width, rule.variable) in
               found.at (row_at l.effects i).a (omega arith)
-              ∙ sym (first-flag-lent counts v (row_at l.effects i).a (omega arith));
-          formula = λ i b e. rows (row_at l.effects i).a (effect-kept i under-kind b e).0;
+              ∙ sym (first_flag_lent counts v (row_at l.effects i).a (omega arith));
+          formula = λ i b e. rows (row_at l.effects i).a (effect_kept i under_kind b e).0;
         }
 
   -- an operator's effect is one of the source's
-  operator-rule : (o : ℕ) → o < l.head.operators → OperatorRule l.head.formulas l.head.effects (operator-at l.operators o)
-  unfolding finite-task-of
+  operator-rule : (o : ℕ) → o < l.head.operators → OperatorRule l.head.formulas l.head.effects (operator_at l.operators o)
+  unfolding finite_task_of
   operator-rule o h =
       let n = l.head.operators in
-      let all = operator-at l.operators in
+      let all = operator_at l.operators in
       rw (
-        getD-upto n all o no-operator h,
+        getD-upto n all o no_operator h,
         length-upto l.head.formulas (row_at l.formulas),
         length-upto l.head.effects (row_at l.effects),
       )
@@ -212,7 +212,7 @@ module _ (l : FiniteLent) (rules : FiniteRules (finite-task-of l)) (long : Finit
       (preconditions places out : List ℕ)
       → l.head.operators ≤ length preconditions
       → l.head.effects ≤ length places
-      → operator-width * l.head.operators ≤ length out
+      → operator_width * l.head.operators ≤ length out
       → OperatorsReady l.operators l.head.operators preconditions places out
   operators-asked preconditions places out told placed fits =
       record {
@@ -223,13 +223,13 @@ module _ (l : FiniteLent) (rules : FiniteRules (finite-task-of l)) (long : Finit
       }
 
   -- the operators that are left are the translated task's
-  pub operators-left :
+  pub operators_left :
       (preconditions places : List ℕ)
-      → let t = finite-task-of l in
+      → let t = finite_task_of l in
       ((o : ℕ) → o < l.head.operators → get_or preconditions o 0 ≡ get_or (guarded t).value.preconditions o 0)
-      → ((e : ℕ) → e < l.head.effects → get_or places e 0 ≡ get_or (effects-of t).at e 0)
-      → operators-over l.operators preconditions places l.head.operators ≡ (translated t).operators
-  unfolding translated translated-operator finite-operator-of finite-task-of
-  operators-left preconditions places ps es =
-      operators-translated l.operators preconditions places l.head.operators (guarded (finite-task-of l)).value.preconditions
-      (effects-of (finite-task-of l)).at ps (λ o h. es (operator-at l.operators o).effect (operator-rule o h).changes)
+      → ((e : ℕ) → e < l.head.effects → get_or places e 0 ≡ get_or (effects_of t).at e 0)
+      → operators_over l.operators preconditions places l.head.operators ≡ (translated t).operators
+  unfolding translated translated_operator finite_operator_of finite_task_of
+  operators_left preconditions places ps es =
+      operators_translated l.operators preconditions places l.head.operators (guarded (finite_task_of l)).value.preconditions
+      (effects_of (finite_task_of l)).at ps (λ o h. es (operator_at l.operators o).effect (operator-rule o h).changes)

@@ -13,15 +13,15 @@ use Rattle.task.specs.declared.Table.{Table}
 use Rattle.task.specs.Table.{Row}
 use Rattle.task.specs.Words.{joined, row_words, words_of}
 use Rattle.task.specs.Inner.Stored.{three}
-use Rattle.task.proofs.Words.{length-words, words_append}
+use Rattle.task.proofs.Words.{length_words, words_append}
 use Rattle.normal_form.specs.Assembly.{Written}
-use Rattle.translation.specs.Effects.{and-row, and-clear, and-clears}
+use Rattle.translation.specs.Effects.{and_row, and_clear, and_clears}
 use Rattle.normal_form.proofs.Growth.{longer}
 use Rattle.translation.proofs.EffectRows.{clear-skips, clears-prefix}
 use Rattle.flag_tables.specs.declared.Chain.{Chain}
 use Rattle.flag_tables.specs.Inner.Front.{at_front}
-use Rattle.flag_tables.specs.Inner.Effects.{Holds, Ready, Writes, row_step, becomes-step}
-use Rattle.flag_tables.proofs.Front.{front-row, front_long}
+use Rattle.flag_tables.specs.Inner.Effects.{Holds, Ready, Writes, row_step, becomes_step}
+use Rattle.flag_tables.proofs.Front.{front_row, front_long}
 
 abbrev pub filled : Chain → Chain
 filled at = record { rows = at.rows; stands = at.stands; full = true }
@@ -65,12 +65,12 @@ module _ {step : Written → Written} {room : ℕ} {at : Chain} {before : List �
       }
 
 -- nothing is written
-pub writes-none :
+pub writes_none :
     {step : Written → Written} {room : ℕ} {at : Chain} {before : List ℕ}
     → Ready room at before
     → ((w : Written) → step w ≡ w)
     → Writes step room at before before at
-writes-none ready same =
+writes_none ready same =
     record {
       ready = ready;
       stays = λ t. t;
@@ -139,9 +139,9 @@ stored :
     → three t i r.kind r.a r.b ≡ at_front (words_of (rows ++ (r ∷ []))) first
 stored first t rows i r e l h =
     let room = ap length e ∙ front_long (words_of rows) first in
-    let size = length-words rows in
+    let size = length_words rows in
     ap (λ (x : List ℕ). three x i r.kind r.a r.b) e
-    ∙ front-row Table.Effects (words_of rows) first i (record { first = r.kind; second = r.a; third = r.b; fourth = 0 }) (omega arith)
+    ∙ front_row Table.Effects (words_of rows) first i (record { first = r.kind; second = r.a; third = r.b; fourth = 0 }) (omega arith)
     (omega arith)
     ∙ ap (λ (x : List ℕ). at_front x first) (one ∙ sym (words_append rows (r ∷ [])))
   where
@@ -151,8 +151,8 @@ stored first t rows i r e l h =
 length_three : (t : List ℕ) (i x y z : ℕ) → length (three t i x y z) ≡ length t
 length_three t i x y z = simp length-set
 
-one-longer : (rows : List Row) (r : Row) → length (rows ++ (r ∷ [])) ≡ length rows + 1
-one-longer rows r = length-append rows (r ∷ [])
+one_longer : (rows : List Row) (r : Row) → length (rows ++ (r ∷ [])) ≡ length rows + 1
+one_longer rows r = length-append rows (r ∷ [])
 
 -- One row.
 module _ (room : ℕ) (at : Chain) (t : List ℕ) (kind a b : ℕ) (ready : Ready room at t) where
@@ -160,28 +160,28 @@ module _ (room : ℕ) (at : Chain) (t : List ℕ) (kind a b : ℕ) (ready : Read
   this = record { kind = kind; a = a; b = b }
 
   pub row-full : room < at.rows + 1 → Writes (row_step kind a b) room at t t (filled at)
-  unfolding and-row
-  row-full h = writes-over ready (λ w first hold few. omega (arith, one-longer w.rows this, hold.rows))
+  unfolding and_row
+  row-full h = writes-over ready (λ w first hold few. omega (arith, one_longer w.rows this, hold.rows))
 
   pub row_done :
       at.full ≡ false
       → at.rows + 1 ≤ room
       → Writes (row_step kind a b) room at t (three t at.rows kind a b) (record { rows = at.rows + 1; stands = at.rows; full = false })
-  unfolding and-row
+  unfolding and_row
   row_done unfilled h =
       writes-done unfilled refl
       (record { within = h; space = omega (arith, length_three t at.rows kind a b, ready.space); limit = ready.limit })
       (λ w first hold.
       record {
-        rows = one-longer w.rows this ∙ omega (arith, hold.rows);
+        rows = one_longer w.rows this ∙ omega (arith, hold.rows);
         stands = hold.rows;
         words = stored first t w.rows at.rows this hold.words hold.rows (omega (arith, ready.space));
       })
 
 -- The clear of one flag.
 module _ (room : ℕ) (at : Chain) (t : List ℕ) (base d k : ℕ) (ready : Ready room at t) where
-  pub own-kept : k ≡ d → Writes (and-clear base d k) room at t t at
-  own-kept e = writes-none ready (λ w. clear-skips base d k w e)
+  pub own-kept : k ≡ d → Writes (and_clear base d k) room at t t at
+  own-kept e = writes_none ready (λ w. clear-skips base d k w e)
 
   abbrev clear : Row
   clear = record { kind = 2; a = base + k; b = 0 }
@@ -193,15 +193,15 @@ module _ (room : ℕ) (at : Chain) (t : List ℕ) (base d k : ℕ) (ready : Read
   cleared :
       (w : Written)
       → (k ≡ d → ⊥)
-      → and-clear base d k w
+      → and_clear base d k w
       ≡ record {
         rows = w.rows ++ (clear ∷ record { kind = 3; a = w.stands; b = length w.rows } ∷ []);
         stands = length w.rows + 1;
       }
-  unfolding and-clear
+  unfolding and_clear
   cleared w n = rw (ne_eqb k d n)
 
-  pub clear-full : (k ≡ d → ⊥) → room < at.rows + 2 → Writes (and-clear base d k) room at t t (filled at)
+  pub clear-full : (k ≡ d → ⊥) → room < at.rows + 2 → Writes (and_clear base d k) room at t t (filled at)
   clear-full n h =
       writes-over ready (λ w first hold few.
       omega (
@@ -211,17 +211,17 @@ module _ (room : ℕ) (at : Chain) (t : List ℕ) (base d k : ℕ) (ready : Read
         hold.rows,
       ))
 
-  abbrev two-rows : List ℕ
-  two-rows = three (three t at.rows 2 (base + k) 0) (at.rows + 1) 3 at.stands at.rows
+  abbrev two_rows : List ℕ
+  two_rows = three (three t at.rows 2 (base + k) 0) (at.rows + 1) 3 at.stands at.rows
 
-  length_two : length two-rows ≡ length t
+  length_two : length two_rows ≡ length t
   length_two = simp length-set
 
   pub clear-done :
       at.full ≡ false
       → (k ≡ d → ⊥)
       → at.rows + 2 ≤ room
-      → Writes (and-clear base d k) room at t two-rows (record { rows = at.rows + 2; stands = at.rows + 1; full = false })
+      → Writes (and_clear base d k) room at t two_rows (record { rows = at.rows + 2; stands = at.rows + 1; full = false })
   clear-done unfilled n h =
       writes-done unfilled refl
       (record { within = h; space = omega (arith, length_two, ready.space); limit = ready.limit }) holds
@@ -229,10 +229,10 @@ module _ (room : ℕ) (at : Chain) (t : List ℕ) (base d k : ℕ) (ready : Read
       holds :
           (w : Written) (first : List ℕ)
           → Holds w at first t
-          → Holds (and-clear base d k w) (record { rows = at.rows + 2; stands = at.rows + 1; full = false }) first two-rows
+          → Holds (and_clear base d k w) (record { rows = at.rows + 2; stands = at.rows + 1; full = false }) first two_rows
       holds w first hold =
           let one = stored first t w.rows at.rows clear hold.words hold.rows (omega (arith, ready.space)) in
-          let long = one-longer w.rows clear in
+          let long = one_longer w.rows clear in
           rw (cleared w n, hold.rows, hold.stands)
           (record {
             rows = length-append w.rows (clear ∷ both ∷ []) ∙ omega (arith, hold.rows);
@@ -244,9 +244,9 @@ module _ (room : ℕ) (at : Chain) (t : List ℕ) (base d k : ℕ) (ready : Read
           })
 
 -- rows only grow
-pub clear-grows : (base d k : ℕ) → Grows (and-clear base d k)
-unfolding and-clear
-clear-grows base d k w = go (eqb k d)
+pub clear_grows : (base d k : ℕ) → Grows (and_clear base d k)
+unfolding and_clear
+clear_grows base d k w = go (eqb k d)
   where
     more : List Row
     more = record { kind = 2; a = base + k; b = 0 } ∷ record { kind = 3; a = w.stands; b = length w.rows } ∷ []
@@ -257,34 +257,34 @@ clear-grows base d k w = go (eqb k d)
     go true = omega arith
     go false = omega (arith, length-append w.rows more)
 
-pub clears-grow : (base d n : ℕ) → Grows (and-clears base d n)
-clears-grow base d n w = longer w.rows (and-clears base d n w).rows (clears-prefix base d w n)
+pub clears_grow : (base d n : ℕ) → Grows (and_clears base d n)
+clears_grow base d n w = longer w.rows (and_clears base d n w).rows (clears-prefix base d w n)
 
 -- The loop over the values: the clears of those below k are written.
 module _ (base d : ℕ) {room : ℕ} {at : Chain} {before : List ℕ} where
-  pub clears-none : Ready room at before → Writes (and-clears base d 0) room at before before at
-  unfolding and-clears
-  clears-none ready = writes-none ready (λ w. refl)
+  pub clears-none : Ready room at before → Writes (and_clears base d 0) room at before before at
+  unfolding and_clears
+  clears-none ready = writes_none ready (λ w. refl)
 
   pub clears-more :
       {a r : Chain} {mid after : List ℕ} (k : ℕ)
-      → Writes (and-clears base d k) room at before mid a
-      → Writes (and-clear base d k) room a mid after r
-      → Writes (and-clears base d (k + 1)) room at before after r
-  unfolding and-clears
-  clears-more k x y = rw (add-one k) (writes_then (clear-grows base d k) x y)
+      → Writes (and_clears base d k) room at before mid a
+      → Writes (and_clear base d k) room a mid after r
+      → Writes (and_clears base d (k + 1)) room at before after r
+  unfolding and_clears
+  clears-more k x y = rw (add-one k) (writes_then (clear_grows base d k) x y)
 
   pub clears-all :
       {r : Chain} {after : List ℕ} (k n : ℕ)
       → k ≡ n
-      → Writes (and-clears base d k) room at before after r
-      → Writes (and-clears base d n) room at before after r
+      → Writes (and_clears base d k) room at before after r
+      → Writes (and_clears base d n) room at before after r
   clears-all k n e x = rw e at x
 
 -- the set, then the clears
-pub becomes-both :
+pub becomes_both :
     (base d n : ℕ) {room : ℕ} {at a r : Chain} {before mid after : List ℕ}
     → Writes (row_step 1 (base + d) 0) room at before mid a
-    → Writes (and-clears base d n) room a mid after r
-    → Writes (becomes-step base d n) room at before after r
-becomes-both base d n x y = writes_then (clears-grow base d n) x y
+    → Writes (and_clears base d n) room a mid after r
+    → Writes (becomes_step base d n) room at before after r
+becomes_both base d n x y = writes_then (clears_grow base d n) x y

@@ -10,64 +10,64 @@ use lib.ListN.{length, get_or, set, length-append, length-set}
 use Rattle.task.specs.declared.Table.{Table}
 use Rattle.task.specs.declared.TableRow.{TableRow}
 use Rattle.task.specs.Bounded.{upto}
-use Rattle.task.specs.Table.{Row, row_at, EffectKind, empty-kind, set-kind, clear-kind, both-kind, under-kind, unknown-effect}
+use Rattle.task.specs.Table.{Row, row_at, EffectKind, empty_kind, set_kind, clear_kind, both_kind, under_kind, unknown_effect}
 use Rattle.task.specs.Words.{joined, words_of}
-use Rattle.task.specs.Inner.Tables.{words-at}
+use Rattle.task.specs.Inner.Tables.{words_at}
 use Rattle.task.proofs.Bounded.{length-upto}
 use Rattle.normal_form.specs.Assembly.{Written}
-use Rattle.finite_domain.specs.Table.{finite-effect-kind}
-use Rattle.translation.specs.Effects.{becomes-rows, effect-rows-by, Effects, and-effect, effects-by}
+use Rattle.finite_domain.specs.Table.{finite_effect_kind}
+use Rattle.translation.specs.Effects.{becomes_rows, effect_rows_by, Effects, and_effect, effects_by}
 use Rattle.translation.proofs.EffectRows.{effects-counted, effect-longer, places_count}
 use Rattle.flag_tables.specs.declared.Chain.{Chain}
 use Rattle.flag_tables.specs.Inner.Front.{at_front}
 use Rattle.flag_tables.specs.Inner.Flags.{as_row}
-use Rattle.flag_tables.specs.Inner.Effects.{Holds, Ready, Writes, row_step, becomes-step, kind-step, source-step, SourceReady, EffectsReady, Tells, AllWritten}
-use Rattle.flag_tables.proofs.Front.{front-none, front-word, front_at}
+use Rattle.flag_tables.specs.Inner.Effects.{Holds, Ready, Writes, row_step, becomes_step, kind_step, source_step, SourceReady, EffectsReady, Tells, AllWritten}
+use Rattle.flag_tables.proofs.Front.{front_none, front_word, front_at}
 use Rattle.flag_tables.proofs.Chains.{writes_as}
 
 -- the kinds by their numbers
-pub five-becomes : (n : ℕ) → n ≡ 5 → finite-effect-kind n ≡ set-kind
-unfolding finite-effect-kind
-five-becomes n e = rw e refl
+pub five_becomes : (n : ℕ) → n ≡ 5 → finite_effect_kind n ≡ set_kind
+unfolding finite_effect_kind
+five_becomes n e = rw e refl
 
-pub three-both : (n : ℕ) → n ≡ 3 → finite-effect-kind n ≡ both-kind
-unfolding finite-effect-kind
-three-both n e = rw e refl
+pub three_both : (n : ℕ) → n ≡ 3 → finite_effect_kind n ≡ both_kind
+unfolding finite_effect_kind
+three_both n e = rw e refl
 
-pub four-under : (n : ℕ) → n ≡ 4 → finite-effect-kind n ≡ under-kind
-unfolding finite-effect-kind
-four-under n e = rw e refl
+pub four_under : (n : ℕ) → n ≡ 4 → finite_effect_kind n ≡ under_kind
+unfolding finite_effect_kind
+four_under n e = rw e refl
 
 -- One source row, by its kind.
 module _ (counts firsts memo places : List ℕ) (r : Row) {room : ℕ} {at s : Chain} {before after : List ℕ} where
   pub writes-becomes :
       r.kind ≡ 5
-      → Writes (becomes-step (get_or firsts r.a 0) r.b (get_or counts r.a 0)) room at before after s
-      → Writes (source-step counts firsts memo places r) room at before after s
-  unfolding kind-step
-  writes-becomes e x = writes_as (λ w. rw (five-becomes r.kind e)) x
+      → Writes (becomes_step (get_or firsts r.a 0) r.b (get_or counts r.a 0)) room at before after s
+      → Writes (source_step counts firsts memo places r) room at before after s
+  unfolding kind_step
+  writes-becomes e x = writes_as (λ w. rw (five_becomes r.kind e)) x
 
-  pub writes-both :
+  pub writes_both :
       r.kind ≡ 3
       → Writes (row_step 3 (get_or places r.a 0) (get_or places r.b 0)) room at before after s
-      → Writes (source-step counts firsts memo places r) room at before after s
-  unfolding kind-step
-  writes-both e x = writes_as (λ w. rw (three-both r.kind e)) x
+      → Writes (source_step counts firsts memo places r) room at before after s
+  unfolding kind_step
+  writes_both e x = writes_as (λ w. rw (three_both r.kind e)) x
 
   pub writes-under :
       r.kind ≡ 4
       → Writes (row_step 4 (get_or memo r.a 0 - 1) (get_or places r.b 0)) room at before after s
-      → Writes (source-step counts firsts memo places r) room at before after s
-  unfolding kind-step
-  writes-under e x = writes_as (λ w. rw (four-under r.kind e)) x
+      → Writes (source_step counts firsts memo places r) room at before after s
+  unfolding kind_step
+  writes-under e x = writes_as (λ w. rw (four_under r.kind e)) x
 
   pub writes-other :
       (r.kind ≡ 5 → ⊥)
       → (r.kind ≡ 3 → ⊥)
       → (r.kind ≡ 4 → ⊥)
       → Writes (row_step 0 0 0) room at before after s
-      → Writes (source-step counts firsts memo places r) room at before after s
-  unfolding kind-step finite-effect-kind
+      → Writes (source_step counts firsts memo places r) room at before after s
+  unfolding kind_step finite_effect_kind
   writes-other five three four x = writes_as (λ w. go w r.kind five three four) x
     where
       go :
@@ -75,7 +75,7 @@ module _ (counts firsts memo places : List ℕ) (r : Row) {room : ℕ} {at s : C
           → (n ≡ 5 → ⊥)
           → (n ≡ 3 → ⊥)
           → (n ≡ 4 → ⊥)
-          → kind-step counts firsts memo places (finite-effect-kind n) r.a r.b w ≡ row_step 0 0 0 w
+          → kind_step counts firsts memo places (finite_effect_kind n) r.a r.b w ≡ row_step 0 0 0 w
       go w zero p q s = refl
       go w (suc zero) p q s = refl
       go w (suc (suc zero)) p q s = refl
@@ -94,44 +94,44 @@ module _ (cs f effects : List ℕ) (n : ℕ) (counts firsts memo : List ℕ) (te
       → ((j : ℕ) → j < i → get_or places j 0 ≡ get_or at j 0)
       → (w : Written)
       → let r = row_at effects i in
-      source-step counts firsts memo places r w ≡ effect-rows-by cs f at w.rows (finite-effect-kind r.kind) r.a r.b
-  unfolding kind-step effect-rows-by becomes-rows
-  source_told i h ready places at same w = go (finite-effect-kind r.kind) refl
+      source_step counts firsts memo places r w ≡ effect_rows_by cs f at w.rows (finite_effect_kind r.kind) r.a r.b
+  unfolding kind_step effect_rows_by becomes_rows
+  source_told i h ready places at same w = go (finite_effect_kind r.kind) refl
     where
       r : Row
       r = row_at effects i
 
       go :
           (k : EffectKind)
-          → finite-effect-kind r.kind ≡ k
-          → kind-step counts firsts memo places k r.a r.b w ≡ effect-rows-by cs f at w.rows k r.a r.b
-      go empty-kind e = refl
-      go set-kind e = rw (tells.first i h e, tells.count i h e)
-      go clear-kind e = refl
-      go both-kind e = rw (same r.a (ready.both e).0, same r.b (ready.both e).1)
-      go under-kind e =
+          → finite_effect_kind r.kind ≡ k
+          → kind_step counts firsts memo places k r.a r.b w ≡ effect_rows_by cs f at w.rows k r.a r.b
+      go empty_kind e = refl
+      go set_kind e = rw (tells.first i h e, tells.count i h e)
+      go clear_kind e = refl
+      go both_kind e = rw (same r.a (ready.both e).0, same r.b (ready.both e).1)
+      go under_kind e =
           let stands : get_or memo r.a 0 - 1 ≡ get_or f r.a 0 = omega (arith, tells.formula i h e) in
           rw (stands, same r.b (ready.under e).effect)
-      go unknown-effect e = refl
+      go unknown_effect e = refl
 
 -- rows only grow
 module _ (cs f : List ℕ) where
-  effects-grow : (g : ℕ → Row) (i n : ℕ) → i ≤ n → length (effects-by cs f (upto i g)).rows ≤ length (effects-by cs f (upto n g)).rows
+  effects-grow : (g : ℕ → Row) (i n : ℕ) → i ≤ n → length (effects_by cs f (upto i g)).rows ≤ length (effects_by cs f (upto n g)).rows
   effects-grow g i zero h =
       let e : i ≡ 0 = omega arith in
       rw e (omega arith)
   effects-grow g i (suc n) h = go (effects-grow g i n) (dec_le i n)
     where
       go :
-          (i ≤ n → length (effects-by cs f (upto i g)).rows ≤ length (effects-by cs f (upto n g)).rows)
+          (i ≤ n → length (effects_by cs f (upto i g)).rows ≤ length (effects_by cs f (upto n g)).rows)
           → Dec (i ≤ n)
-          → length (effects-by cs f (upto i g)).rows ≤ length (effects-by cs f (upto (suc n) g)).rows
+          → length (effects_by cs f (upto i g)).rows ≤ length (effects_by cs f (upto (suc n) g)).rows
       go before (yes l) =
           rw (← add-one n)
           (omega (
             arith,
             before l,
-            effect-longer cs f (effects-by cs f (upto n g)) (g n),
+            effect-longer cs f (effects_by cs f (upto n g)) (g n),
             ap (λ (e : Effects). length e.rows) (effects-counted cs f n g),
           ))
       go before (no m) =
@@ -148,39 +148,39 @@ pub record SoFar (e : Effects) (i : ℕ) (places₀ out₀ places out : List ℕ
 -- The loop over the source rows.
 pub record Effecting (effects : List ℕ) (n : ℕ) (counts firsts memo places₀ out₀ : List ℕ) (room : ℕ) (places out : List ℕ) (at : Chain) (i : ℕ) : Type 0 where
   pub bound : i ≤ n
-  pub same-places : length places ≡ length places₀
+  pub same_places : length places ≡ length places₀
   pub same_out : length out ≡ length out₀
   pub unfilled : at.full ≡ false
   pub ready : Ready room at out
   pub so_far :
       (cs f : List ℕ)
       → Tells cs f effects n counts firsts memo
-      → SoFar (effects-by cs f (upto i (row_at effects))) i places₀ out₀ places out at
+      → SoFar (effects_by cs f (upto i (row_at effects))) i places₀ out₀ places out at
 
 -- what one source row asks, as it is read
 module _ (effects : List ℕ) (n : ℕ) (counts firsts memo places₀ out₀ : List ℕ) (room : ℕ)
     (asked : EffectsReady effects n counts firsts memo places₀ out₀ room) where
   pub effecting-none : Effecting effects n counts firsts memo places₀ out₀ room places₀ out₀ (record { rows = 0; stands = 0; full = false }) 0
-  unfolding effects-by upto words_of joined
+  unfolding effects_by upto words_of joined
   effecting-none =
       record {
         bound = omega arith;
-        same-places = refl;
+        same_places = refl;
         same_out = refl;
         unfilled = refl;
         ready = record { within = omega arith; space = asked.space; limit = asked.limit };
-        so_far = λ cs f t. record { rows = refl; many = refl; words = front-none out₀; told = front-none places₀ };
+        so_far = λ cs f t. record { rows = refl; many = refl; words = front_none out₀; told = front_none places₀ };
       }
 
   module _ {places out : List ℕ} {at : Chain} {i : ℕ} (c : Effecting effects n counts firsts memo places₀ out₀ room places out at i)
-      (h : i < n) (row : TableRow) (read : row ≡ words-at Table.Effects effects i) where
+      (h : i < n) (row : TableRow) (read : row ≡ words_at Table.Effects effects i) where
     same_row : as_row row ≡ row_at effects i
     same_row = ap as_row read
 
     pub effecting-asks : SourceReady counts firsts memo (length places) (as_row row)
     effecting-asks =
         let s = asked.rows i h in
-        let long : i ≤ length places = omega (arith, c.same-places, asked.placed) in
+        let long : i ≤ length places = omega (arith, c.same_places, asked.placed) in
         rw same_row
         (record {
           becomes = s.becomes;
@@ -188,18 +188,18 @@ module _ (effects : List ℕ) (n : ℕ) (counts firsts memo places₀ out₀ : L
           under = λ e. record { there = (s.under e).there; built = (s.under e).built; effect = omega (arith, (s.under e).effect) };
         })
 
-    module _ {out' : List ℕ} {r : Chain} (y : Writes (source-step counts firsts memo places (as_row row)) room at out out' r) where
+    module _ {out' : List ℕ} {r : Chain} (y : Writes (source_step counts firsts memo places (as_row row)) room at out out' r) where
       -- of a task that the tables tell
       module _ (cs f : List ℕ) (tells : Tells cs f effects n counts firsts memo) where
         abbrev now : Effects
-        now = effects-by cs f (upto i (row_at effects))
+        now = effects_by cs f (upto i (row_at effects))
 
         abbrev start : Written
         start = record { rows = now.rows; stands = at.stands }
 
         abbrev next : Written
         next =
-            effect-rows-by cs f now.at now.rows (finite-effect-kind (row_at effects i).kind) (row_at effects i).a (row_at effects i).b
+            effect_rows_by cs f now.at now.rows (finite_effect_kind (row_at effects i).kind) (row_at effects i).a (row_at effects i).b
 
         held : Holds start at out₀ out
         held = record { rows = (c.so_far cs f tells).rows; stands = refl; words = (c.so_far cs f tells).words }
@@ -209,16 +209,16 @@ module _ (effects : List ℕ) (n : ℕ) (counts firsts memo places₀ out₀ : L
             let s = c.so_far cs f tells in
             ap (λ (x : List ℕ). get_or x j 0) s.told ∙ front_at now.at places₀ j (omega (arith, s.many))
 
-        is-next : source-step counts firsts memo places (as_row row) start ≡ next
+        is-next : source_step counts firsts memo places (as_row row) start ≡ next
         is-next =
-            ap (λ (x : Row). source-step counts firsts memo places x start) same_row
+            ap (λ (x : Row). source_step counts firsts memo places x start) same_row
             ∙ source_told cs f effects n counts firsts memo tells i h (asked.rows i h) places now.at told_below start
 
-        written : effects-by cs f (upto (i + 1) (row_at effects)) ≡ record { rows = next.rows; at = now.at ++ (next.stands ∷ []) }
-        unfolding and-effect
+        written : effects_by cs f (upto (i + 1) (row_at effects)) ≡ record { rows = next.rows; at = now.at ++ (next.stands ∷ []) }
+        unfolding and_effect
         written = effects-counted cs f i (row_at effects)
 
-        further : r.full ≡ false → SoFar (effects-by cs f (upto (i + 1) (row_at effects))) (i + 1) places₀ out₀ (set places i r.stands) out' r
+        further : r.full ≡ false → SoFar (effects_by cs f (upto (i + 1) (row_at effects))) (i + 1) places₀ out₀ (set places i r.stands) out' r
         further q =
             let s = c.so_far cs f tells in
             let d : Holds next r out₀ out' = rw is-next at (y.done start out₀ held q) in
@@ -230,10 +230,10 @@ module _ (effects : List ℕ) (n : ℕ) (counts firsts memo places₀ out₀ : L
               told =
                   rw d.stands
                   (ap (λ (x : List ℕ). set x i r.stands) s.told
-                  ∙ front-word now.at places₀ i r.stands s.many (omega (arith, asked.placed)));
+                  ∙ front_word now.at places₀ i r.stands s.many (omega (arith, asked.placed)));
             })
 
-        too_many : r.full ≡ true → length (effects-by cs f (upto n (row_at effects))).rows ≤ room → ⊥
+        too_many : r.full ≡ true → length (effects_by cs f (upto n (row_at effects))).rows ≤ room → ⊥
         too_many q few =
             y.over start out₀ held c.unfilled q
             (omega (
@@ -250,7 +250,7 @@ module _ (effects : List ℕ) (n : ℕ) (counts firsts memo places₀ out₀ : L
       effecting-more q long =
           record {
             bound = omega arith;
-            same-places = length-set places i r.stands ∙ c.same-places;
+            same_places = length-set places i r.stands ∙ c.same_places;
             same_out = long ∙ c.same_out;
             unfilled = q;
             ready = y.ready;
@@ -262,7 +262,7 @@ module _ (effects : List ℕ) (n : ℕ) (counts firsts memo places₀ out₀ : L
           → r.full ≡ true
           → (cs f : List ℕ)
           → Tells cs f effects n counts firsts memo
-          → AllWritten (effects-by cs f (upto n (row_at effects))) room places₀ places' out₀ out' r
+          → AllWritten (effects_by cs f (upto n (row_at effects))) room places₀ places' out₀ out' r
       effecting-stops places' q cs f t =
           record {
             rows = λ e. absurd (true≢false (sym q ∙ e));
@@ -278,7 +278,7 @@ module _ (effects : List ℕ) (n : ℕ) (counts firsts memo places₀ out₀ : L
       → n ≤ i
       → (cs f : List ℕ)
       → Tells cs f effects n counts firsts memo
-      → AllWritten (effects-by cs f (upto n (row_at effects))) room places₀ places out₀ out at
+      → AllWritten (effects_by cs f (upto n (row_at effects))) room places₀ places out₀ out at
   effecting-all {i = i} c h cs f t =
       let e : i ≡ n = omega (arith, c.bound) in
       let s = c.so_far cs f t in
@@ -292,14 +292,14 @@ module _ (effects : List ℕ) (n : ℕ) (counts firsts memo places₀ out₀ : L
       })
 
 -- each place, once all rows are written
-pub places-read :
+pub places_read :
     (cs f effects : List ℕ) (n : ℕ) {room : ℕ} {places places' out out' : List ℕ} {r : Chain}
-    → AllWritten (effects-by cs f (upto n (row_at effects))) room places places' out out' r
+    → AllWritten (effects_by cs f (upto n (row_at effects))) room places places' out out' r
     → r.full ≡ false
     → (i : ℕ)
     → i < n
-    → get_or places' i 0 ≡ get_or (effects-by cs f (upto n (row_at effects))).at i 0
-places-read cs f effects n {places = places} w q i h =
-    let e = effects-by cs f (upto n (row_at effects)) in
+    → get_or places' i 0 ≡ get_or (effects_by cs f (upto n (row_at effects))).at i 0
+places_read cs f effects n {places = places} w q i h =
+    let e = effects_by cs f (upto n (row_at effects)) in
     ap (λ (x : List ℕ). get_or x i 0) (w.at q)
     ∙ front_at e.at places i (omega (arith, places_count cs f (upto n (row_at effects)), length-upto n (row_at effects)))

@@ -8,57 +8,57 @@ use lib.ListN.{length, get_or, take, drop, set, length-set}
 use lib.Seq.{get_or-take}
 use Rattle.task.specs.Bounded.{upto}
 use Rattle.task.proofs.Bounded.{length-upto, getD-upto}
-use Rattle.translation.specs.Flags.{first-flag}
+use Rattle.translation.specs.Flags.{first_flag}
 use Rattle.flag_tables.specs.Inner.Front.{at_front}
 use Rattle.flag_tables.specs.Inner.Flags.{CountsReady, FirstsFound}
-use Rattle.flag_tables.proofs.Front.{front-none, front-word, front_at, front-dropped}
+use Rattle.flag_tables.proofs.Front.{front_none, front_word, front_at, front_dropped}
 
 -- of at most 16 values each
-pub first-flag-small :
-    (counts : List ℕ) (v : ℕ) → ((a : ℕ) → a < v → get_or counts a 0 ≤ 16) → (a : ℕ) → a ≤ v → first-flag counts a ≤ 16 * a
-unfolding first-flag
-first-flag-small counts v small zero h = omega arith
-first-flag-small counts v small (suc a) h =
-    omega (arith, first-flag-small counts v small a (omega arith), small a (omega arith))
+pub first_flag_small :
+    (counts : List ℕ) (v : ℕ) → ((a : ℕ) → a < v → get_or counts a 0 ≤ 16) → (a : ℕ) → a ≤ v → first_flag counts a ≤ 16 * a
+unfolding first_flag
+first_flag_small counts v small zero h = omega arith
+first_flag_small counts v small (suc a) h =
+    omega (arith, first_flag_small counts v small a (omega arith), small a (omega arith))
 
 -- a task has the first v counts of those that are lent
-pub first-flag-lent : (counts : List ℕ) (v a : ℕ) → a ≤ v → first-flag (take v counts) a ≡ first-flag counts a
-unfolding first-flag
-first-flag-lent counts v zero h = refl
-first-flag-lent counts v (suc a) h = rw (first-flag-lent counts v a (omega arith), get_or-take v counts a 0 (omega arith))
+pub first_flag_lent : (counts : List ℕ) (v a : ℕ) → a ≤ v → first_flag (take v counts) a ≡ first_flag counts a
+unfolding first_flag
+first_flag_lent counts v zero h = refl
+first_flag_lent counts v (suc a) h = rw (first_flag_lent counts v a (omega arith), get_or-take v counts a 0 (omega arith))
 
 -- one number more
-pub upto-more : {A : Type 0} (n : ℕ) (f : ℕ → A) → upto (n + 1) f ≡ upto n f ++ (f n ∷ [])
+pub upto_more : {A : Type 0} (n : ℕ) (f : ℕ → A) → upto (n + 1) f ≡ upto n f ++ (f n ∷ [])
 unfolding upto
-upto-more n f = rw (add-one n)
+upto_more n f = rw (add-one n)
 
-pub upto-same : {A : Type 0} (n : ℕ) (f g : ℕ → A) → ((i : ℕ) → i < n → f i ≡ g i) → upto n f ≡ upto n g
+pub upto_same : {A : Type 0} (n : ℕ) (f g : ℕ → A) → ((i : ℕ) → i < n → f i ≡ g i) → upto n f ≡ upto n g
 unfolding upto
-upto-same zero f g h = refl
-upto-same (suc n) f g h = rw (upto-same n f g (λ i l. h i (omega arith)), h n (omega arith))
+upto_same zero f g h = refl
+upto_same (suc n) f g h = rw (upto_same n f g (λ i l. h i (omega arith)), h n (omega arith))
 
 -- The loop: the first flags of the variables below a are there.
 pub record Adding (counts : List ℕ) (v : ℕ) (before now : List ℕ) (sum a : ℕ) : Type 0 where
   pub bound : a ≤ v
   pub same : length now ≡ length before
-  pub so_far : sum ≡ first-flag counts a
-  pub words : now ≡ at_front (upto a (first-flag counts)) before
+  pub so_far : sum ≡ first_flag counts a
+  pub words : now ≡ at_front (upto a (first_flag counts)) before
 
 module _ (counts : List ℕ) (v : ℕ) (before : List ℕ) (ready : CountsReady counts v before) where
   pub adding-none : Adding counts v before before 0 0
-  unfolding first-flag upto
-  adding-none = record { bound = omega arith; same = refl; so_far = refl; words = front-none before }
+  unfolding first_flag upto
+  adding-none = record { bound = omega arith; same = refl; so_far = refl; words = front_none before }
 
-  pub adding-small : (a : ℕ) → a ≤ v → first-flag counts a ≤ 1024
-  adding-small a h = omega (arith, first-flag-small counts v ready.small a h, ready.limit)
+  pub adding-small : (a : ℕ) → a ≤ v → first_flag counts a ≤ 1024
+  adding-small a h = omega (arith, first_flag_small counts v ready.small a h, ready.limit)
 
   pub adding-word :
       (now : List ℕ) (sum a : ℕ)
       → Adding counts v before now sum a
-      → set now a sum ≡ at_front (upto (a + 1) (first-flag counts)) before
+      → set now a sum ≡ at_front (upto (a + 1) (first_flag counts)) before
   adding-word now sum a c =
-      rw (c.words, c.so_far, upto-more a (first-flag counts))
-      (front-word (upto a (first-flag counts)) before a (first-flag counts a) (length-upto a (first-flag counts))
+      rw (c.words, c.so_far, upto_more a (first_flag counts))
+      (front_word (upto a (first_flag counts)) before a (first_flag counts a) (length-upto a (first_flag counts))
       (omega (arith, c.bound, ready.space)))
 
   pub adding-more :
@@ -66,7 +66,7 @@ module _ (counts : List ℕ) (v : ℕ) (before : List ℕ) (ready : CountsReady 
       → Adding counts v before now sum a
       → a < v
       → Adding counts v before (set now a sum) (sum + get_or counts a 0) (a + 1)
-  unfolding first-flag
+  unfolding first_flag
   adding-more now sum a c h =
       record {
         bound = omega arith;
@@ -82,10 +82,10 @@ module _ (counts : List ℕ) (v : ℕ) (before : List ℕ) (ready : CountsReady 
       → FirstsFound counts v before (set now v sum) sum
   adding-all now sum a c h =
       let e : a ≡ v = omega (arith, c.bound) in
-      let all = upto (v + 1) (first-flag counts) in
+      let all = upto (v + 1) (first_flag counts) in
       let whole : set now v sum ≡ at_front all before = rw e at (adding-word now sum a c) in
-      let long = length-upto (v + 1) (first-flag counts) in
-      let total : sum ≡ first-flag counts v = rw e at c.so_far in
+      let long = length-upto (v + 1) (first_flag counts) in
+      let total : sum ≡ first_flag counts v = rw e at c.so_far in
       record {
         count = total;
         limit = omega (arith, total, adding-small v (omega arith));
@@ -94,7 +94,7 @@ module _ (counts : List ℕ) (v : ℕ) (before : List ℕ) (ready : CountsReady 
               at = λ b k.
                   ap (λ (l : List ℕ). get_or l b 0) whole
                   ∙ front_at all before b (omega (arith, long))
-                  ∙ getD-upto (v + 1) (first-flag counts) b 0 (omega arith);
+                  ∙ getD-upto (v + 1) (first_flag counts) b 0 (omega arith);
             };
-        behind = ap (drop (v + 1)) whole ∙ front-dropped all before (v + 1) (omega (arith, long));
+        behind = ap (drop (v + 1)) whole ∙ front_dropped all before (v + 1) (omega (arith, long));
       }

@@ -1,8 +1,8 @@
 // Effect rows behind those that stand, and the rows of "variable a becomes value d".
 ghost use Rattle.std.specs.Prelude.{◌≡◌, true, ◌+◌, ◌*◌, ◌≤◌, ◌<◌, length};
-ghost use Rattle.translation.specs.Effects.{and-clear, and-clears};
+ghost use Rattle.translation.specs.Effects.{and_clear, and_clears};
 ghost use Rattle.task.specs.Inner.Stored.{three};
-ghost use Rattle.flag_tables.specs.Inner.Effects.{row_step, becomes-step, Ready, Writes};
+ghost use Rattle.flag_tables.specs.Inner.Effects.{row_step, becomes_step, Ready, Writes};
 
 use crate::Chain;
 use task::table_rows::store_row;
@@ -66,7 +66,7 @@ pub fn write_row(out: &mut [u16], room: usize, at: Chain, kind: u16, a: u16, b: 
 // The clear of flag base + k, and its "both" with what stands; none for the value d, whose flag is set.
 fn write_clear(out: &mut [u16], room: usize, at: Chain, base: usize, d: usize, k: usize) -> Chain
     requires { Ready room at out.old × (base + k < 1024) }
-    ensures { Writes (and-clear base d k) room at out.old out.new result }
+    ensures { Writes (and_clear base d k) room at out.old out.new result }
 {
     if at.full {
         return at;
@@ -91,7 +91,7 @@ fn write_clear(out: &mut [u16], room: usize, at: Chain, base: usize, d: usize, k
 // The clears of n values, upwards. n steps.
 fn write_clears(out: &mut [u16], room: usize, at: Chain, base: usize, d: usize, n: usize) -> Chain
     requires { Ready room at out.old × (base + n ≤ 1024) }
-    ensures { Writes (and-clears base d n) room at out.old out.new result }
+    ensures { Writes (and_clears base d n) room at out.old out.new result }
 {
     let mut r = at;
     let mut k = 0;
@@ -112,7 +112,7 @@ pub fn write_becomes(
     n: usize,
 ) -> Chain
     requires { Ready room at out.old × (base + n ≤ 1024) × (d < n) }
-    ensures { Writes (becomes-step base d n) room at out.old out.new result }
+    ensures { Writes (becomes_step base d n) room at out.old out.new result }
 {
     let set = write_row(out, room, at, SET, (base + d) as u16, 0);
     write_clears(out, room, set, base, d, n)

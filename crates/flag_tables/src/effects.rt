@@ -1,7 +1,7 @@
 // The effect rows of the translated task, source row by source row.
 ghost use Rattle.std.specs.Prelude.{length};
 ghost use Rattle.flag_tables.specs.Inner.Flags.{as_row};
-ghost use Rattle.flag_tables.specs.Inner.Effects.{source-step, Ready, SourceReady, EffectsReady, EffectsWritten, Writes};
+ghost use Rattle.flag_tables.specs.Inner.Effects.{source_step, Ready, SourceReady, EffectsReady, EffectsWritten, Writes};
 
 use crate::Chain;
 use crate::becomes::{write_becomes, write_row};
@@ -29,7 +29,7 @@ fn write_effect(
     at: Chain,
 ) -> Chain
     requires { Ready room at out.old × SourceReady counts.now firsts.now memo.now (length places.now) (as_row row) }
-    ensures { Writes (source-step counts.now firsts.now memo.now places.now (as_row row)) room at out.old out.new result }
+    ensures { Writes (source_step counts.now firsts.now memo.now places.now (as_row row)) room at out.old out.new result }
 {
     let a = row.second as usize;
     let b = row.third as usize;

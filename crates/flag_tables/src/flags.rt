@@ -2,11 +2,11 @@
 ghost use Rattle.std.specs.Prelude.{◌≡◌, ◌+◌, ◌≤◌, length, take};
 ghost use Rattle.translation.specs.Flags.{flags_of};
 ghost use Rattle.flag_tables.specs.Inner.Front.{at_front};
-ghost use Rattle.flag_tables.specs.Inner.Flags.{flag-bit, OwnWritten, ValuesReady};
+ghost use Rattle.flag_tables.specs.Inner.Flags.{flag_bit, OwnWritten, ValuesReady};
 
 // 1 for the value that a variable has, 0 for each other.
 fn flag_of(value: usize, has: usize) -> u8
-    ensures { result ≡ flag-bit value has }
+    ensures { result ≡ flag_bit value has }
 {
     if value == has { 1 } else { 0 }
 }

@@ -1,4 +1,6 @@
 // Translating a task with named values: the tables over flags that are written row by row, without the builder of formulas.
+#![tactic(auto)]
+
 mod becomes;
 mod effects;
 mod firsts;
@@ -13,7 +15,7 @@ pub use leaves::flag_rows;
 pub use operators::write_operators;
 
 // The effect rows so far, the last of them, which stands for the source row, and whether there were rows without room.
-#[derive(Drop)]
+#[derive(Clone, Copy)]
 pub struct Chain {
     pub rows: usize,
     pub stands: u16,

@@ -1,8 +1,8 @@
 // The operators of the translated task.
 ghost use Rattle.std.specs.Prelude.{◌≡◌};
-ghost use Rattle.task.specs.Words.{operator-words};
+ghost use Rattle.task.specs.Words.{operator_words};
 ghost use Rattle.flag_tables.specs.Inner.Front.{at_front};
-ghost use Rattle.flag_tables.specs.Inner.Operators.{operators-over, OperatorsReady};
+ghost use Rattle.flag_tables.specs.Inner.Operators.{operators_over, OperatorsReady};
 
 use task::operator_rows::{effect_of, store_with_parts};
 
@@ -15,7 +15,7 @@ pub fn write_operators(
     out: &mut [u16],
 )
     requires { OperatorsReady operators.now count preconditions.now places.now out.old }
-    ensures { out.new ≡ at_front (operator-words (operators-over operators.now preconditions.now places.now count)) out.old }
+    ensures { out.new ≡ at_front (operator_words (operators_over operators.now preconditions.now places.now count)) out.old }
 {
     let mut o = 0;
     while o < count {

@@ -12,23 +12,23 @@ use Rattle.task.specs.Bounded.{upto}
 use Rattle.task.specs.Table.{Row, row_at}
 use Rattle.task.specs.Rules.{no_row}
 use Rattle.normal_form.specs.Builder.{place, same_row, start}
-use Rattle.normal_form.proofs.Growth.{same-row-itself}
-use Rattle.normal_form.proofs.Place.{same-row-alike}
-use Rattle.formula_builder.specs.Inner.Index.{key_of, head_of, head-word, link-word, Leads, here, onward, Comes, Reached, Trees, Indexed, Searchable, Found, three, appended, Empty, FirstTwo}
+use Rattle.normal_form.proofs.Growth.{same_row_itself}
+use Rattle.normal_form.proofs.Place.{same_row_alike}
+use Rattle.formula_builder.specs.Inner.Index.{key_of, head_of, head_word, link_word, Leads, here, onward, Comes, Reached, Trees, Indexed, Searchable, Found, three, appended, Empty, FirstTwo}
 use Rattle.formula_builder.proofs.Found.{row-found, row-none}
-use Rattle.formula_builder.proofs.Stored.{length_three, three-other, three-before, three-at, upto-same, upto-more}
+use Rattle.formula_builder.proofs.Stored.{length_three, three-other, three-before, three-at, upto_same, upto_more}
 
 -- the hash times the heads' number; and a head
-pub hash-small : (most key : ℕ) → 0 < most → key * 2654435769 % 4294967296 * (4 * most) < 4294967296 * (4 * most)
-hash-small most key h = mul-lt-mul_of_pos_right (omega arith) (omega arith)
+pub hash_small : (most key : ℕ) → 0 < most → key * 2654435769 % 4294967296 * (4 * most) < 4294967296 * (4 * most)
+hash_small most key h = mul-lt-mul_of_pos_right (omega arith) (omega arith)
 
 head_small : (most key : ℕ) → 0 < most → head_of most key < 4 * most
 unfolding head_of
-head_small most key h = omega (arith, hash-small most key h)
+head_small most key h = omega (arith, hash_small most key h)
 
 -- an empty table
-none-indexed : {most : ℕ} {t : List ℕ} → Empty most t → Indexed most 0 t
-none-indexed {most} e =
+none_indexed : {most : ℕ} {t : List ℕ} → Empty most t → Indexed most 0 t
+none_indexed {most} e =
     record {
       trees =
           record {
@@ -53,7 +53,7 @@ searchable some limit room few x =
 module _ {most n : ℕ} {t : List ℕ} (x : Trees most n t) (p : ℕ) where
   leads-low : (w bits : ℕ) → Leads most t p w bits → 3 * most ≤ w → 3 * most ≤ p
   leads-low w bits (here _ _ e) h = omega arith
-  leads-low w bits (onward _ _ i e l) h = leads-low (link-word most i bits) (bits / 2) l (omega arith)
+  leads-low w bits (onward _ _ i e l) h = leads-low (link_word most i bits) (bits / 2) l (omega arith)
 
   leads-own :
       (w bits : ℕ)
@@ -64,7 +64,7 @@ module _ {most n : ℕ} {t : List ℕ} (x : Trees most n t) (p : ℕ) where
       → p < 3 * most + 2 * n
   leads-own w bits (here _ _ e) h own k = omega (arith, own (omega arith))
   leads-own w bits (onward _ _ i e l) h own k =
-      leads-own (link-word most i bits) (bits / 2) l (omega arith) (λ _. omega (arith, x.within w i h e)) k
+      leads-own (link_word most i bits) (bits / 2) l (omega arith) (λ _. omega (arith, x.within w i h e)) k
 
 -- Row r stored behind n rows, and named by word p, where its walk ended.
 module _ (most n : ℕ) (t : List ℕ) (r : Row) (p : ℕ) (few : n < most) (room : 9 * most ≤ length t) (f : Found most t r p) where
@@ -84,13 +84,13 @@ module _ (most n : ℕ) (t : List ℕ) (r : Row) (p : ℕ) (few : n < most) (roo
   pub before : (k : ℕ) → k < n → row_at (appended t n r p) k ≡ row_at t k
   before k h = row_kept k (omega arith) ∙ three-before t n r k h
 
-  at-end : row_at (appended t n r p) n ≡ r
-  at-end = row_kept n (omega arith) ∙ three-at t n r (omega arith)
+  at_end : row_at (appended t n r p) n ≡ r
+  at_end = row_kept n (omega arith) ∙ three-at t n r (omega arith)
 
   pub appended-rows : upto (n + 1) (row_at (appended t n r p)) ≡ upto n (row_at t) ++ (r ∷ [])
   appended-rows =
-      upto-more n (row_at (appended t n r p))
-      ∙ rw (upto-same n (row_at (appended t n r p)) (row_at t) before, at-end)
+      upto_more n (row_at (appended t n r p))
+      ∙ rw (upto_same n (row_at (appended t n r p)) (row_at t) before, at_end)
 
   -- the words of the index
   own : get_or (appended t n r p) p 0 ≡ n + 1
@@ -109,7 +109,7 @@ module _ (most n : ℕ) (t : List ℕ) (r : Row) (p : ℕ) (few : n < most) (roo
     leads-still : (q w bits : ℕ) → 3 * most ≤ w → Leads most t q w bits → Leads most (appended t n r p) q w bits
     leads-still q w bits h (here _ _ e) = here w bits e
     leads-still q w bits h (onward _ _ i e l) =
-        onward w bits i (still w i h e) (leads-still q (link-word most i bits) (bits / 2) (omega arith) l)
+        onward w bits i (still w i h e) (leads-still q (link_word most i bits) (bits / 2) (omega arith) l)
 
     module _ (x : Indexed most n t) where
       its-trees : Trees most (n + 1) (appended t n r p)
@@ -132,7 +132,7 @@ module _ (most n : ℕ) (t : List ℕ) (r : Row) (p : ℕ) (few : n < most) (roo
               → i < j
           later i b j h k e (yes q) =
               let last = sym e ∙ ap (λ (v : ℕ). get_or (appended t n r p) v 0) q ∙ own in
-              let mine = leads-own x.trees p (head-word most r) (key_of r) f.leads (omega arith) (λ z. absurd (omega arith)) (omega arith) in
+              let mine = leads-own x.trees p (head_word most r) (key_of r) f.leads (omega arith) (λ z. absurd (omega arith)) (omega arith) in
               omega (arith, last, mine)
           later i b j h k e (no d) = x.trees.later i b j h k (sym (other (3 * most + 2 * i + b) (omega arith) d) ∙ e)
 
@@ -141,10 +141,10 @@ module _ (most n : ℕ) (t : List ℕ) (r : Row) (p : ℕ) (few : n < most) (roo
         where
           go : Dec (i ≡ n) → Reached most (appended t n r p) i
           go (yes e) =
-              rw (e, at-end)
+              rw (e, at_end)
               (record {
                 word = p;
-                leads = leads-still p (head-word most r) (key_of r) (omega arith) f.leads;
+                leads = leads-still p (head_word most r) (key_of r) (omega arith) f.leads;
                 names = omega (arith, own);
               })
           go (no e) =
@@ -152,10 +152,10 @@ module _ (most n : ℕ) (t : List ℕ) (r : Row) (p : ℕ) (few : n < most) (roo
               rw (before i (omega arith))
               (record {
                 word = old.word;
-                leads = leads-still old.word (head-word most (row_at t i)) (key_of (row_at t i)) (omega arith) old.leads;
+                leads = leads-still old.word (head_word most (row_at t i)) (key_of (row_at t i)) (omega arith) old.leads;
                 names =
                     still old.word i
-                    (leads-low x.trees old.word (head-word most (row_at t i)) (key_of (row_at t i)) old.leads (omega arith))
+                    (leads-low x.trees old.word (head_word most (row_at t i)) (key_of (row_at t i)) old.leads (omega arith))
                     old.names;
               })
 
@@ -165,7 +165,7 @@ module _ (most n : ℕ) (t : List ℕ) (r : Row) (p : ℕ) (few : n < most) (roo
           go : Dec (j ≡ n) → ⊥
           go (yes e) =
               f.missing free i (x.reached i (omega arith))
-              (sym (before i (omega arith)) ∙ same ∙ ap (row_at (appended t n r p)) e ∙ at-end)
+              (sym (before i (omega arith)) ∙ same ∙ ap (row_at (appended t n r p)) e ∙ at_end)
           go (no e) =
               x.apart i j h (omega arith) (sym (before i (omega arith)) ∙ same ∙ before j (omega arith))
 
@@ -191,13 +191,13 @@ module _ {most n : ℕ} {t : List ℕ} (x : Indexed most n t) (some : 0 < most) 
   leads-high q w bits l h (here _ _ e) = omega arith
   leads-high q w bits l h (onward _ _ i e m) =
       let below = x.trees.within w i l e in
-      leads-high q (link-word most i bits) (bits / 2) (omega arith) (omega arith) m
+      leads-high q (link_word most i bits) (bits / 2) (omega arith) (omega arith) m
 
   leads-aside : (q w bits : ℕ) → 3 * most ≤ w → w < 9 * most → Leads most t q w bits → Leads most (set t p (k + 1)) q w bits
   leads-aside q w bits l h (here _ _ e) = here w bits e
   leads-aside q w bits l h (onward _ _ i e m) =
       let below = x.trees.within w i l e in
-      onward w bits i (aside w h ∙ e) (leads-aside q (link-word most i bits) (bits / 2) (omega arith) (omega arith) m)
+      onward w bits i (aside w h ∙ e) (leads-aside q (link_word most i bits) (bits / 2) (omega arith) (omega arith) m)
 
   module _ (room : p < length t) (stands : k < n) where
     aside-reached : (i : ℕ) → i < n → Reached most (set t p (k + 1)) i
@@ -207,10 +207,10 @@ module _ {most n : ℕ} {t : List ℕ} (x : Indexed most n t) (some : 0 < most) 
         rw (row-aside i h)
         (record {
           word = old.word;
-          leads = leads-aside old.word (head-word most (row_at t i)) (key_of (row_at t i)) (omega arith) (omega arith) old.leads;
+          leads = leads-aside old.word (head_word most (row_at t i)) (key_of (row_at t i)) (omega arith) (omega arith) old.leads;
           names =
               aside old.word
-              (leads-high old.word (head-word most (row_at t i)) (key_of (row_at t i)) (omega arith) (omega arith) old.leads)
+              (leads-high old.word (head_word most (row_at t i)) (key_of (row_at t i)) (omega arith) (omega arith) old.leads)
               ∙ old.names;
         })
 
@@ -238,7 +238,7 @@ pub record Walks (most : ℕ) (t : List ℕ) (r : Row) (p bits s : ℕ) : Type 0
   pub low : 3 * most ≤ p
   pub high : p < 9 * most
   pub names : get_or t p 0 ≡ s
-  pub leads : (q : ℕ) → Leads most t q p bits → Leads most t q (head-word most r) (key_of r)
+  pub leads : (q : ℕ) → Leads most t q p bits → Leads most t q (head_word most r) (key_of r)
   pub ahead : (i : ℕ) → Reached most t i → row_at t i ≡ r → Comes most t p bits i
 
 -- how many rows may follow one that is named so
@@ -247,22 +247,22 @@ remaining most zero = 0
 remaining most (suc i) = most - i
 
 -- where the walk stands is where it comes to, or it goes on
-comes-split :
+comes_split :
     {most : ℕ} {t : List ℕ} {w bits s i : ℕ}
     → get_or t w 0 ≡ s
     → (s ≡ suc i → ⊥)
     → Comes most t w bits i
     → (P : Type 0)
-    → ((j : ℕ) → s ≡ suc j → Comes most t (link-word most j bits) (bits / 2) i → P)
+    → ((j : ℕ) → s ≡ suc j → Comes most t (link_word most j bits) (bits / 2) i → P)
     → P
-comes-split {most} {t} {w} {bits} {s} {i} e d c P goes = go c.leads
+comes_split {most} {t} {w} {bits} {s} {i} e d c P goes = go c.leads
   where
     go : Leads most t c.word w bits → P
     go (here _ _ q) = absurd (d (sym e ∙ ap (λ (v : ℕ). get_or t v 0) q ∙ c.names))
     go (onward _ _ j q l) = goes j (sym e ∙ q) (record { word = c.word; leads = l; names = c.names })
 
 module _ (most : ℕ) (t : List ℕ) (r : Row) (x : Searchable most t) where
-  pub walk_begins : Walks most t r (head-word most r) (key_of r) (get_or t (head-word most r) 0)
+  pub walk_begins : Walks most t r (head_word most r) (key_of r) (get_or t (head_word most r) 0)
   walk_begins =
       record {
         low = omega arith;
@@ -277,17 +277,17 @@ module _ (most : ℕ) (t : List ℕ) (r : Row) (x : Searchable most t) where
       pub walk-below : i < most
       walk-below = x.trees.within p i w.low (w.names ∙ at)
 
-      pub walk-less : remaining most (get_or t (link-word most i bits) 0) < remaining most s
-      walk-less = rw at (go (get_or t (link-word most i bits) 0) refl)
+      pub walk-less : remaining most (get_or t (link_word most i bits) 0) < remaining most s
+      walk-less = rw at (go (get_or t (link_word most i bits) 0) refl)
         where
-          go : (k : ℕ) → get_or t (link-word most i bits) 0 ≡ k → remaining most k < remaining most (suc i)
+          go : (k : ℕ) → get_or t (link_word most i bits) 0 ≡ k → remaining most k < remaining most (suc i)
           go zero e = unfold remaining in omega (arith, walk-below)
           go (suc j) e =
               let after = x.trees.later i (bits % 2) j walk-below (omega arith) e in
               unfold remaining in omega (arith, after, walk-below)
 
       pub walk-goes-on :
-          same_row (row_at t i) r ≡ false → Walks most t r (link-word most i bits) (bits / 2) (get_or t (link-word most i bits) 0)
+          same_row (row_at t i) r ≡ false → Walks most t r (link_word most i bits) (bits / 2) (get_or t (link_word most i bits) 0)
       walk-goes-on differs =
           record {
             low = omega arith;
@@ -295,14 +295,14 @@ module _ (most : ℕ) (t : List ℕ) (r : Row) (x : Searchable most t) where
             names = refl;
             leads = λ q l. w.leads q (onward p bits i (w.names ∙ at) l);
             ahead = λ j c e.
-                comes-split w.names (not-it j e) (w.ahead j c e) (Comes most t (link-word most i bits) (bits / 2) j)
+                comes_split w.names (not-it j e) (w.ahead j c e) (Comes most t (link_word most i bits) (bits / 2) j)
                 (λ k q l. let same : k ≡ i = omega (arith, q) in rw same at l);
           }
         where
           not-it : (j : ℕ) → row_at t j ≡ r → s ≡ suc j → ⊥
           not-it j e q =
               let same : i ≡ j = omega (arith, q) in
-              true≢false (sym (same-row-itself r) ∙ ap (λ (k : Row). same_row k r) (sym e ∙ ap (row_at t) (sym same)) ∙ differs)
+              true≢false (sym (same_row_itself r) ∙ ap (λ (k : Row). same_row k r) (sym e ∙ ap (row_at t) (sym same)) ∙ differs)
 
       pub walk-finds : same_row (row_at t i) r ≡ true → Found most t r p
       walk-finds e =
@@ -310,7 +310,7 @@ module _ (most : ℕ) (t : List ℕ) (r : Row) (x : Searchable most t) where
             low = w.low;
             high = w.high;
             leads = w.leads p (here p bits refl);
-            stands = λ j q. let same : j ≡ i = omega (arith, w.names) in ap (row_at t) same ∙ same-row-alike (row_at t i) r e;
+            stands = λ j q. let same : j ≡ i = omega (arith, w.names) in ap (row_at t) same ∙ same_row_alike (row_at t i) r e;
             missing = λ q. absurd (omega (arith, w.names));
           }
 
@@ -321,22 +321,22 @@ module _ (most : ℕ) (t : List ℕ) (r : Row) (x : Searchable most t) where
           high = w.high;
           leads = w.leads p (here p bits refl);
           stands = λ j q. absurd (omega (arith, w.names));
-          missing = λ q i c same. comes-split w.names (λ k. omega arith) (w.ahead i c same) ⊥ (λ j k _. omega arith);
+          missing = λ q i c same. comes_split w.names (λ k. omega arith) (w.ahead i c same) ⊥ (λ j k _. omega arith);
         }
 
 -- A row that stands is at the place of find-or-append.
-pub stands-place :
+pub stands_place :
     {most n : ℕ} {t : List ℕ} (x : Indexed most n t) (r : Row) (i : ℕ)
     → i < n
     → row_at t i ≡ r
     → i ≡ place same_row r (upto n (row_at t))
-stands-place {most} {n} {t} x r i below e =
+stands_place {most} {n} {t} x r i below e =
     row-found r no_row n (row_at t) i below (λ j h. first j h (same_row (row_at t j) r) refl)
-    (ap (λ (k : Row). same_row k r) e ∙ same-row-itself r)
+    (ap (λ (k : Row). same_row k r) e ∙ same_row_itself r)
   where
     first : (j : ℕ) → j < i → (b : Bool) → same_row (row_at t j) r ≡ b → same_row (row_at t j) r ≡ false
     first j h false q = q
-    first j h true q = absurd (x.apart j i h below (same-row-alike (row_at t j) r q ∙ sym e))
+    first j h true q = absurd (x.apart j i h below (same_row_alike (row_at t j) r q ∙ sym e))
 
 -- What is found stands; what is not found has its place behind the rows.
 module _ {most n : ℕ} {t : List ℕ} {r : Row} {p : ℕ} (x : Indexed most n t) (f : Found most t r p) where
@@ -348,66 +348,66 @@ module _ {most n : ℕ} {t : List ℕ} {r : Row} {p : ℕ} (x : Indexed most n t
     where
       none : (j : ℕ) → j < n → (b : Bool) → same_row (row_at t j) r ≡ b → same_row (row_at t j) r ≡ false
       none j h false q = q
-      none j h true q = absurd (f.missing e j (x.reached j h) (same-row-alike (row_at t j) r q))
+      none j h true q = absurd (f.missing e j (x.reached j h) (same_row_alike (row_at t j) r q))
 
 -- The first two rows, in an empty table.
-abbrev pub false-row : Row
-false-row = record { kind = 0; a = 0; b = 0 }
+abbrev pub false_row : Row
+false_row = record { kind = 0; a = 0; b = 0 }
 
-abbrev pub true-row : Row
-true-row = record { kind = 1; a = 0; b = 0 }
+abbrev pub true_row : Row
+true_row = record { kind = 1; a = 0; b = 0 }
 
 module _ {most : ℕ} {t : List ℕ} (e : Empty most t) where
   pub first-searchable : Searchable most t
   first-searchable =
       let two = e.two in
-      searchable (omega arith) e.limit e.room (omega arith) (none-indexed e)
+      searchable (omega arith) e.limit e.room (omega arith) (none_indexed e)
 
-  module _ {p : ℕ} (f : Found most t false-row p) where
+  module _ {p : ℕ} (f : Found most t false_row p) where
     few : 0 < most
     few = omega (arith, e.two)
 
-    one-room : 9 * most ≤ length (appended t 0 false-row p)
-    one-room = omega (arith, e.room, length-appended most 0 t false-row p few e.room f)
+    one-room : 9 * most ≤ length (appended t 0 false_row p)
+    one-room = omega (arith, e.room, length-appended most 0 t false_row p few e.room f)
 
-    one-indexed : Indexed most 1 (appended t 0 false-row p)
-    one-indexed = appended-indexed most 0 t false-row p few e.room f (e.blank p) (none-indexed e)
+    one-indexed : Indexed most 1 (appended t 0 false_row p)
+    one-indexed = appended-indexed most 0 t false_row p few e.room f (e.blank p) (none_indexed e)
 
-    pub second-searchable : Searchable most (appended t 0 false-row p)
+    pub second-searchable : Searchable most (appended t 0 false_row p)
     second-searchable = searchable few e.limit one-room few one-indexed
 
-    module _ {q : ℕ} (g : Found most (appended t 0 false-row p) true-row q) where
+    module _ {q : ℕ} (g : Found most (appended t 0 false_row p) true_row q) where
       -- the only row is not the second
-      free : get_or (appended t 0 false-row p) q 0 ≡ 0
-      free = go (get_or (appended t 0 false-row p) q 0) refl
+      free : get_or (appended t 0 false_row p) q 0 ≡ 0
+      free = go (get_or (appended t 0 false_row p) q 0) refl
         where
-          go : (s : ℕ) → get_or (appended t 0 false-row p) q 0 ≡ s → s ≡ 0
+          go : (s : ℕ) → get_or (appended t 0 false_row p) q 0 ≡ s → s ≡ 0
           go zero d = refl
           go (suc i) d =
               let first : i ≡ 0 = omega (arith, found_below one-indexed g i d) in
-              let both = sym (at-end most 0 t false-row p few e.room f) ∙ ap (row_at (appended t 0 false-row p)) (sym first) ∙ g.stands i d in
+              let both = sym (at_end most 0 t false_row p few e.room f) ∙ ap (row_at (appended t 0 false_row p)) (sym first) ∙ g.stands i d in
               let same : ◌≡◌ {A = ℕ} 0 1 = ap (λ (r : Row). r.kind) both in
               absurd (omega arith)
 
-      pub first_two : FirstTwo most t (appended (appended t 0 false-row p) 1 true-row q)
+      pub first_two : FirstTwo most t (appended (appended t 0 false_row p) 1 true_row q)
       first_two =
           record {
             long =
-                length-appended most 1 (appended t 0 false-row p) true-row q e.two one-room g
-                ∙ length-appended most 0 t false-row p few e.room f;
+                length-appended most 1 (appended t 0 false_row p) true_row q e.two one-room g
+                ∙ length-appended most 0 t false_row p few e.room f;
             rows = stand;
-            index = appended-indexed most 1 (appended t 0 false-row p) true-row q e.two one-room g free one-indexed;
+            index = appended-indexed most 1 (appended t 0 false_row p) true_row q e.two one-room g free one-indexed;
             past = λ j h.
-                other most 1 (appended t 0 false-row p) true-row q e.two one-room g j (omega arith) (omega (arith, g.high))
-                ∙ other most 0 t false-row p few e.room f j (omega arith) (omega (arith, f.high))
+                other most 1 (appended t 0 false_row p) true_row q e.two one-room g j (omega arith) (omega (arith, g.high))
+                ∙ other most 0 t false_row p few e.room f j (omega arith) (omega (arith, f.high))
                 ∙ e.blank j;
           }
         where
-          none : upto 0 (row_at t) ++ (false-row ∷ []) ≡ false-row ∷ []
+          none : upto 0 (row_at t) ++ (false_row ∷ []) ≡ false_row ∷ []
           none = unfold upto in refl
 
-          stand : upto 2 (row_at (appended (appended t 0 false-row p) 1 true-row q)) ≡ start.rows
+          stand : upto 2 (row_at (appended (appended t 0 false_row p) 1 true_row q)) ≡ start.rows
           stand =
               unfold start in
-              (appended-rows most 1 (appended t 0 false-row p) true-row q e.two one-room g
-              ∙ ap (λ (l : List Row). l ++ (true-row ∷ [])) (appended-rows most 0 t false-row p few e.room f ∙ none))
+              (appended-rows most 1 (appended t 0 false_row p) true_row q e.two one-room g
+              ∙ ap (λ (l : List Row). l ++ (true_row ∷ [])) (appended-rows most 0 t false_row p few e.room f ∙ none))

@@ -13,27 +13,27 @@ use Rattle.task.specs.Bounded.{upto}
 use Rattle.task.specs.Table.{Row, row_at}
 use Rattle.task.specs.Rules.{no_row}
 use Rattle.task.proofs.Bounded.{getD-upto}
-use Rattle.normal_form.specs.Builder.{St, bind, place, including, same_row, row, twin, variable-row, twin-row}
-use Rattle.normal_form.proofs.Growth.{steady-variable-row, eqb-itself, place-within, prefix_refl}
-use Rattle.normal_form.proofs.Place.{Placed, found, added, placed, place-has, place_none, one_more as each_more, same-row-alike}
+use Rattle.normal_form.specs.Builder.{St, bind, place, including, same_row, row, twin, variable_row, twin_row}
+use Rattle.normal_form.proofs.Growth.{steady_variable_row, eqb_itself, place_within, prefix_refl}
+use Rattle.normal_form.proofs.Place.{Placed, found, added, placed, place-has, place_none, one_more as each_more, same_row_alike}
 use Rattle.formula_builder.specs.declared.Frame.{Frame}
-use Rattle.formula_builder.specs.Inner.Held.{store, held, sized, stepped, variable-of, twin-word, TwinsNamed, Ready, Done, Builds}
+use Rattle.formula_builder.specs.Inner.Held.{store, held, sized, stepped, variable_of, twin_word, TwinsNamed, Ready, Done, Builds}
 use Rattle.formula_builder.proofs.Found.{kept-found, kept-none}
-use Rattle.formula_builder.proofs.Stored.{one_more, one-past, upto-same}
+use Rattle.formula_builder.proofs.Stored.{one_more, one-past, upto_same}
 use Rattle.formula_builder.proofs.Indexing.{row-aside, aside-indexed}
-use Rattle.formula_builder.proofs.Steps.{builds-done, builds-over, builds-from, bind-over, row-stands}
+use Rattle.formula_builder.proofs.Steps.{builds-done, builds-over, builds-from, bind_over, row_stands}
 
 -- One number more at the end of a list.
 module _ (u v : ℕ) (l : List ℕ) where
   -- what stood stands where it did
-  place-before : place eqb u l < length l → place eqb u (l ++ (v ∷ [])) ≡ place eqb u l
-  place-before h =
+  place_before : place eqb u l < length l → place eqb u (l ++ (v ∷ [])) ≡ place eqb u l
+  place_before h =
       let same = kept-found eqb u l h in
-      place-within eqb eqb-itself u l (rw same (record { rest = v ∷ []; whole = refl }))
+      place_within eqb eqb_itself u l (rw same (record { rest = v ∷ []; whole = refl }))
 
   -- what did not stand and is not the new one does not stand
-  place-behind : place eqb u l ≡ length l → (u ≡ v → ⊥) → place eqb u (l ++ (v ∷ [])) ≡ length l + 1
-  place-behind e d = go (placed eqb u l)
+  place_behind : place eqb u l ≡ length l → (u ≡ v → ⊥) → place eqb u (l ++ (v ∷ [])) ≡ length l + 1
+  place_behind e d = go (placed eqb u l)
     where
       go : Placed eqb u l → place eqb u (l ++ (v ∷ [])) ≡ length l + 1
       go (found h k) = absurd (omega arith)
@@ -43,10 +43,10 @@ module _ (u v : ℕ) (l : List ℕ) where
           ∙ length-append l (v ∷ [])
 
 -- and the new one stands there
-place-last : (v : ℕ) (l : List ℕ) → place eqb v l ≡ length l → place eqb v (l ++ (v ∷ [])) ≡ length l
-place-last v l e =
+place_last : (v : ℕ) (l : List ℕ) → place eqb v l ≡ length l → place eqb v (l ++ (v ∷ [])) ≡ length l
+place_last v l e =
     let same = kept-none eqb v l (omega arith) in
-    place-within eqb eqb-itself v l (rw same (prefix_refl (l ++ (v ∷ [])))) ∙ e
+    place_within eqb eqb_itself v l (rw same (prefix_refl (l ++ (v ∷ [])))) ∙ e
 
 module _ (frame : Frame) (n w : ℕ) (table o : List ℕ) (ready : Ready frame (sized n w) (store table o)) (v : ℕ) (low : v < frame.variables) where
   long : length (take w o) ≡ w
@@ -54,26 +54,26 @@ module _ (frame : Frame) (n w : ℕ) (table o : List ℕ) (ready : Ready frame (
 
   -- a twin that stands
   pub twin-known :
-      0 < get_or table (twin-word frame v) 0
-      → Builds (twin-row frame.variables v) frame (sized n w) (store table o) (store table o)
-      (stepped n w (get_or table (twin-word frame v) 0 - 1))
-  unfolding twin-row bind twin held variable-row
+      0 < get_or table (twin_word frame v) 0
+      → Builds (twin_row frame.variables v) frame (sized n w) (store table o) (store table o)
+      (stepped n w (get_or table (twin_word frame v) 0 - 1))
+  unfolding twin_row bind twin held variable_row
   twin-known h =
-      let r = get_or table (twin-word frame v) 0 - 1 in
-      let e : get_or table (twin-word frame v) 0 ≡ suc r = omega arith in
+      let r = get_or table (twin_word frame v) 0 - 1 in
+      let e : get_or table (twin_word frame v) 0 ≡ suc r = omega arith in
       let x = ready.rows in
       let named = ready.named.stands v r low e in
-      let below = x.index.trees.within (twin-word frame v) r (omega arith) e in
+      let below = x.index.trees.within (twin_word frame v) r (omega arith) e in
       let l = take w o in
       let same : including eqb v l ≡ l = kept-found eqb v l (omega (arith, long, named.0)) in
       rw (ne_eqb r 65535 (omega (arith, below, x.within, x.limit)))
       (builds-from
-      (λ j. variable-row (frame.variables + place eqb v l) (record { rows = upto n (row_at table); twins = same j }))
+      (λ j. variable_row (frame.variables + place eqb v l) (record { rows = upto n (row_at table); twins = same j }))
       (omega arith)
-      (row-stands frame (sized n w) table o ready (variable-of (frame.variables + place eqb v l)) r below named.1))
+      (row_stands frame (sized n w) table o ready (variable_of (frame.variables + place eqb v l)) r below named.1))
 
   -- A twin that is new.
-  module _ (none : get_or table (twin-word frame v) 0 ≡ 0) where
+  module _ (none : get_or table (twin_word frame v) 0 ≡ 0) where
     its-place : place eqb v (take w o) ≡ w
     its-place = ready.named.missing v low none
 
@@ -82,22 +82,22 @@ module _ (frame : Frame) (n w : ℕ) (table o : List ℕ) (ready : Ready frame (
 
     pub twin-full :
         w ≡ frame.twins
-        → Builds (twin-row frame.variables v) frame (sized n w) (store table o) (store table o) (stepped n w 65535)
-    unfolding twin-row twin held
+        → Builds (twin_row frame.variables v) frame (sized n w) (store table o) (store table o) (stepped n w 65535)
+    unfolding twin_row twin held
     twin-full full =
         let l = take w o in
         builds-over refl ready
-        (bind-over (twin v) (λ k. variable-row (frame.variables + k)) frame (held (sized n w) (store table o))
-        (λ x. steady-variable-row (frame.variables + x))
+        (bind_over (twin v) (λ k. variable_row (frame.variables + k)) frame (held (sized n w) (store table o))
+        (λ x. steady_variable_row (frame.variables + x))
         (λ x. omega (arith, x.twins, ap (λ (x : List ℕ). length x) met, length-append l (v ∷ []), long)))
 
     module _ {after : List ℕ} {m k : ℕ}
-        (b : Builds (variable-row (frame.variables + w)) frame (sized n w) (store table o) (store after o) (stepped m w k)) where
+        (b : Builds (variable_row (frame.variables + w)) frame (sized n w) (store table o) (store after o) (stepped m w k)) where
       -- there is no room for its row
       pub twin-over :
           k ≡ 65535
-          → Builds (twin-row frame.variables v) frame (sized n w) (store table o) (store after o) (stepped m w 65535)
-      unfolding twin-row bind twin held variable-row row
+          → Builds (twin_row frame.variables v) frame (sized n w) (store table o) (store after o) (stepped m w 65535)
+      unfolding twin_row bind twin held variable_row row
       twin-over e =
           builds-over refl (b.still (eq-eqb k 65535 e))
           (λ x.
@@ -108,12 +108,12 @@ module _ (frame : Frame) (n w : ℕ) (table o : List ℕ) (ready : Ready frame (
           }))
 
       module _ (room : w ≡ frame.twins → ⊥) (fits : k ≡ 65535 → ⊥) where
-        put : Done (variable-row (frame.variables + w)) frame (sized n w) (store table o) (store after o) (stepped m w k)
+        put : Done (variable_row (frame.variables + w)) frame (sized n w) (store table o) (store after o) (stepped m w k)
         put = b.done (ne_eqb k 65535 fits)
 
         -- the tables with the twin
         abbrev rows' : List ℕ
-        rows' = set after (twin-word frame v) (k + 1)
+        rows' = set after (twin_word frame v) (k + 1)
 
         abbrev originals' : List ℕ
         originals' = set o w v
@@ -124,95 +124,95 @@ module _ (frame : Frame) (n w : ℕ) (table o : List ℕ) (ready : Ready frame (
             one_more o w v (omega (arith, ready.originals))
 
         -- its row stands
-        rows-put : including same_row (variable-of (frame.variables + w)) (upto n (row_at table)) ≡ upto m (row_at after)
-        unfolding held variable-row row
+        rows-put : including same_row (variable_of (frame.variables + w)) (upto n (row_at table)) ≡ upto m (row_at after)
+        unfolding held variable_row row
         rows-put = ap (λ (s : St). s.rows) put.state
 
-        place-put : place same_row (variable-of (frame.variables + w)) (upto n (row_at table)) ≡ k
-        unfolding held variable-row row
+        place-put : place same_row (variable_of (frame.variables + w)) (upto n (row_at table)) ≡ k
+        unfolding held variable_row row
         place-put = put.value
 
-        its-row : row_at after k ≡ variable-of (frame.variables + w)
+        its-row : row_at after k ≡ variable_of (frame.variables + w)
         its-row =
-            let r = variable-of (frame.variables + w) in
+            let r = variable_of (frame.variables + w) in
             sym (getD-upto m (row_at after) k no_row put.below)
             ∙ ap (λ (l : List Row). get_or l k no_row) (sym rows-put)
             ∙ ap (λ (i : ℕ). get_or (including same_row r (upto n (row_at table))) i no_row) (sym place-put)
-            ∙ place-has same_row r (λ y. same-row-alike y r) no_row (upto n (row_at table))
+            ∙ place-has same_row r (λ y. same_row_alike y r) no_row (upto n (row_at table))
 
         row-still : (i : ℕ) → i < m → row_at rows' i ≡ row_at after i
         row-still =
             let x = put.ready.rows in
-            row-aside x.index x.some x.within (twin-word frame v) k (omega arith)
+            row-aside x.index x.some x.within (twin_word frame v) k (omega arith)
 
-        word-still : (u : ℕ) → (u ≡ v → ⊥) → get_or rows' (twin-word frame u) 0 ≡ get_or after (twin-word frame u) 0
-        word-still u h = get_or-set_other after (twin-word frame v) (twin-word frame u) (k + 1) 0 (omega arith)
+        word-still : (u : ℕ) → (u ≡ v → ⊥) → get_or rows' (twin_word frame u) 0 ≡ get_or after (twin_word frame u) 0
+        word-still u h = get_or-set_other after (twin_word frame v) (twin_word frame u) (k + 1) 0 (omega arith)
 
-        word_room : twin-word frame v < length after
+        word_room : twin_word frame v < length after
         word_room = omega (arith, put.ready.named.room)
 
-        word-own : get_or rows' (twin-word frame v) 0 ≡ k + 1
-        word-own = get_or-set_same after (twin-word frame v) (k + 1) 0 word_room
+        word-own : get_or rows' (twin_word frame v) 0 ≡ k + 1
+        word-own = get_or-set_same after (twin_word frame v) (k + 1) 0 word_room
 
         named-own :
             (r : ℕ)
-            → get_or rows' (twin-word frame v) 0 ≡ suc r
+            → get_or rows' (twin_word frame v) 0 ≡ suc r
             → (place eqb v (take (w + 1) originals') < w + 1)
-            × (row_at rows' r ≡ variable-of (frame.variables + place eqb v (take (w + 1) originals')))
+            × (row_at rows' r ≡ variable_of (frame.variables + place eqb v (take (w + 1) originals')))
         named-own r e =
             let its : r ≡ k = omega (arith, word-own) in
             let last : place eqb v (take (w + 1) originals') ≡ w =
-            ap (place eqb v) twins-now ∙ place-last v (take w o) (its-place ∙ sym long) ∙ long in
+            ap (place eqb v) twins-now ∙ place_last v (take w o) (its-place ∙ sym long) ∙ long in
             rw (last, its) (omega arith, row-still k put.below ∙ its-row)
 
         named_other :
             (u r : ℕ)
             → u < frame.variables
             → (u ≡ v → ⊥)
-            → get_or rows' (twin-word frame u) 0 ≡ suc r
+            → get_or rows' (twin_word frame u) 0 ≡ suc r
             → (place eqb u (take (w + 1) originals') < w + 1)
-            × (row_at rows' r ≡ variable-of (frame.variables + place eqb u (take (w + 1) originals')))
+            × (row_at rows' r ≡ variable_of (frame.variables + place eqb u (take (w + 1) originals')))
         named_other u r h q e =
             let x = put.ready in
             let old = x.named.stands u r h (sym (word-still u q) ∙ e) in
-            let below = x.rows.index.trees.within (twin-word frame u) r (omega arith) (sym (word-still u q) ∙ e) in
+            let below = x.rows.index.trees.within (twin_word frame u) r (omega arith) (sym (word-still u q) ∙ e) in
             let same : place eqb u (take (w + 1) originals') ≡ place eqb u (take w o) =
-            ap (place eqb u) twins-now ∙ place-before u v (take w o) (omega (arith, long, old.0)) in
+            ap (place eqb u) twins-now ∙ place_before u v (take w o) (omega (arith, long, old.0)) in
             rw same (omega (arith, old.0), row-still r below ∙ old.1)
 
-        named-now : TwinsNamed frame (sized m (w + 1)) (store rows' originals')
-        named-now =
+        named_now : TwinsNamed frame (sized m (w + 1)) (store rows' originals')
+        named_now =
             record {
-              room = long-enough;
+              room = long_enough;
               stands = λ u r h e. stands u r h e (ℕ_discrete u v);
               missing = λ u h e. missing u h e (ℕ_discrete u v);
             }
           where
-            long-enough : 9 * frame.rows + frame.variables ≤ length rows'
-            long-enough = omega (arith, put.ready.named.room, length-set after (twin-word frame v) (k + 1))
+            long_enough : 9 * frame.rows + frame.variables ≤ length rows'
+            long_enough = omega (arith, put.ready.named.room, length-set after (twin_word frame v) (k + 1))
 
             stands :
                 (u r : ℕ)
                 → u < frame.variables
-                → get_or rows' (twin-word frame u) 0 ≡ suc r
+                → get_or rows' (twin_word frame u) 0 ≡ suc r
                 → Dec (u ≡ v)
                 → (place eqb u (take (w + 1) originals') < w + 1)
-                × (row_at rows' r ≡ variable-of (frame.variables + place eqb u (take (w + 1) originals')))
+                × (row_at rows' r ≡ variable_of (frame.variables + place eqb u (take (w + 1) originals')))
             stands u r h e (yes q) = rw q (named-own r (rw q at e))
             stands u r h e (no q) = named_other u r h q e
 
             missing :
                 (u : ℕ)
                 → u < frame.variables
-                → get_or rows' (twin-word frame u) 0 ≡ 0
+                → get_or rows' (twin_word frame u) 0 ≡ 0
                 → Dec (u ≡ v)
                 → place eqb u (take (w + 1) originals') ≡ w + 1
             missing u h e (yes q) =
-                let same = ap (λ (x : ℕ). get_or rows' (twin-word frame x) 0) q in
+                let same = ap (λ (x : ℕ). get_or rows' (twin_word frame x) 0) q in
                 absurd (omega (arith, same, word-own, e))
             missing u h e (no q) =
                 let old = put.ready.named.missing u h (sym (word-still u q) ∙ e) in
-                ap (place eqb u) twins-now ∙ place-behind u v (take w o) (old ∙ sym long) q ∙ ap (λ (x : ℕ). x + 1) long
+                ap (place eqb u) twins-now ∙ place_behind u v (take w o) (old ∙ sym long) q ∙ ap (λ (x : ℕ). x + 1) long
 
         ready-now : Ready frame (sized m (w + 1)) (store rows' originals')
         ready-now =
@@ -224,33 +224,33 @@ module _ (frame : Frame) (n w : ℕ) (table o : List ℕ) (ready : Ready frame (
                     within = r.within;
                     some = r.some;
                     limit = r.limit;
-                    room = omega (arith, r.room, length-set after (twin-word frame v) (k + 1));
+                    room = omega (arith, r.room, length-set after (twin_word frame v) (k + 1));
                     index =
-                        aside-indexed r.index r.some r.within (twin-word frame v) k (omega arith) word_room put.below;
+                        aside-indexed r.index r.some r.within (twin_word frame v) k (omega arith) word_room put.below;
                   };
               two = x.two;
               twins = omega (arith, ready.twins, room);
               originals = omega (arith, length-set o w v, ready.originals);
               variables = x.variables;
-              past-twins = one-past o w v ready.past-twins;
-              named = named-now;
+              past_twins = one-past o w v ready.past_twins;
+              named = named_now;
             }
 
         pub twin-put :
-            Builds (twin-row frame.variables v) frame (sized n w) (store table o)
-            (store (set after (twin-word frame v) (k + 1)) (set o w v))
+            Builds (twin_row frame.variables v) frame (sized n w) (store table o)
+            (store (set after (twin_word frame v) (k + 1)) (set o w v))
             (stepped m (w + 1) k)
-        unfolding twin-row bind twin held variable-row row
+        unfolding twin_row bind twin held variable_row row
         twin-put =
             let back = its-place in
-            let stand : upto m (row_at after) ≡ upto m (row_at rows') = sym (upto-same m (row_at rows') (row_at after) row-still) in
+            let stand : upto m (row_at after) ≡ upto m (row_at rows') = sym (upto_same m (row_at rows') (row_at after) row-still) in
             builds-done (ne_eqb k 65535 fits)
             (record {
               value =
-                  ap (λ (x : ℕ). place same_row (variable-of (frame.variables + x)) (upto n (row_at table))) its-place ∙ place-put;
+                  ap (λ (x : ℕ). place same_row (variable_of (frame.variables + x)) (upto n (row_at table))) its-place ∙ place-put;
               state =
-                  let whole : including same_row (variable-of (frame.variables + place eqb v (take w o))) (upto n (row_at table)) ≡ upto m (row_at rows') =
-                  ap (λ (x : ℕ). including same_row (variable-of (frame.variables + x)) (upto n (row_at table))) its-place ∙ rows-put ∙ stand in
+                  let whole : including same_row (variable_of (frame.variables + place eqb v (take w o))) (upto n (row_at table)) ≡ upto m (row_at rows') =
+                  ap (λ (x : ℕ). including same_row (variable_of (frame.variables + x)) (upto n (row_at table))) its-place ∙ rows-put ∙ stand in
                   let more : including eqb v (take w o) ≡ take (w + 1) originals' = met ∙ sym twins-now in
                   λ j. record { rows = whole j; twins = more j };
               ready = ready-now;

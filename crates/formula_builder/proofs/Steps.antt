@@ -9,19 +9,19 @@ use lib.Dec.{eqb}
 use Rattle.task.specs.Bounded.{upto}
 use Rattle.task.specs.Table.{Row, row_at}
 use Rattle.task.proofs.Bounded.{length-upto}
-use Rattle.normal_form.specs.Builder.{St, Got, Build, give, bind, place, including, same_row, row, Polarity, plain, negated, image-of-false, image-of-true, join-kind, choice, join-as, join}
+use Rattle.normal_form.specs.Builder.{St, Got, Build, give, bind, place, including, same_row, row, Polarity, plain, negated, image_of_false, image_of_true, join_kind, choice, join_as, join}
 use Rattle.normal_form.specs.Growth.{Prefix, Grows, Steady}
 use borrow.Author.Tests.{eqb-true, eqb-false, eq-eqb, ne_eqb}
 use Rattle.formula_builder.specs.declared.Frame.{Frame}
 use Rattle.formula_builder.specs.declared.Size.{Size}
 use Rattle.formula_builder.specs.declared.Step.{Step}
-use Rattle.formula_builder.specs.Inner.Index.{Searchable, Found, appended, Put, stood, no_room, behind, rows-after}
-use Rattle.formula_builder.specs.Inner.Held.{Store, store, held, size_of, sized, stepped, done-step, RowsReady, twin-word, Ready, Within, Done, Builds}
+use Rattle.formula_builder.specs.Inner.Index.{Searchable, Found, appended, Put, stood, no_room, behind, rows_after}
+use Rattle.formula_builder.specs.Inner.Held.{Store, store, held, size_of, sized, stepped, done_step, RowsReady, twin_word, Ready, Within, Done, Builds}
 use Rattle.formula_builder.proofs.Found.{kept-found, kept-none}
-use Rattle.formula_builder.proofs.Indexing.{searchable, length-appended, before, other, appended-rows, appended-indexed, stands-place, found_below, missing-place}
+use Rattle.formula_builder.proofs.Indexing.{searchable, length-appended, before, other, appended-rows, appended-indexed, stands_place, found_below, missing-place}
 
-abbrev pub full-step : Size → Step
-full-step at = record { rows = at.rows; twins = at.twins; row = 65535; full = true }
+abbrev pub full_step : Size → Step
+full_step at = record { rows = at.rows; twins = at.twins; row = 65535; full = true }
 
 -- Done, or over, is all that there is to a step.
 module _ {m : Build ℕ} {frame : Frame} {at : Size} {before after : Store} {r : Step} where
@@ -57,15 +57,15 @@ module _ {m : Build ℕ} {frame : Frame} {at : Size} {before after : Store} {r :
         still = b.still;
       }
 
-pub prefix-length : {A : Type 0} {l m : List A} → Prefix l m → length l ≤ length m
-prefix-length {A} {l} p = rw (p.whole, length-append l p.rest) (omega arith)
+pub prefix_length : {A : Type 0} {l m : List A} → Prefix l m → length l ≤ length m
+prefix_length {A} {l} p = rw (p.whole, length-append l p.rest) (omega arith)
 
 -- what is within the frame was within it before
-pub within-before : {frame : Frame} {s t : St} → Grows s t → Within frame t → Within frame s
-within-before g w =
+pub within_before : {frame : Frame} {s t : St} → Grows s t → Within frame t → Within frame s
+within_before g w =
     record {
-      rows = omega (arith, prefix-length g.rows, w.rows);
-      twins = omega (arith, prefix-length g.twins, w.twins);
+      rows = omega (arith, prefix_length g.rows, w.rows);
+      twins = omega (arith, prefix_length g.twins, w.twins);
     }
 
 -- A step and what follows from its value.
@@ -75,16 +75,16 @@ module _ {A : Type 0} {m : Build ℕ} {frame : Frame} {at : Size} {before mid : 
   unfolding bind
   bind_done f d = ap₂ f d.value d.state
 
-pub bind-over :
+pub bind_over :
     {A : Type 0} (m : Build ℕ) (f : ℕ → Build A) (frame : Frame) (s : St)
     → ((x : ℕ) → Steady (f x))
     → (Within frame (m s).st → ⊥)
     → Within frame (bind m f s).st
     → ⊥
 unfolding bind
-bind-over m f frame s steady over w =
+bind_over m f frame s steady over w =
     let g = m s in
-    over (within-before ((steady g.value).grow g.st) w)
+    over (within_before ((steady g.value).grow g.st) w)
 
 module _ {m : Build ℕ} {frame : Frame} {at : Size} {before mid after : Store} {l r : Step} where
   -- the first is done: the second goes on
@@ -99,28 +99,28 @@ module _ {m : Build ℕ} {frame : Frame} {at : Size} {before mid after : Store} 
       builds-from (bind_done f d) d.grew c
 
 -- there was no room for the first
-pub builds-stop :
+pub builds_stop :
     {m : Build ℕ} {frame : Frame} {at : Size} {before after : Store} {l : Step} (f : ℕ → Build ℕ)
     → ((x : ℕ) → Steady (f x))
     → Builds m frame at before after l
     → l.full ≡ true
     → Builds (bind m f) frame at before after l
-builds-stop {m} {frame} {at} {before} f steady b e =
-    builds-over e (b.still e) (bind-over m f frame (held at before) steady (b.over e))
+builds_stop {m} {frame} {at} {before} f steady b e =
+    builds-over e (b.still e) (bind_over m f frame (held at before) steady (b.over e))
 
-pub rows-searchable : {most stand : ℕ} {table : List ℕ} → RowsReady most stand table → Searchable most table
-rows-searchable ready = searchable ready.some ready.limit ready.room ready.within ready.index
+pub rows_searchable : {most stand : ℕ} {table : List ℕ} → RowsReady most stand table → Searchable most table
+rows_searchable ready = searchable ready.some ready.limit ready.room ready.within ready.index
 
 -- A row that stands.
-pub row-stands :
+pub row_stands :
     (frame : Frame) (at : Size) (table o : List ℕ) (ready : Ready frame at (store table o)) (r : Row) (i : ℕ)
     → i < at.rows
     → row_at table i ≡ r
-    → Builds (row r) frame at (store table o) (store table o) (done-step at i)
+    → Builds (row r) frame at (store table o) (store table o) (done_step at i)
 unfolding row held
-row-stands frame at table o ready r i h e =
+row_stands frame at table o ready r i h e =
     let l = upto at.rows (row_at table) in
-    let its = stands-place ready.rows.index r i h e in
+    let its = stands_place ready.rows.index r i h e in
     let found : including same_row r l ≡ l =
     kept-found same_row r l (omega (arith, length-upto at.rows (row_at table), h, its)) in
     builds-done refl
@@ -142,7 +142,7 @@ module _ (frame : Frame) (at : Size) (table o : List ℕ) (ready : Ready frame a
     added =
         kept-none same_row r (upto at.rows (row_at table)) (omega (arith, length-upto at.rows (row_at table), its-place))
 
-    pub row-full : at.rows ≡ frame.rows → Builds (row r) frame at (store table o) (store table o) (full-step at)
+    pub row-full : at.rows ≡ frame.rows → Builds (row r) frame at (store table o) (store table o) (full_step at)
     unfolding row held
     row-full full =
         let l = upto at.rows (row_at table) in
@@ -160,8 +160,8 @@ module _ (frame : Frame) (at : Size) (table o : List ℕ) (ready : Ready frame a
         let x = ready.rows in
         let few : at.rows < frame.rows = omega arith in
         let long = length-appended frame.rows at.rows table r p few x.room f in
-        let word : (v : ℕ) → get_or (appended table at.rows r p) (twin-word frame v) 0 ≡ get_or table (twin-word frame v) 0 =
-        λ v. other frame.rows at.rows table r p few x.room f (twin-word frame v) (omega arith) (omega (arith, f.high)) in
+        let word : (v : ℕ) → get_or (appended table at.rows r p) (twin_word frame v) 0 ≡ get_or table (twin_word frame v) 0 =
+        λ v. other frame.rows at.rows table r p few x.room f (twin_word frame v) (omega arith) (omega (arith, f.high)) in
         let whole : including same_row r l ≡ upto (at.rows + 1) (row_at (appended table at.rows r p)) =
         added ∙ sym (appended-rows frame.rows at.rows table r p few x.room f) in
         builds-done refl
@@ -182,13 +182,13 @@ module _ (frame : Frame) (at : Size) (table o : List ℕ) (ready : Ready frame a
                 twins = ready.twins;
                 originals = ready.originals;
                 variables = ready.variables;
-                past-twins = ready.past-twins;
+                past_twins = ready.past_twins;
                 named =
                     record {
                       room = omega (arith, ready.named.room, long);
                       stands = λ v i h e.
                           let named = ready.named.stands v i h (sym (word v) ∙ e) in
-                          let below = x.index.trees.within (twin-word frame v) i (omega arith) (sym (word v) ∙ e) in
+                          let below = x.index.trees.within (twin_word frame v) i (omega arith) (sym (word v) ∙ e) in
                           (named.0, before frame.rows at.rows table r p few x.room f i below ∙ named.1);
                       missing = λ v h e. ready.named.missing v h (sym (word v) ∙ e);
                     };
@@ -202,7 +202,7 @@ module _ (frame : Frame) (at : Size) (table o : List ℕ) (ready : Ready frame a
   pub put_full :
       Put frame.rows at.rows table r after k
       → k ≡ 65535
-      → Builds (row r) frame at (store table o) (store after o) (full-step at)
+      → Builds (row r) frame at (store table o) (store after o) (full_step at)
   put_full (stood p f e same) last =
       let x = ready.rows in
       absurd (omega (arith, found_below x.index f k e, x.within, x.limit))
@@ -215,10 +215,10 @@ module _ (frame : Frame) (at : Size) (table o : List ℕ) (ready : Ready frame a
       Put frame.rows at.rows table r after k
       → (k ≡ 65535 → ⊥)
       → Builds (row r) frame at (store table o) (store after o)
-      (record { rows = rows-after at.rows k; twins = at.twins; row = k; full = false })
+      (record { rows = rows_after at.rows k; twins = at.twins; row = k; full = false })
   put-done (stood p f e same) room =
       rw (same, ne_eqb k at.rows (λ h. omega (arith, found_below ready.rows.index f k e)))
-      (row-stands frame at table o ready r k (found_below ready.rows.index f k e) (f.stands k e))
+      (row_stands frame at table o ready r k (found_below ready.rows.index f k e) (f.stands k e))
   put-done (no_room p f free all same its) room = absurd (room its)
   put-done (behind p f free some same its) room =
       rw (same, its, eq-eqb at.rows at.rows refl) (row_appended frame at table o ready r p f free some)
@@ -229,7 +229,7 @@ module _ (frame : Frame) (n w : ℕ) (table o : List ℕ) (ready : Ready frame (
       Put frame.rows n table r after k
       → (b : Bool)
       → eqb k 65535 ≡ b
-      → Builds (row r) frame (sized n w) (store table o) (store after o) (stepped (rows-after n k) w k)
+      → Builds (row r) frame (sized n w) (store table o) (store after o) (stepped (rows_after n k) w k)
   put-counted put true t =
       let x = ready.rows in
       let e : k ≡ 65535 = eqb-true k 65535 t in
@@ -242,54 +242,54 @@ module _ (frame : Frame) (n w : ℕ) (table o : List ℕ) (ready : Ready frame (
       (most : ℕ)
       → frame.rows ≡ most
       → Put most n table r after k
-      → Builds (row r) frame (sized n w) (store table o) (store after o) (stepped (rows-after n k) w k)
+      → Builds (row r) frame (sized n w) (store table o) (store after o) (stepped (rows_after n k) w k)
   row_put most same put = put-counted (rw (sym same) at put) (eqb k 65535) refl
 
 -- a row that stands is answered
-pub builds-stands :
+pub builds_stands :
     {frame : Frame} {n w : ℕ} {s : Store} (x : ℕ)
     → Ready frame (sized n w) s
     → x < n
     → Builds (give x) frame (sized n w) s s (stepped n w x)
 unfolding give
-builds-stands x ready h =
+builds_stands x ready h =
     builds-done (ne_eqb x 65535 (λ e. omega (arith, ready.rows.within, ready.rows.limit)))
     (record { value = refl; state = refl; ready = ready; below = h; grew = omega arith })
 
 -- How a join comes out.
 module _ (p : Polarity) (a b : ℕ) where
-  pub join-left-false : a ≡ image-of-false p → join p a b ≡ give (image-of-false p)
-  unfolding join choice join-as
-  join-left-false e = rw (eq-eqb a (image-of-false p) e)
+  pub join-left-false : a ≡ image_of_false p → join p a b ≡ give (image_of_false p)
+  unfolding join choice join_as
+  join-left-false e = rw (eq-eqb a (image_of_false p) e)
 
-  pub join-right-false : (a ≡ image-of-false p → ⊥) → b ≡ image-of-false p → join p a b ≡ give (image-of-false p)
-  unfolding join choice join-as
-  join-right-false h e = rw (ne_eqb a (image-of-false p) h, eq-eqb b (image-of-false p) e)
+  pub join-right-false : (a ≡ image_of_false p → ⊥) → b ≡ image_of_false p → join p a b ≡ give (image_of_false p)
+  unfolding join choice join_as
+  join-right-false h e = rw (ne_eqb a (image_of_false p) h, eq-eqb b (image_of_false p) e)
 
-  module _ (h : a ≡ image-of-false p → ⊥) (g : b ≡ image-of-false p → ⊥) where
-    pub join-left-true : a ≡ image-of-true p → join p a b ≡ give b
-    unfolding join choice join-as
-    join-left-true e = rw (ne_eqb a (image-of-false p) h, ne_eqb b (image-of-false p) g, eq-eqb a (image-of-true p) e)
+  module _ (h : a ≡ image_of_false p → ⊥) (g : b ≡ image_of_false p → ⊥) where
+    pub join-left-true : a ≡ image_of_true p → join p a b ≡ give b
+    unfolding join choice join_as
+    join-left-true e = rw (ne_eqb a (image_of_false p) h, ne_eqb b (image_of_false p) g, eq-eqb a (image_of_true p) e)
 
-    pub join-right-true : (a ≡ image-of-true p → ⊥) → b ≡ image-of-true p → join p a b ≡ give a
-    unfolding join choice join-as
+    pub join-right-true : (a ≡ image_of_true p → ⊥) → b ≡ image_of_true p → join p a b ≡ give a
+    unfolding join choice join_as
     join-right-true k e =
-        rw (ne_eqb a (image-of-false p) h, ne_eqb b (image-of-false p) g, ne_eqb a (image-of-true p) k, eq-eqb b (image-of-true p) e)
+        rw (ne_eqb a (image_of_false p) h, ne_eqb b (image_of_false p) g, ne_eqb a (image_of_true p) k, eq-eqb b (image_of_true p) e)
 
     pub join-fresh :
-        (a ≡ image-of-true p → ⊥) → (b ≡ image-of-true p → ⊥) → join p a b ≡ row (record { kind = join-kind p; a = a; b = b })
-    unfolding join choice join-as
+        (a ≡ image_of_true p → ⊥) → (b ≡ image_of_true p → ⊥) → join p a b ≡ row (record { kind = join_kind p; a = a; b = b })
+    unfolding join choice join_as
     join-fresh k i =
-        rw (ne_eqb a (image-of-false p) h, ne_eqb b (image-of-false p) g, ne_eqb a (image-of-true p) k, ne_eqb b (image-of-true p) i)
+        rw (ne_eqb a (image_of_false p) h, ne_eqb b (image_of_false p) g, ne_eqb a (image_of_true p) k, ne_eqb b (image_of_true p) i)
 
-pub falsity-small : (p : Polarity) → image-of-false p < 2
-falsity-small plain = omega arith
-falsity-small negated = omega arith
+pub falsity_small : (p : Polarity) → image_of_false p < 2
+falsity_small plain = omega arith
+falsity_small negated = omega arith
 
 -- a step that is another one
-pub builds-as :
+pub builds_as :
     {m m' : Build ℕ} {frame : Frame} {at : Size} {before after : Store} {r : Step}
     → m ≡ m'
     → Builds m' frame at before after r
     → Builds m frame at before after r
-builds-as {at = at} {before = before} e b = builds-from (ap (λ (m : Build ℕ). m (held at before)) e) (omega arith) b
+builds_as {at = at} {before = before} e b = builds-from (ap (λ (m : Build ℕ). m (held at before)) e) (omega arith) b

@@ -10,15 +10,15 @@ use Rattle.task.specs.Bounded.{upto}
 use Rattle.task.specs.Table.{Row, row_at}
 use Rattle.formula_builder.specs.Inner.Index.{three}
 
-pub upto-same : {A : Type 0} (n : ℕ) (f g : ℕ → A) → ((k : ℕ) → k < n → f k ≡ g k) → upto n f ≡ upto n g
+pub upto_same : {A : Type 0} (n : ℕ) (f g : ℕ → A) → ((k : ℕ) → k < n → f k ≡ g k) → upto n f ≡ upto n g
 unfolding upto
-upto-same zero f g same = refl
-upto-same {A} (suc n) f g same =
-    ap₂ (λ (l : List A) (x : A). l ++ (x ∷ [])) (upto-same n f g (λ k h. same k (omega arith))) (same n (omega arith))
+upto_same zero f g same = refl
+upto_same {A} (suc n) f g same =
+    ap₂ (λ (l : List A) (x : A). l ++ (x ∷ [])) (upto_same n f g (λ k h. same k (omega arith))) (same n (omega arith))
 
-pub upto-more : {A : Type 0} (n : ℕ) (f : ℕ → A) → upto (n + 1) f ≡ upto n f ++ (f n ∷ [])
+pub upto_more : {A : Type 0} (n : ℕ) (f : ℕ → A) → upto (n + 1) f ≡ upto n f ++ (f n ∷ [])
 unfolding upto
-upto-more n f = rw (add-one n)
+upto_more n f = rw (add-one n)
 
 module _ (t : List ℕ) (n : ℕ) (r : Row) where
   pub length_three : length (three t n r) ≡ length t

@@ -1,6 +1,6 @@
 // The index of the rows: trees under heads that a hash of the row chooses.
 ghost use Rattle.std.specs.Prelude.{◌≡◌, ◌+◌, ◌*◌, ◌≤◌, ◌<◌};
-ghost use Rattle.formula_builder.specs.Inner.Index.{key_of, head_of, link-word};
+ghost use Rattle.formula_builder.specs.Inner.Index.{key_of, head_of, link_word};
 ghost use Rattle.formula_builder.specs.Inner.Held.{row_of};
 
 use crate::Words;
@@ -25,7 +25,7 @@ pub fn head_word(most: usize, key: usize) -> usize
 // The word of the link of row i that the lowest of these bits says.
 pub fn link_word(most: usize, i: usize, bits: usize) -> usize
     requires { (most ≤ 4096) × (i < most) }
-    ensures { result ≡ link-word most i bits }
+    ensures { result ≡ link_word most i bits }
 {
     3 * most + 2 * i + bits % 2
 }

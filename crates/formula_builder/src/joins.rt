@@ -1,6 +1,6 @@
 // Joins of two rows, and their folding.
 ghost use Rattle.std.specs.Prelude.{List, ◌≡◌, ℕ};
-ghost use Rattle.normal_form.specs.Builder.{join as join-built, image-of-false as false-row, image-of-true as true-row, join-kind};
+ghost use Rattle.normal_form.specs.Builder.{join as join-built, image_of_false as false_row, image_of_true as true_row, join_kind};
 ghost use Rattle.formula_builder.specs.declared.Frame.{Frame};
 ghost use Rattle.formula_builder.specs.Inner.Held.{store, sized, stepped, JoinReady, Ready, Builds, side};
 
@@ -8,21 +8,21 @@ use crate::rows::row;
 
 // The row of false; negated, of true.
 pub fn falsity(or: bool) -> u16
-    ensures { result ≡ false-row (side or) }
+    ensures { result ≡ false_row (side or) }
 {
     if or { 1 } else { 0 }
 }
 
 // The row of true; negated, of false.
 pub fn truth(or: bool) -> u16
-    ensures { result ≡ true-row (side or) }
+    ensures { result ≡ true_row (side or) }
 {
     if or { 0 } else { 1 }
 }
 
 // The kind of the join.
 fn kind(or: bool) -> u16
-    ensures { result ≡ join-kind (side or) }
+    ensures { result ≡ join_kind (side or) }
 {
     if or { 5 } else { 4 }
 }

@@ -1,5 +1,7 @@
 // Building the formula table of a compiled task: a row or a twin is found in the tables that are lent, or appended. A step changes the counts of
 // rows and twins in place and answers the number of its row, or NO_ROOM; so do the steps built on these, of images and conditions.
+#![tactic(auto)]
+
 mod frames;
 mod index;
 mod joins;
@@ -17,7 +19,7 @@ pub use twins::twin_row;
 pub const NO_ROOM: u16 = 65535;
 
 // A row's three words.
-#[derive(Drop)]
+#[derive(Clone, Copy)]
 pub struct Words {
     pub kind: u16,
     pub a: u16,
@@ -26,7 +28,7 @@ pub struct Words {
 
 // The source's counts of variables, formulas and effects; how many rows and twins the task that is built has room for; and what stands in it for a
 // formula over an effect: 0, its image, or 1, the formula itself, which the memo of images then has for every row.
-#[derive(Drop)]
+#[derive(Clone, Copy)]
 pub struct Frame {
     pub variables: usize,
     pub formulas: usize,
@@ -37,14 +39,14 @@ pub struct Frame {
 }
 
 // How many rows and twins stand.
-#[derive(Drop)]
+#[derive(Clone, Copy)]
 pub struct Size {
     pub rows: usize,
     pub twins: usize,
 }
 
 // A step from one size to another, for the parts of compiling: the size after it and the row that it built; or that there was no room.
-#[derive(Drop)]
+#[derive(Clone, Copy)]
 pub struct Step {
     pub rows: usize,
     pub twins: usize,

@@ -1,8 +1,8 @@
 // Rows of the formula table.
 ghost use Rattle.std.specs.Prelude.{◌≡◌, List, ℕ, ◌+◌, ◌*◌, ◌≤◌, ◌<◌, length};
 ghost use Rattle.task.specs.Table.{row_at};
-ghost use Rattle.normal_form.specs.Builder.{same_row, row as row-built, variable-row};
-ghost use Rattle.formula_builder.specs.Inner.Index.{Searchable, Found, three, appended, Put, rows-after, Empty, FirstTwo};
+ghost use Rattle.normal_form.specs.Builder.{same_row, row as row-built, variable_row};
+ghost use Rattle.formula_builder.specs.Inner.Index.{Searchable, Found, three, appended, Put, rows_after, Empty, FirstTwo};
 ghost use Rattle.formula_builder.specs.declared.Frame.{Frame};
 ghost use Rattle.formula_builder.specs.Inner.Held.{row_of, store, sized, stepped, RowsReady, Ready, Builds};
 
@@ -126,7 +126,7 @@ pub fn put(table: &mut [u16], most: usize, n: usize, kind: u16, a: u16, b: u16) 
 // How many rows stand after row k was put among n. Constant time.
 fn rows_after(n: usize, k: u16) -> usize
     requires { n ≤ 4096 }
-    ensures { result ≡ rows-after n k }
+    ensures { result ≡ rows_after n k }
 {
     if k as usize == n {
         return n + 1;
@@ -149,7 +149,7 @@ pub fn row(rows: &mut usize, table: &mut [u16], most: usize, kind: u16, a: u16, 
 // The row of a variable.
 pub fn variable_row(rows: &mut usize, table: &mut [u16], most: usize, v: u16) -> u16
     requires { RowsReady most rows.old table.old }
-    ensures { (frame : Frame) (w : ℕ) (o : List ℕ) → frame.rows ≡ most → Ready frame (sized rows.old w) (store table.old o) → Builds (variable-row v) frame (sized rows.old w) (store table.old o) (store table.new o) (stepped rows.new w result) }
+    ensures { (frame : Frame) (w : ℕ) (o : List ℕ) → frame.rows ≡ most → Ready frame (sized rows.old w) (store table.old o) → Builds (variable_row v) frame (sized rows.old w) (store table.old o) (store table.new o) (stepped rows.new w result) }
 {
     row(rows, table, most, 2, v, 0)
 }

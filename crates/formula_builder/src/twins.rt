@@ -1,6 +1,6 @@
 // Twins, and their rows.
 ghost use Rattle.std.specs.Prelude.{◌<◌};
-ghost use Rattle.normal_form.specs.Builder.{twin-row};
+ghost use Rattle.normal_form.specs.Builder.{twin_row};
 ghost use Rattle.formula_builder.specs.Inner.Held.{store, sized, stepped, framed, Ready, Builds};
 
 use crate::NO_ROOM;
@@ -18,7 +18,7 @@ pub fn twin_row(
     v: u16,
 ) -> u16
     requires { Ready (framed frame.now) (sized rows.old twins.old) (store table.old originals.old) × (v < (framed frame.now).variables) }
-    ensures { Builds (twin-row (framed frame.now).variables v) (framed frame.now) (sized rows.old twins.old) (store table.old originals.old) (store table.new originals.new) (stepped rows.new twins.new result) }
+    ensures { Builds (twin_row (framed frame.now).variables v) (framed frame.now) (sized rows.old twins.old) (store table.old originals.old) (store table.new originals.new) (stepped rows.new twins.new result) }
 {
     let p = 9 * frame[ROWS] + v as usize;
     let s = table[p];

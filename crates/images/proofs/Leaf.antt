@@ -3,41 +3,41 @@ use Prim.Native.Nat.{ℕ, ◌<◌}
 use native.Mathlib.Omega.{arith}
 use mathlib.Core.Path.{◌≡◌, sym, ap₂, ◌∙◌}
 use borrow.Author.Tests.{eq-eqb, ne_eqb}
-use Rattle.normal_form.specs.Builder.{row, variable-row, twin-row, Polarity, plain, negated}
+use Rattle.normal_form.specs.Builder.{row, variable_row, twin_row, Polarity, plain, negated}
 use Rattle.normal_form.specs.Image.{literal}
 use Rattle.formula_builder.specs.declared.Words.{Words}
 use Rattle.formula_builder.specs.declared.Frame.{Frame}
 use Rattle.formula_builder.specs.declared.Size.{Size}
 use Rattle.formula_builder.specs.Inner.Held.{Store, row_of, stepped, Builds}
-use Rattle.formula_builder.proofs.Steps.{builds-stands}
-use Rattle.images.specs.Inner.Images.{constant_by, leaf-built, LeafReady}
+use Rattle.formula_builder.proofs.Steps.{builds_stands}
+use Rattle.images.specs.Inner.Images.{constant_by, leaf_built, LeafReady}
 
-constant-small : (p : Polarity) (k : ℕ) → k < 2 → constant_by p k < 2
-constant-small plain k h = h
-constant-small negated k h = omega arith
+constant_small : (p : Polarity) (k : ℕ) → k < 2 → constant_by p k < 2
+constant_small plain k h = h
+constant_small negated k h = omega arith
 
-leaf-variable :
-    (n : ℕ) (p : Polarity) (w : Words) → w.kind ≡ 2 → leaf-built n p (row_of w) ≡ literal n p w.a
-unfolding leaf-built
-leaf-variable n p w k = rw (eq-eqb w.kind 2 k)
+leaf_variable :
+    (n : ℕ) (p : Polarity) (w : Words) → w.kind ≡ 2 → leaf_built n p (row_of w) ≡ literal n p w.a
+unfolding leaf_built
+leaf_variable n p w k = rw (eq-eqb w.kind 2 k)
 
-pub leaf-twin : (n : ℕ) (w : Words) → w.kind ≡ 2 → leaf-built n negated (row_of w) ≡ twin-row n w.a
+pub leaf_twin : (n : ℕ) (w : Words) → w.kind ≡ 2 → leaf_built n negated (row_of w) ≡ twin_row n w.a
 unfolding literal
-leaf-twin n w k = leaf-variable n negated w k
+leaf_twin n w k = leaf_variable n negated w k
 
-pub leaf-copied :
-    (n : ℕ) (w : Words) → w.kind ≡ 2 → w.b ≡ 0 → leaf-built n plain (row_of w) ≡ row (row_of w)
-unfolding literal variable-row
-leaf-copied n w k z =
-    leaf-variable n plain w k ∙ ap₂ (λ (k b : ℕ). row (record { kind = k; a = w.a; b = b })) (sym k) (sym z)
+pub leaf_copied :
+    (n : ℕ) (w : Words) → w.kind ≡ 2 → w.b ≡ 0 → leaf_built n plain (row_of w) ≡ row (row_of w)
+unfolding literal variable_row
+leaf_copied n w k z =
+    leaf_variable n plain w k ∙ ap₂ (λ (k b : ℕ). row (record { kind = k; a = w.a; b = b })) (sym k) (sym z)
 
-pub leaf-constant :
+pub leaf_constant :
     {frame : Frame} {at : Size} {before : Store} (p : Polarity) (w : Words)
     → LeafReady frame at before (row_of w)
     → (w.kind ≡ 2 → ⊥)
-    → Builds (leaf-built frame.variables p (row_of w)) frame at before before (stepped at.rows at.twins (constant_by p w.kind))
-unfolding leaf-built
-leaf-constant {frame} {at} {before} p w r k =
+    → Builds (leaf_built frame.variables p (row_of w)) frame at before before (stepped at.rows at.twins (constant_by p w.kind))
+unfolding leaf_built
+leaf_constant {frame} {at} {before} p w r k =
     let l : w.kind < 2 = omega (arith, r.kind) in
     rw (ne_eqb w.kind 2 k)
-    (builds-stands (constant_by p w.kind) r.ready (omega (arith, constant-small p w.kind l, r.ready.two)))
+    (builds_stands (constant_by p w.kind) r.ready (omega (arith, constant_small p w.kind l, r.ready.two)))

@@ -14,168 +14,168 @@ use Rattle.task.specs.Semantics.{Formula}
 use Rattle.task.proofs.Bounded.{length-upto}
 use Rattle.normal_form.specs.Builder.{St, Got, Build, bind, join, pair, Polarity, plain, negated}
 use Rattle.normal_form.specs.Growth.{Grows, Steady}
-use Rattle.normal_form.proofs.Growth.{grows-refl, steady-bind, steady-join, steady-pair}
+use Rattle.normal_form.proofs.Growth.{grows_refl, steady_bind, steady_join, steady_pair}
 use Rattle.normal_form.specs.Image.{image}
 use Rattle.normal_form.specs.Copy.{copy, itself}
-use Rattle.normal_form.proofs.Steady.{steady-image, steady-itself}
+use Rattle.normal_form.proofs.Steady.{steady_image, steady_itself}
 use Rattle.formula_builder.specs.declared.Frame.{Frame}
 use Rattle.formula_builder.specs.declared.Size.{Size}
 use Rattle.formula_builder.specs.declared.Step.{Step}
 use Rattle.formula_builder.specs.Inner.Held.{Store, held, size_of, side, stepped, Done, Builds}
-use Rattle.formula_builder.proofs.Steps.{builds-done, builds-as, builds-bind, builds-stop, prefix-length}
-use Rattle.images.specs.Inner.Images.{becoming, tree, image-at, pair-at, memo-place, Known, Memo, Asks, AsksBuilt, Images}
+use Rattle.formula_builder.proofs.Steps.{builds-done, builds_as, builds-bind, builds_stop, prefix_length}
+use Rattle.images.specs.Inner.Images.{becoming, tree, image_at, pair_at, memo_place, Known, Memo, Asks, AsksBuilt, Images}
 
 -- what a formula becomes is steady, whichever it is
-pub steady-becoming : (frame : Frame) (p : Polarity) (f : Formula) → Steady (becoming frame p f)
+pub steady_becoming : (frame : Frame) (p : Polarity) (f : Formula) → Steady (becoming frame p f)
 unfolding becoming
-steady-becoming frame p f = go (eqb frame.copied 0)
+steady_becoming frame p f = go (eqb frame.copied 0)
   where
     go : (b : Bool) → Steady (cond b (image frame.variables) itself p f)
-    go true = steady-image frame.variables p f
-    go false = steady-itself p f
+    go true = steady_image frame.variables p f
+    go false = steady_itself p f
 
-pub steady-image-at : (frame : Frame) (formulas : List ℕ) (p : Polarity) (i : ℕ) → Steady (image-at frame formulas p i)
-unfolding image-at
-steady-image-at frame formulas p i = steady-becoming frame p (tree frame formulas i)
+pub steady_image_at : (frame : Frame) (formulas : List ℕ) (p : Polarity) (i : ℕ) → Steady (image_at frame formulas p i)
+unfolding image_at
+steady_image_at frame formulas p i = steady_becoming frame p (tree frame formulas i)
 
-pub steady-pair-at :
-    (frame : Frame) (formulas : List ℕ) (i : ℕ) (left right or : Bool) → Steady (pair-at frame formulas i left right or)
-unfolding pair-at
-steady-pair-at frame formulas i left right or =
-    steady-pair (side or) (steady-image-at frame formulas (side left) (row_at formulas i).a)
-    (steady-image-at frame formulas (side right) (row_at formulas i).b)
+pub steady_pair_at :
+    (frame : Frame) (formulas : List ℕ) (i : ℕ) (left right or : Bool) → Steady (pair_at frame formulas i left right or)
+unfolding pair_at
+steady_pair_at frame formulas i left right or =
+    steady_pair (side or) (steady_image_at frame formulas (side left) (row_at formulas i).a)
+    (steady_image_at frame formulas (side right) (row_at formulas i).b)
 
 -- what is known stays known
-pub known-grows : {m : Build ℕ} {s t : St} {r : ℕ} → Steady m → Grows s t → Known m s r → Known m t r
-known-grows {m} {s} {t} {r} steady g k =
+pub known_grows : {m : Build ℕ} {s t : St} {r : ℕ} → Steady m → Grows s t → Known m s r → Known m t r
+known_grows {m} {s} {t} {r} steady g k =
     let here : (m s).st ≡ s = ap (λ (x : Got ℕ). x.st) k.again in
     let value : (m s).value ≡ r = ap (λ (x : Got ℕ). x.value) k.again in
     let g' : Grows (m s).st t = rw here g in
     record {
       again = steady.again s t g' ∙ rw value;
-      below = omega (arith, prefix-length g.rows, k.below);
+      below = omega (arith, prefix_length g.rows, k.below);
     }
 
-pub memo-grows :
+pub memo_grows :
     {frame : Frame} {formulas scratch : List ℕ} {s t : St}
     → Grows s t
     → Memo frame formulas scratch s
     → Memo frame formulas scratch t
-memo-grows {frame} {formulas} g m =
+memo_grows {frame} {formulas} g m =
     record {
-      known = λ p i r h e. known-grows (steady-image-at frame formulas p i) g (m.known p i r h e);
+      known = λ p i r h e. known_grows (steady_image_at frame formulas p i) g (m.known p i r h e);
       full = m.full;
     }
 
 -- a step that is done grows the state that the tables hold
-pub done-grows :
+pub done_grows :
     {m : Build ℕ} {frame : Frame} {at : Size} {before after : Store} {r : Step}
     → Steady m
     → Done m frame at before after r
     → Grows (held at before) (held (size_of r) after)
-done-grows {at = at} {before = before} steady d = rw d.state at (steady.grow (held at before))
+done_grows {at = at} {before = before} steady d = rw d.state at (steady.grow (held at before))
 
 -- and what it built is known from then on
-pub done-known :
+pub done_known :
     {m : Build ℕ} {frame : Frame} {at : Size} {before after : Store} {r : Step}
     → Steady m
     → Done m frame at before after r
     → Known m (held (size_of r) after) r.row
 unfolding held
-done-known {m} {at = at} {before = before} {after = after} {r = r} steady d =
+done_known {m} {at = at} {before = before} {after = after} {r = r} steady d =
     let s = held at before in
     let t = held (size_of r) after in
-    let stays : Grows (m s).st t = rw d.state (grows-refl t) in
+    let stays : Grows (m s).st t = rw d.state (grows_refl t) in
     record {
       again = steady.again s t stays ∙ rw d.value;
       below = rw (length-upto r.rows (row_at after.table)) d.below;
     }
 
 -- two places of the memo are the same only for the same row and polarity
-place-once :
+place_once :
     (frame : Frame) (P : Polarity → ℕ → Type 0) (p q : Polarity) (i j : ℕ)
     → i < frame.formulas
     → j < frame.formulas
-    → memo-place frame q j ≡ memo-place frame p i
+    → memo_place frame q j ≡ memo_place frame p i
     → P p i
     → P q j
-place-once frame P plain plain i j h g e x = rw e x
-place-once frame P plain negated i j h g e x = absurd (omega arith)
-place-once frame P negated plain i j h g e x = absurd (omega arith)
-place-once frame P negated negated i j h g e x = let d : j ≡ i = omega arith in rw d x
+place_once frame P plain plain i j h g e x = rw e x
+place_once frame P plain negated i j h g e x = absurd (omega arith)
+place_once frame P negated plain i j h g e x = absurd (omega arith)
+place_once frame P negated negated i j h g e x = let d : j ≡ i = omega arith in rw d x
 
-pub place-within :
-    (frame : Frame) (p : Polarity) (i : ℕ) → i < frame.formulas → memo-place frame p i < 2 * frame.formulas
-place-within frame plain i h = omega arith
-place-within frame negated i h = omega arith
+pub place_within :
+    (frame : Frame) (p : Polarity) (i : ℕ) → i < frame.formulas → memo_place frame p i < 2 * frame.formulas
+place_within frame plain i h = omega arith
+place_within frame negated i h = omega arith
 
-memo-noted :
+memo_noted :
     (frame : Frame) (formulas scratch : List ℕ) (s : St) (p : Polarity) (i r : ℕ)
     → i < frame.formulas
     → 2 * frame.formulas ≤ length scratch
-    → Known (image-at frame formulas p i) s r
+    → Known (image_at frame formulas p i) s r
     → Memo frame formulas scratch s
-    → Memo frame formulas (set scratch (memo-place frame p i) (r + 1)) s
-memo-noted frame formulas scratch s p i r h room k m =
+    → Memo frame formulas (set scratch (memo_place frame p i) (r + 1)) s
+memo_noted frame formulas scratch s p i r h room k m =
     record {
       known = known;
-      full = λ c q j g e. full c q j g (ℕ_discrete (memo-place frame q j) (memo-place frame p i)) e;
+      full = λ c q j g e. full c q j g (ℕ_discrete (memo_place frame q j) (memo_place frame p i)) e;
     }
   where
-    there : get_or (set scratch (memo-place frame p i) (r + 1)) (memo-place frame p i) 0 ≡ r + 1
-    there = get_or-set_same scratch (memo-place frame p i) (r + 1) 0 (omega (arith, place-within frame p i h))
+    there : get_or (set scratch (memo_place frame p i) (r + 1)) (memo_place frame p i) 0 ≡ r + 1
+    there = get_or-set_same scratch (memo_place frame p i) (r + 1) 0 (omega (arith, place_within frame p i h))
 
     full :
         (frame.copied ≡ 0 → ⊥)
         → (q : Polarity) (j : ℕ)
         → j < frame.formulas
-        → Dec (memo-place frame q j ≡ memo-place frame p i)
-        → get_or (set scratch (memo-place frame p i) (r + 1)) (memo-place frame q j) 0 ≡ 0
+        → Dec (memo_place frame q j ≡ memo_place frame p i)
+        → get_or (set scratch (memo_place frame p i) (r + 1)) (memo_place frame q j) 0 ≡ 0
         → ⊥
     full c q j g (yes same) e =
-        let z : get_or (set scratch (memo-place frame p i) (r + 1)) (memo-place frame p i) 0 ≡ 0 = rw same at e in
+        let z : get_or (set scratch (memo_place frame p i) (r + 1)) (memo_place frame p i) 0 ≡ 0 = rw same at e in
         omega (arith, z, there)
     full c q j g (no other) e =
-        m.full c q j g (sym (get_or-set_other scratch (memo-place frame p i) (memo-place frame q j) (r + 1) 0 other) ∙ e)
+        m.full c q j g (sym (get_or-set_other scratch (memo_place frame p i) (memo_place frame q j) (r + 1) 0 other) ∙ e)
 
     known :
         (q : Polarity) (j x : ℕ)
         → j < frame.formulas
-        → get_or (set scratch (memo-place frame p i) (r + 1)) (memo-place frame q j) 0 ≡ x + 1
-        → Known (image-at frame formulas q j) s x
-    known q j x g e = go (ℕ_discrete (memo-place frame q j) (memo-place frame p i))
+        → get_or (set scratch (memo_place frame p i) (r + 1)) (memo_place frame q j) 0 ≡ x + 1
+        → Known (image_at frame formulas q j) s x
+    known q j x g e = go (ℕ_discrete (memo_place frame q j) (memo_place frame p i))
       where
-        go : Dec (memo-place frame q j ≡ memo-place frame p i) → Known (image-at frame formulas q j) s x
+        go : Dec (memo_place frame q j ≡ memo_place frame p i) → Known (image_at frame formulas q j) s x
         go (yes same) =
-            let now : get_or (set scratch (memo-place frame p i) (r + 1)) (memo-place frame q j) 0 ≡ r + 1 =
+            let now : get_or (set scratch (memo_place frame p i) (r + 1)) (memo_place frame q j) 0 ≡ r + 1 =
             rw same there in
             let d : x ≡ r = omega (arith, now, e) in
-            rw d (place-once frame (λ q j. Known (image-at frame formulas q j) s r) p q i j h g same k)
+            rw d (place_once frame (λ q j. Known (image_at frame formulas q j) s r) p q i j h g same k)
         go (no other) =
             m.known q j x g
-            (sym (get_or-set_other scratch (memo-place frame p i) (memo-place frame q j) (r + 1) 0 other) ∙ e)
+            (sym (get_or-set_other scratch (memo_place frame p i) (memo_place frame q j) (r + 1) 0 other) ∙ e)
 
 -- nothing is known, where formulas become their images
-pub memo-blank :
+pub memo_blank :
     (frame : Frame) (formulas scratch : List ℕ) (s : St)
     → frame.copied ≡ 0
     → ((j : ℕ) → get_or scratch j 0 ≡ 0)
     → Memo frame formulas scratch s
-memo-blank frame formulas scratch s imaged blank =
+memo_blank frame formulas scratch s imaged blank =
     record {
-      known = λ p i r h e. absurd (omega (arith, e, blank (memo-place frame p i)));
+      known = λ p i r h e. absurd (omega (arith, e, blank (memo_place frame p i)));
       full = λ c. absurd (c imaged);
     }
 
 -- All formulas are known as they stand (02, K3): each is given again as row `at i` and adds nothing, and both words of formula i are that row plus 1.
-pub memo-copied :
+pub memo_copied :
     (frame : Frame) (formulas scratch : List ℕ) (s : St) (at : ℕ → ℕ)
     → (frame.copied ≡ 0 → ⊥)
     → ((i : ℕ) → i < frame.formulas → Known (copy (tree frame formulas i)) s (at i))
-    → ((p : Polarity) (i : ℕ) → i < frame.formulas → get_or scratch (memo-place frame p i) 0 ≡ at i + 1)
+    → ((p : Polarity) (i : ℕ) → i < frame.formulas → get_or scratch (memo_place frame p i) 0 ≡ at i + 1)
     → Memo frame formulas scratch s
-unfolding image-at becoming itself
-memo-copied frame formulas scratch s at copied known words =
+unfolding image_at becoming itself
+memo_copied frame formulas scratch s at copied known words =
     record {
       known = λ p i r h e.
           let same : r ≡ at i = omega (arith, e, words p i h) in
@@ -189,7 +189,7 @@ module _ {m : Build ℕ} {frame : Frame} {formulas : List ℕ} {at : Size} {befo
       → m ≡ m'
       → Images m' frame formulas at before after scratch scratch' r
       → Images m frame formulas at before after scratch scratch' r
-  images-as e x = record { builds = builds-as e x.builds; memo = x.memo; rest = x.rest }
+  images-as e x = record { builds = builds_as e x.builds; memo = x.memo; rest = x.rest }
 
   -- the next step finds all that it asks
   pub asks-next :
@@ -215,39 +215,39 @@ module _ {m : Build ℕ} {frame : Frame} {formulas : List ℕ} {at : Size} {befo
       }
 
 -- a step that has no memo
-pub images-leaf :
+pub images_leaf :
     {m : Build ℕ} {frame : Frame} {formulas : List ℕ} {at : Size} {before after : Store} {scratch : List ℕ} {r : Step}
     → Steady m
     → Memo frame formulas scratch (held at before)
     → Builds m frame at before after r
     → Images m frame formulas at before after scratch scratch r
-images-leaf steady memo b =
-    record { builds = b; memo = λ e. memo-grows (done-grows steady (b.done e)) memo; rest = λ j h. refl }
+images_leaf steady memo b =
+    record { builds = b; memo = λ e. memo_grows (done_grows steady (b.done e)) memo; rest = λ j h. refl }
 
-images-bind :
+images_bind :
     {m : Build ℕ} {frame : Frame} {formulas : List ℕ} {at : Size} {before mid after : Store} {s1 s2 s3 : List ℕ} {l r : Step}
     (f : ℕ → Build ℕ)
     → Images m frame formulas at before mid s1 s2 l
     → l.full ≡ false
     → Images (f l.row) frame formulas (size_of l) mid after s2 s3 r
     → Images (bind m f) frame formulas at before after s1 s3 r
-images-bind f x e y =
+images_bind f x e y =
     record {
       builds = builds-bind f x.builds e y.builds;
       memo = y.memo;
       rest = λ j h. y.rest j h ∙ x.rest j h;
     }
 
-images-stop :
+images_stop :
     {m : Build ℕ} {frame : Frame} {formulas : List ℕ} {at : Size} {before after : Store} {s1 s2 : List ℕ} {l : Step}
     (f : ℕ → Build ℕ)
     → ((x : ℕ) → Steady (f x))
     → Images m frame formulas at before after s1 s2 l
     → l.full ≡ true
     → Images (bind m f) frame formulas at before after s1 s2 l
-images-stop f steady x e =
+images_stop f steady x e =
     record {
-      builds = builds-stop f steady x.builds e;
+      builds = builds_stop f steady x.builds e;
       memo = λ g. absurd (true≢false (sym e ∙ g));
       rest = x.rest;
     }
@@ -263,15 +263,15 @@ module _ {p : Polarity} {m left right : Build ℕ} {frame : Frame} {formulas : L
   unfolding pair
   left-full e =
       images-as j.is
-      (images-stop (λ a. bind right (λ b. join p a b)) (λ a. steady-bind j.steady (λ b. steady-join p a b)) x e)
+      (images_stop (λ a. bind right (λ b. join p a b)) (λ a. steady_bind j.steady (λ b. steady_join p a b)) x e)
 
   module _ {after : Store} {s3 : List ℕ} {r : Step} (e : l.full ≡ false) (y : Images right frame formulas (size_of l) mid after s2 s3 r) where
     pub right-full : r.full ≡ true → Images m frame formulas at before after s1 s3 r
     unfolding pair
     right-full g =
         images-as j.is
-        (images-bind (λ a. bind right (λ b. join p a b)) x e
-        (images-stop (λ b. join p l.row b) (λ b. steady-join p l.row b) y g))
+        (images_bind (λ a. bind right (λ b. join p a b)) x e
+        (images_stop (λ b. join p l.row b) (λ b. steady_join p l.row b) y g))
 
     pub joined :
         {last : Store} {z : Step}
@@ -281,20 +281,20 @@ module _ {p : Polarity} {m left right : Build ℕ} {frame : Frame} {formulas : L
     unfolding pair
     joined g b =
         images-as j.is
-        (images-bind (λ a. bind right (λ b. join p a b)) x e
-        (images-bind (λ b. join p l.row b) y g
-        (images-leaf (steady-join p l.row r.row) (y.memo g) b)))
+        (images_bind (λ a. bind right (λ b. join p a b)) x e
+        (images_bind (λ b. join p l.row b) y g
+        (images_leaf (steady_join p l.row r.row) (y.memo g) b)))
 
 -- The memo has formula i, in word k.
-pub images-known :
+pub images_known :
     {frame : Frame} {formulas : List ℕ} {at : Size} {before : Store} {scratch : List ℕ} {i k : ℕ} (p : Polarity)
     → Asks frame formulas at before scratch i
-    → k ≡ memo-place frame p i
+    → k ≡ memo_place frame p i
     → (get_or scratch k 0 ≡ 0 → ⊥)
-    → Images (image-at frame formulas p i) frame formulas at before before scratch scratch
+    → Images (image_at frame formulas p i) frame formulas at before before scratch scratch
     (stepped at.rows at.twins (get_or scratch k 0 - 1))
 unfolding held
-images-known {frame} {at = at} {before = before} {scratch} {i} {k} p a e some =
+images_known {frame} {at = at} {before = before} {scratch} {i} {k} p a e some =
     let w = get_or scratch k 0 in
     let here : w ≡ w - 1 + 1 = omega arith in
     let k = a.memo.known p i (w - 1) a.formula (ap (λ x. get_or scratch x 0) (sym e) ∙ here) in
@@ -315,33 +315,33 @@ images-known {frame} {at = at} {before = before} {scratch} {i} {k} p a e some =
     }
 
 -- The memo does not have it: then it is to be built, and formulas become their images.
-pub asks-built :
+pub asks_built :
     {frame : Frame} {formulas : List ℕ} {at : Size} {before : Store} {scratch : List ℕ} {i k : ℕ} (p : Polarity)
     → Asks frame formulas at before scratch i
-    → k ≡ memo-place frame p i
+    → k ≡ memo_place frame p i
     → get_or scratch k 0 ≡ 0
     → AsksBuilt frame formulas at before scratch i
-asks-built {frame} {scratch = scratch} {i = i} p a e none = record { asks = a; imaged = go (ℕ_discrete frame.copied 0) }
+asks_built {frame} {scratch = scratch} {i = i} p a e none = record { asks = a; imaged = go (ℕ_discrete frame.copied 0) }
   where
     go : Dec (frame.copied ≡ 0) → frame.copied ≡ 0
     go (yes z) = z
     go (no c) = absurd (a.memo.full c p i a.formula (ap (λ x. get_or scratch x 0) (sym e) ∙ none))
 
 -- Formula i was built and is noted.
-pub images-noted :
+pub images_noted :
     {frame : Frame} {formulas : List ℕ} {at : Size} {before after : Store} {scratch scratch' : List ℕ} {i : ℕ} {r : Step} (p : Polarity)
     → i < frame.formulas
     → 2 * frame.formulas ≤ length scratch'
-    → Images (image-at frame formulas p i) frame formulas at before after scratch scratch' r
+    → Images (image_at frame formulas p i) frame formulas at before after scratch scratch' r
     → r.full ≡ false
-    → Images (image-at frame formulas p i) frame formulas at before after scratch (set scratch' (memo-place frame p i) (r.row + 1)) r
-images-noted {frame} {formulas} {after = after} {scratch' = scratch'} {i} {r} p h room x e =
+    → Images (image_at frame formulas p i) frame formulas at before after scratch (set scratch' (memo_place frame p i) (r.row + 1)) r
+images_noted {frame} {formulas} {after = after} {scratch' = scratch'} {i} {r} p h room x e =
     record {
       builds = x.builds;
       memo = λ _.
-          memo-noted frame formulas scratch' (held (size_of r) after) p i r.row h room
-          (done-known (steady-image-at frame formulas p i) (x.builds.done e)) (x.memo e);
+          memo_noted frame formulas scratch' (held (size_of r) after) p i r.row h room
+          (done_known (steady_image_at frame formulas p i) (x.builds.done e)) (x.memo e);
       rest = λ j g.
-          get_or-set_other scratch' (memo-place frame p i) j (r.row + 1) 0 (λ q. omega (arith, place-within frame p i h, q))
+          get_or-set_other scratch' (memo_place frame p i) j (r.row + 1) 0 (λ q. omega (arith, place_within frame p i h, q))
           ∙ x.rest j g;
     }

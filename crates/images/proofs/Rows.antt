@@ -8,10 +8,10 @@ use mathlib.Core.List.{List, [], ◌∷◌}
 use lib.ListN.{length, get_or, get_or-eq_default}
 use lib.Dec.{eqb}
 use borrow.Author.Tests.{eq-eqb, ne_eqb}
-use Rattle.task.specs.Table.{row_at, FormulaKind, false-kind, true-kind, variable-kind, not-kind, and-kind, or-kind, implies-kind, equivalent-kind, unknown-formula, formula-kind}
+use Rattle.task.specs.Table.{row_at, FormulaKind, false_kind, true_kind, variable_kind, not_kind, and_kind, or_kind, implies_kind, equivalent_kind, unknown_formula, formula_kind}
 use Rattle.task.specs.Rules.{no_row, FormulaRule}
 use Rattle.task.specs.Semantics.{Formula}
-use Rattle.task.specs.Tree.{formula-node}
+use Rattle.task.specs.Tree.{formula_node}
 use Rattle.task.proofs.Bounded.{length-upto, getD-upto}
 use Rattle.task.proofs.Trees.{formula-unfolds}
 use Rattle.task.specs.Inner.Rows.{FormulaKept}
@@ -22,38 +22,38 @@ use Rattle.formula_builder.specs.declared.Words.{Words}
 use Rattle.formula_builder.specs.declared.Frame.{Frame}
 use Rattle.formula_builder.specs.declared.Size.{Size}
 use Rattle.formula_builder.specs.Inner.Held.{Store, row_of, side}
-use Rattle.images.specs.Inner.Images.{source-rows, tree, becoming, image-at, pair-at, equivalent-at, leaf-built, Asks, AsksBuilt}
+use Rattle.images.specs.Inner.Images.{source_rows, tree, becoming, image_at, pair_at, equivalent_at, leaf_built, Asks, AsksBuilt}
 
-known-kind : (v i k a b : ℕ) → FormulaRule v i (formula-kind k) a b → k < 8
-unfolding formula-kind
-known-kind v i k a b r = go (dec_lt k 8)
+known_kind : (v i k a b : ℕ) → FormulaRule v i (formula_kind k) a b → k < 8
+unfolding formula_kind
+known_kind v i k a b r = go (dec_lt k 8)
   where
     go : Dec (k < 8) → k < 8
     go (yes h) = h
     go (no h) =
         let kinds : List FormulaKind =
-        false-kind ∷ true-kind ∷ variable-kind ∷ not-kind ∷ and-kind ∷ or-kind ∷ implies-kind ∷ equivalent-kind ∷ [] in
-        let e : get_or kinds k unknown-formula ≡ unknown-formula =
-        get_or-eq_default kinds unknown-formula {n = k} (omega arith) in
+        false_kind ∷ true_kind ∷ variable_kind ∷ not_kind ∷ and_kind ∷ or_kind ∷ implies_kind ∷ equivalent_kind ∷ [] in
+        let e : get_or kinds k unknown_formula ≡ unknown_formula =
+        get_or-eq_default kinds unknown_formula {n = k} (omega arith) in
         absurd (rw e at r)
 
-two_operands : (v i k a b : ℕ) → FormulaRule v i (formula-kind k) a b → 4 ≤ k → (a < i) × (b < i)
-unfolding formula-kind
+two_operands : (v i k a b : ℕ) → FormulaRule v i (formula_kind k) a b → 4 ≤ k → (a < i) × (b < i)
+unfolding formula_kind
 two_operands v i k a b r l = go (ℕ_discrete k 4) (ℕ_discrete k 5) (ℕ_discrete k 6)
   where
     go : Dec (k ≡ 4) → Dec (k ≡ 5) → Dec (k ≡ 6) → (a < i) × (b < i)
     go (yes e) _ _ = rw e at r
     go (no _) (yes e) _ = rw e at r
     go (no _) (no _) (yes e) = rw e at r
-    go (no c) (no d) (no f) = let e : k ≡ 7 = omega (arith, known-kind v i k a b r) in rw e at r
+    go (no c) (no d) (no f) = let e : k ≡ 7 = omega (arith, known_kind v i k a b r) in rw e at r
 
 -- The image of a row by its kind, over the formulas p and q that its words a and b name.
 module _ (n : ℕ) (a : ℕ) (f g : Formula) where
   leaf-image :
       (p : Polarity) (k b : ℕ)
       → k < 3
-      → image n p (formula-node (formula-kind k) a f g) ≡ leaf-built n p (record { kind = k; a = a; b = b })
-  unfolding image formula-node formula-kind leaf-built
+      → image n p (formula_node (formula_kind k) a f g) ≡ leaf_built n p (record { kind = k; a = a; b = b })
+  unfolding image formula_node formula_kind leaf_built
   leaf-image plain zero b h = refl
   leaf-image plain (suc zero) b h = refl
   leaf-image plain (suc (suc zero)) b h = refl
@@ -64,8 +64,8 @@ module _ (n : ℕ) (a : ℕ) (f g : Formula) where
   leaf-image negated (suc (suc (suc k))) b h = absurd (omega arith)
 
   negation-image :
-      (b : Bool) (k : ℕ) → k ≡ 3 → image n (side b) (formula-node (formula-kind k) a f g) ≡ image n (side (not b)) f
-  unfolding image formula-node formula-kind
+      (b : Bool) (k : ℕ) → k ≡ 3 → image n (side b) (formula_node (formula_kind k) a f g) ≡ image n (side (not b)) f
+  unfolding image formula_node formula_kind
   negation-image false k e = rw e
   negation-image true k e = rw e
 
@@ -74,16 +74,16 @@ module _ (n : ℕ) (a : ℕ) (f g : Formula) where
       (b : Bool) (k : ℕ)
       → 4 ≤ k
       → k < 7
-      → image n (side b) (formula-node (formula-kind k) a f g)
+      → image n (side b) (formula_node (formula_kind k) a f g)
       ≡ pair (side (beq (eqb k 4) b)) (image n (side (not (beq (eqb k 6) b))) f) (image n (side b) g)
-  unfolding image formula-node formula-kind
+  unfolding image formula_node formula_kind
   pair-image b k l h = go b (ℕ_discrete k 4) (ℕ_discrete k 5)
     where
       go :
           (b : Bool)
           → Dec (k ≡ 4)
           → Dec (k ≡ 5)
-          → image n (side b) (formula-node (formula-kind k) a f g)
+          → image n (side b) (formula_node (formula_kind k) a f g)
           ≡ pair (side (beq (eqb k 4) b)) (image n (side (not (beq (eqb k 6) b))) f) (image n (side b) g)
       go false (yes e) _ = rw e
       go true (yes e) _ = rw e
@@ -95,48 +95,48 @@ module _ (n : ℕ) (a : ℕ) (f g : Formula) where
   equivalence-image :
       (b : Bool) (k : ℕ)
       → k ≡ 7
-      → image n (side b) (formula-node (formula-kind k) a f g)
+      → image n (side b) (formula_node (formula_kind k) a f g)
       ≡ pair negated (pair plain (image n plain f) (image n (side b) g)) (pair plain (image n negated f) (image n (side (not b)) g))
-  unfolding image formula-node formula-kind
+  unfolding image formula_node formula_kind
   equivalence-image false k e = rw e
   equivalence-image true k e = rw e
 
 -- the operands of row i are those that its words name
-pub pair-words :
+pub pair_words :
     (frame : Frame) (formulas : List ℕ) (i : ℕ) (w : Words)
     → row_of w ≡ row_at formulas i
     → (left right or : Bool)
-    → pair-at frame formulas i left right or
-    ≡ pair (side or) (image-at frame formulas (side left) w.a) (image-at frame formulas (side right) w.b)
-unfolding pair-at
-pair-words frame formulas i w e left right or = rw (← e)
+    → pair_at frame formulas i left right or
+    ≡ pair (side or) (image_at frame formulas (side left) w.a) (image_at frame formulas (side right) w.b)
+unfolding pair_at
+pair_words frame formulas i w e left right or = rw (← e)
 
 -- where formulas become their images
-pub becoming-image : (frame : Frame) → frame.copied ≡ 0 → becoming frame ≡ image frame.variables
+pub becoming_image : (frame : Frame) → frame.copied ≡ 0 → becoming frame ≡ image frame.variables
 unfolding becoming
-becoming-image frame z = rw (eq-eqb frame.copied 0 z)
+becoming_image frame z = rw (eq-eqb frame.copied 0 z)
 
 -- and where they are taken as they stand (02, K3)
-pub becoming-itself : (frame : Frame) → (frame.copied ≡ 0 → ⊥) → becoming frame ≡ itself
+pub becoming_itself : (frame : Frame) → (frame.copied ≡ 0 → ⊥) → becoming frame ≡ itself
 unfolding becoming
-becoming-itself frame c = rw (ne_eqb frame.copied 0 c)
+becoming_itself frame c = rw (ne_eqb frame.copied 0 c)
 
 -- Row i of the source, with the words w.
 module _ {frame : Frame} {formulas : List ℕ} {at : Size} {before : Store} {scratch : List ℕ} {i : ℕ} (x : Asks frame formulas at before scratch i)
     (w : Words) (e : row_of w ≡ row_at formulas i) where
-  row-held : get_or (source-rows frame formulas) i no_row ≡ row_of w
-  unfolding source-rows
+  row-held : get_or (source_rows frame formulas) i no_row ≡ row_of w
+  unfolding source_rows
   row-held = getD-upto frame.formulas (row_at formulas) i no_row x.formula ∙ sym e
 
-  within : i < length (source-rows frame formulas)
-  unfolding source-rows
+  within : i < length (source_rows frame formulas)
+  unfolding source_rows
   within = rw (length-upto frame.formulas (row_at formulas)) x.formula
 
   rule-held : FormulaKept frame.variables i (row_of w)
   rule-held = rw row-held at (x.source.down.row i within)
 
   known : w.kind < 8
-  known = known-kind frame.variables i w.kind w.a w.b rule-held
+  known = known_kind frame.variables i w.kind w.a w.b rule-held
 
   -- the two words of a row of kind 4 to 7 name lower rows
   pub operands : 4 ≤ w.kind → (w.a < i) × (w.b < i)
@@ -144,16 +144,16 @@ module _ {frame : Frame} {formulas : List ℕ} {at : Size} {before : Store} {scr
 
   -- and that of kind 3
   pub negated-operand : w.kind ≡ 3 → w.a < i
-  unfolding formula-kind
+  unfolding formula_kind
   negated-operand k =
-      let r : FormulaRule frame.variables i (formula-kind 3) w.a w.b = rw k at rule-held in
+      let r : FormulaRule frame.variables i (formula_kind 3) w.a w.b = rw k at rule-held in
       r.0
 
   -- of a variable's row the first word is a variable, and the last is not used
   pub variable-words : w.kind ≡ 2 → (w.a < frame.variables) × (w.b ≡ 0)
-  unfolding formula-kind
+  unfolding formula_kind
   variable-words k =
-      let r : FormulaRule frame.variables i (formula-kind 2) w.a w.b = rw k at rule-held in
+      let r : FormulaRule frame.variables i (formula_kind 2) w.a w.b = rw k at rule-held in
       (r.0, r.1)
 
 -- It is built.
@@ -162,25 +162,25 @@ module _ {frame : Frame} {formulas : List ℕ} {at : Size} {before : Store} {scr
   node : Polarity → Build ℕ
   node p =
       image frame.variables p
-      (formula-node (formula-kind w.kind) w.a (tree frame formulas w.a) (tree frame formulas w.b))
+      (formula_node (formula_kind w.kind) w.a (tree frame formulas w.a) (tree frame formulas w.b))
 
-  imaged : (p : Polarity) (j : ℕ) → image-at frame formulas p j ≡ image frame.variables p (tree frame formulas j)
-  unfolding image-at
-  imaged p j = rw (becoming-image frame x.imaged)
+  imaged : (p : Polarity) (j : ℕ) → image_at frame formulas p j ≡ image frame.variables p (tree frame formulas j)
+  unfolding image_at
+  imaged p j = rw (becoming_image frame x.imaged)
 
-  unfolds : (p : Polarity) → image-at frame formulas p i ≡ node p
+  unfolds : (p : Polarity) → image_at frame formulas p i ≡ node p
   unfolding tree node
   unfolds p =
       imaged p i
       ∙ ap (image frame.variables p)
-      (formula-unfolds frame.variables (source-rows frame formulas) x.asks.source.down i (within x.asks w e)
+      (formula-unfolds frame.variables (source_rows frame formulas) x.asks.source.down i (within x.asks w e)
       ∙ rw (row-held x.asks w e))
 
-  pub of-leaf : (b : Bool) → w.kind < 3 → image-at frame formulas (side b) i ≡ leaf-built frame.variables (side b) (row_of w)
+  pub of-leaf : (b : Bool) → w.kind < 3 → image_at frame formulas (side b) i ≡ leaf_built frame.variables (side b) (row_of w)
   unfolding node
   of-leaf b l = unfolds (side b) ∙ leaf-image frame.variables _ _ _ (side b) w.kind w.b l
 
-  pub of-not : (b : Bool) → w.kind ≡ 3 → image-at frame formulas (side b) i ≡ image-at frame formulas (side (not b)) w.a
+  pub of-not : (b : Bool) → w.kind ≡ 3 → image_at frame formulas (side b) i ≡ image_at frame formulas (side (not b)) w.a
   unfolding node
   of-not b k = unfolds (side b) ∙ negation-image frame.variables _ _ _ b w.kind k ∙ sym (imaged (side (not b)) w.a)
 
@@ -189,25 +189,25 @@ module _ {frame : Frame} {formulas : List ℕ} {at : Size} {before : Store} {scr
       (left right or : Bool)
       → pair (side or) (image frame.variables (side left) (tree frame formulas w.a))
       (image frame.variables (side right) (tree frame formulas w.b))
-      ≡ pair-at frame formulas i left right or
+      ≡ pair_at frame formulas i left right or
   operand-images left right or =
       ap₂ (pair (side or)) (sym (imaged (side left) w.a)) (sym (imaged (side right) w.b))
-      ∙ sym (pair-words frame formulas i w e left right or)
+      ∙ sym (pair_words frame formulas i w e left right or)
 
   pub of_pair :
       (b : Bool)
       → 4 ≤ w.kind
       → (w.kind ≡ 7 → ⊥)
-      → image-at frame formulas (side b) i
-      ≡ pair-at frame formulas i (not (beq (eqb w.kind 6) b)) b (beq (eqb w.kind 4) b)
+      → image_at frame formulas (side b) i
+      ≡ pair_at frame formulas i (not (beq (eqb w.kind 6) b)) b (beq (eqb w.kind 4) b)
   unfolding node
   of_pair b l m =
       unfolds (side b)
       ∙ pair-image frame.variables _ _ _ b w.kind l (omega (arith, known x.asks w e))
       ∙ operand-images (not (beq (eqb w.kind 6) b)) b (beq (eqb w.kind 4) b)
 
-  pub of-equivalent : (b : Bool) → w.kind ≡ 7 → image-at frame formulas (side b) i ≡ equivalent-at frame formulas i b
-  unfolding node equivalent-at
+  pub of-equivalent : (b : Bool) → w.kind ≡ 7 → image_at frame formulas (side b) i ≡ equivalent_at frame formulas i b
+  unfolding node equivalent_at
   of-equivalent b k =
       unfolds (side b)
       ∙ equivalence-image frame.variables _ _ _ b w.kind k

@@ -12,60 +12,60 @@ use Rattle.formula_builder.specs.declared.Frame.{Frame}
 use Rattle.formula_builder.specs.declared.Size.{Size}
 use Rattle.formula_builder.specs.declared.Step.{Step}
 use Rattle.formula_builder.specs.Inner.Held.{Store, row_of, size_of, side, JoinReady, Builds}
-use Rattle.formula_builder.proofs.Steps.{builds-as}
-use Rattle.images.specs.Inner.Images.{image-at, pair-at, equivalent-at, leaf-built, Asks, AsksBuilt, AsksPair, LeafReady, Images}
-use Rattle.images.proofs.Rows.{operands, negated-operand, variable-words, of-leaf, pair-words}
-use Rattle.images.proofs.Memos.{steady-image-at, steady-pair-at, asks-next, images-leaf, Joins}
+use Rattle.formula_builder.proofs.Steps.{builds_as}
+use Rattle.images.specs.Inner.Images.{image_at, pair_at, equivalent_at, leaf_built, Asks, AsksBuilt, AsksPair, LeafReady, Images}
+use Rattle.images.proofs.Rows.{operands, negated-operand, variable-words, of-leaf, pair_words}
+use Rattle.images.proofs.Memos.{steady_image_at, steady_pair_at, asks-next, images_leaf, Joins}
 
 -- what a join of two rows asks
-pub join-asks :
+pub join_asks :
     {left right : Build ℕ} {frame : Frame} {at : Size} {before mid after : Store} {l r : Step}
     → Builds left frame at before mid l
     → l.full ≡ false
     → Builds right frame (size_of l) mid after r
     → r.full ≡ false
     → JoinReady frame.rows r.rows after.table l.row r.row
-join-asks x e y g =
+join_asks x e y g =
     let d = x.done e in
     let f = y.done g in
     record { rows = f.ready.rows; two = f.ready.two; left = omega (arith, d.below, f.grew); right = f.below }
 
 -- a frame that is the same, as six numbers
-pub asks-framed :
+pub asks_framed :
     {f g : Frame} {formulas : List ℕ} {at : Size} {before : Store} {scratch : List ℕ} {i : ℕ}
     → f ≡ g
     → Asks g formulas at before scratch i
     → Asks f formulas at before scratch i
-asks-framed e a = rw e a
+asks_framed e a = rw e a
 
-pub images-framed :
+pub images_framed :
     {f g : Frame} {formulas : List ℕ} {at : Size} {before after : Store} {scratch scratch' : List ℕ} {r : Step} (p : Polarity) (i : ℕ)
     → f ≡ g
-    → Images (image-at f formulas p i) f formulas at before after scratch scratch' r
-    → Images (image-at g formulas p i) g formulas at before after scratch scratch' r
-images-framed p i e x = rw (← e) x
+    → Images (image_at f formulas p i) f formulas at before after scratch scratch' r
+    → Images (image_at g formulas p i) g formulas at before after scratch scratch' r
+images_framed p i e x = rw (← e) x
 
 -- the two pairs of an equivalence
-pub equivalent-joins :
+pub equivalent_joins :
     (frame : Frame) (formulas : List ℕ) (i : ℕ) (b : Bool)
-    → Joins negated (equivalent-at frame formulas i b) (pair-at frame formulas i false b false) (pair-at frame formulas i true (not b) false)
-unfolding equivalent-at
-equivalent-joins frame formulas i b =
-    record { is = refl; steady = steady-pair-at frame formulas i true (not b) false }
+    → Joins negated (equivalent_at frame formulas i b) (pair_at frame formulas i false b false) (pair_at frame formulas i true (not b) false)
+unfolding equivalent_at
+equivalent_joins frame formulas i b =
+    record { is = refl; steady = steady_pair_at frame formulas i true (not b) false }
 
 -- a lower row
-asks-lower :
+asks_lower :
     {frame : Frame} {formulas : List ℕ} {at : Size} {before : Store} {scratch : List ℕ} {i j : ℕ}
     → Asks frame formulas at before scratch i
     → j < i
     → Asks frame formulas at before scratch j
-asks-lower a h = record { source = a.source; ready = a.ready; memo = a.memo; formula = omega (arith, a.formula) }
+asks_lower a h = record { source = a.source; ready = a.ready; memo = a.memo; formula = omega (arith, a.formula) }
 
 -- Row i with the words w.
 module _ {frame : Frame} {formulas : List ℕ} {at : Size} {before : Store} {scratch : List ℕ} {i : ℕ} (a : Asks frame formulas at before scratch i)
     (w : Words) (e : row_of w ≡ row_at formulas i) where
   pub asks_negated : w.kind ≡ 3 → Asks frame formulas at before scratch w.a
-  asks_negated k = asks-lower a (negated-operand a w e k)
+  asks_negated k = asks_lower a (negated-operand a w e k)
 
   pub asks-pair : 4 ≤ w.kind → AsksPair frame formulas at before scratch i
   asks-pair l =
@@ -91,10 +91,10 @@ module _ {frame : Frame} {formulas : List ℕ} {at : Size} {before : Store} {scr
   pub leaf-done :
       {after : Store} {r : Step} (b : Bool)
       → w.kind < 3
-      → Builds (leaf-built frame.variables (side b) (row_of w)) frame at before after r
-      → Images (image-at frame formulas (side b) i) frame formulas at before after scratch scratch r
+      → Builds (leaf_built frame.variables (side b) (row_of w)) frame at before after r
+      → Images (image_at frame formulas (side b) i) frame formulas at before after scratch scratch r
   leaf-done b l x =
-      images-leaf (steady-image-at frame formulas (side b) i) a.asks.memo (builds-as (of-leaf a w e b l) x)
+      images_leaf (steady_image_at frame formulas (side b) i) a.asks.memo (builds_as (of-leaf a w e b l) x)
 
 -- Its operands.
 module _ {frame : Frame} {formulas : List ℕ} {at : Size} {before : Store} {scratch : List ℕ} {i : ℕ}
@@ -106,7 +106,7 @@ module _ {frame : Frame} {formulas : List ℕ} {at : Size} {before : Store} {scr
   right-lower = omega (arith, ap (λ (r : Row). r.b) e, a.right)
 
   pub asks-left : Asks frame formulas at before scratch w.a
-  asks-left = asks-lower a.asks left-lower
+  asks-left = asks_lower a.asks left-lower
 
   -- after the left
   pub asks-right :
@@ -119,18 +119,18 @@ module _ {frame : Frame} {formulas : List ℕ} {at : Size} {before : Store} {scr
 
   pub pair-joins :
       (left right or : Bool)
-      → Joins (side or) (pair-at frame formulas i left right or) (image-at frame formulas (side left) w.a)
-      (image-at frame formulas (side right) w.b)
+      → Joins (side or) (pair_at frame formulas i left right or) (image_at frame formulas (side left) w.a)
+      (image_at frame formulas (side right) w.b)
   pair-joins left right or =
-      record { is = pair-words frame formulas i w e left right or; steady = steady-image-at frame formulas (side right) w.b }
+      record { is = pair_words frame formulas i w e left right or; steady = steady_image_at frame formulas (side right) w.b }
 
 -- after the first pair
-pub asks-second :
+pub asks_second :
     {frame : Frame} {formulas : List ℕ} {at : Size} {before : Store} {scratch : List ℕ} {i : ℕ} {m : Build ℕ} {after : Store} {scratch' : List ℕ} {r : Step}
     → AsksPair frame formulas at before scratch i
     → Images m frame formulas at before after scratch scratch' r
     → r.full ≡ false
     → length scratch' ≡ length scratch
     → AsksPair frame formulas (size_of r) after scratch' i
-asks-second {i = i} a x g long =
+asks_second {i = i} a x g long =
     record { asks = asks-next i a.asks x g long a.asks.formula; left = a.left; right = a.right }

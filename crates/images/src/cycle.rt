@@ -2,7 +2,7 @@
 // takes the side as a flag. Each row is built at most once for a side.
 ghost use Rattle.normal_form.specs.Builder.{plain, negated};
 ghost use Rattle.formula_builder.specs.Inner.Held.{store, side, sized, stepped, framed};
-ghost use Rattle.images.specs.Inner.Images.{image-at, pair-at, equivalent-at, Asks, AsksBuilt, AsksPair, Images};
+ghost use Rattle.images.specs.Inner.Images.{image_at, pair_at, equivalent_at, Asks, AsksBuilt, AsksPair, Images};
 
 use crate::leaves::leaf;
 use crate::memo::word_of;
@@ -30,7 +30,7 @@ pub fn image(
     scratch: &mut [u16],
 ) -> u16
     requires { Asks (framed frame.now) formulas.now (sized rows.old twins.old) (store table.old originals.old) scratch.old i }
-    ensures { Images (image-at (framed frame.now) formulas.now plain i) (framed frame.now) formulas.now (sized rows.old twins.old) (store table.old originals.old) (store table.new originals.new) scratch.old scratch.new (stepped rows.new twins.new result) }
+    ensures { Images (image_at (framed frame.now) formulas.now plain i) (framed frame.now) formulas.now (sized rows.old twins.old) (store table.old originals.old) (store table.new originals.new) scratch.old scratch.new (stepped rows.new twins.new result) }
 {
     let known = scratch[i];
     if known != 0 {
@@ -54,7 +54,7 @@ pub fn negated_image(
     scratch: &mut [u16],
 ) -> u16
     requires { Asks (framed frame.now) formulas.now (sized rows.old twins.old) (store table.old originals.old) scratch.old i }
-    ensures { Images (image-at (framed frame.now) formulas.now negated i) (framed frame.now) formulas.now (sized rows.old twins.old) (store table.old originals.old) (store table.new originals.new) scratch.old scratch.new (stepped rows.new twins.new result) }
+    ensures { Images (image_at (framed frame.now) formulas.now negated i) (framed frame.now) formulas.now (sized rows.old twins.old) (store table.old originals.old) (store table.new originals.new) scratch.old scratch.new (stepped rows.new twins.new result) }
 {
     let known = scratch[frame[FORMULAS] + i];
     if known != 0 {
@@ -79,7 +79,7 @@ fn build(
     scratch: &mut [u16],
 ) -> u16
     requires { AsksBuilt (framed frame.now) formulas.now (sized rows.old twins.old) (store table.old originals.old) scratch.old i }
-    ensures { Images (image-at (framed frame.now) formulas.now (side not) i) (framed frame.now) formulas.now (sized rows.old twins.old) (store table.old originals.old) (store table.new originals.new) scratch.old scratch.new (stepped rows.new twins.new result) }
+    ensures { Images (image_at (framed frame.now) formulas.now (side not) i) (framed frame.now) formulas.now (sized rows.old twins.old) (store table.old originals.old) (store table.new originals.new) scratch.old scratch.new (stepped rows.new twins.new result) }
 {
     let row = step(
         formulas, i, not, frame, rows, twins, table, originals, scratch,
@@ -106,7 +106,7 @@ fn step(
     scratch: &mut [u16],
 ) -> u16
     requires { AsksBuilt (framed frame.now) formulas.now (sized rows.old twins.old) (store table.old originals.old) scratch.old i }
-    ensures { Images (image-at (framed frame.now) formulas.now (side not) i) (framed frame.now) formulas.now (sized rows.old twins.old) (store table.old originals.old) (store table.new originals.new) scratch.old scratch.new (stepped rows.new twins.new result) }
+    ensures { Images (image_at (framed frame.now) formulas.now (side not) i) (framed frame.now) formulas.now (sized rows.old twins.old) (store table.old originals.old) (store table.new originals.new) scratch.old scratch.new (stepped rows.new twins.new result) }
 {
     let w = read_row(formulas, i);
     if w.kind < NOT {
@@ -151,7 +151,7 @@ fn equivalent(
     scratch: &mut [u16],
 ) -> u16
     requires { AsksPair (framed frame.now) formulas.now (sized rows.old twins.old) (store table.old originals.old) scratch.old i }
-    ensures { Images (equivalent-at (framed frame.now) formulas.now i not) (framed frame.now) formulas.now (sized rows.old twins.old) (store table.old originals.old) (store table.new originals.new) scratch.old scratch.new (stepped rows.new twins.new result) }
+    ensures { Images (equivalent_at (framed frame.now) formulas.now i not) (framed frame.now) formulas.now (sized rows.old twins.old) (store table.old originals.old) (store table.new originals.new) scratch.old scratch.new (stepped rows.new twins.new result) }
 {
     let w = read_row(formulas, i);
     let a = w.a as usize;
@@ -203,7 +203,7 @@ fn pair(
     scratch: &mut [u16],
 ) -> u16
     requires { AsksPair (framed frame.now) formulas.now (sized rows.old twins.old) (store table.old originals.old) scratch.old i }
-    ensures { Images (pair-at (framed frame.now) formulas.now i left right or) (framed frame.now) formulas.now (sized rows.old twins.old) (store table.old originals.old) (store table.new originals.new) scratch.old scratch.new (stepped rows.new twins.new result) }
+    ensures { Images (pair_at (framed frame.now) formulas.now i left right or) (framed frame.now) formulas.now (sized rows.old twins.old) (store table.old originals.old) (store table.new originals.new) scratch.old scratch.new (stepped rows.new twins.new result) }
 {
     let w = read_row(formulas, i);
     let l = sided(
@@ -251,7 +251,7 @@ pub fn sided(
     scratch: &mut [u16],
 ) -> u16
     requires { Asks (framed frame.now) formulas.now (sized rows.old twins.old) (store table.old originals.old) scratch.old i }
-    ensures { Images (image-at (framed frame.now) formulas.now (side not) i) (framed frame.now) formulas.now (sized rows.old twins.old) (store table.old originals.old) (store table.new originals.new) scratch.old scratch.new (stepped rows.new twins.new result) }
+    ensures { Images (image_at (framed frame.now) formulas.now (side not) i) (framed frame.now) formulas.now (sized rows.old twins.old) (store table.old originals.old) (store table.new originals.new) scratch.old scratch.new (stepped rows.new twins.new result) }
 {
     let k = word_of(frame, i, not);
     let known = scratch[k];

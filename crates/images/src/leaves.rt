@@ -1,6 +1,6 @@
 // Rows without operands.
 ghost use Rattle.formula_builder.specs.Inner.Held.{row_of, store, side, sized, stepped, Builds, framed};
-ghost use Rattle.images.specs.Inner.Images.{leaf-built, LeafReady};
+ghost use Rattle.images.specs.Inner.Images.{leaf_built, LeafReady};
 
 use formula_builder::{ROWS, Words, row, twin_row};
 
@@ -18,7 +18,7 @@ pub fn leaf(
     originals: &mut [u16],
 ) -> u16
     requires { LeafReady (framed frame.now) (sized rows.old twins.old) (store table.old originals.old) (row_of w) }
-    ensures { Builds (leaf-built (framed frame.now).variables (side not) (row_of w)) (framed frame.now) (sized rows.old twins.old) (store table.old originals.old) (store table.new originals.new) (stepped rows.new twins.new result) }
+    ensures { Builds (leaf_built (framed frame.now).variables (side not) (row_of w)) (framed frame.now) (sized rows.old twins.old) (store table.old originals.old) (store table.new originals.new) (stepped rows.new twins.new result) }
 {
     if w.kind == VARIABLE {
         if not {

@@ -11,15 +11,15 @@ use lib.Seq.{sets-eq, take-suc, take_at, take-append_seam}
 use lib.Dec.{leb}
 use borrow.Author.Tests.{le-leb, lt-leb}
 use Rattle.task.specs.declared.Head.{Head}
-use Rattle.task.specs.Table.{Lent, Task, operator-width}
+use Rattle.task.specs.Table.{Lent, Task, operator_width}
 use Rattle.task.specs.Words.{joined, head_of, padded}
-use Rattle.task.proofs.Words.{lent-in, length-words, length-operator-words}
-use Rattle.file_format.specs.Bytes.{word_bytes, head-fields}
+use Rattle.task.proofs.Words.{lent_in, length_words, length_operator_words}
+use Rattle.file_format.specs.Bytes.{word_bytes, head_fields}
 use Rattle.task_writer.specs.Inner.Putting.{Put}
-use Rattle.task_writer.proofs.Puts.{put-none, put_then, put_same, put-size}
-use Rattle.task_file.proofs.ReadWays.{zeros_of, drop-zeros}
-use Rattle.layouts.specs.Layout.{tables-bytes, laid_by, laid, Lays}
-use Rattle.layouts.specs.Inner.Giving.{flat-bytes}
+use Rattle.task_writer.proofs.Puts.{put_none, put_then, put_same, put_size}
+use Rattle.task_file.proofs.ReadWays.{zeros_of, drop_zeros}
+use Rattle.layouts.specs.Layout.{tables_bytes, laid_by, laid, Lays}
+use Rattle.layouts.specs.Inner.Giving.{flat_bytes}
 
 -- what a loop has put after i bytes
 pub record BytesDone (bytes : List ℕ) (count at : ℕ) (before out : List ℕ) (i place : ℕ) : Type 0 where
@@ -29,7 +29,7 @@ pub record BytesDone (bytes : List ℕ) (count at : ℕ) (before out : List ℕ)
 
 module _ (bytes : List ℕ) (count at : ℕ) (before : List ℕ) where
   pub bytes-begin : BytesDone bytes count at before before 0 at
-  bytes-begin = record { within = omega arith; done = put-none at before; here = omega arith }
+  bytes-begin = record { within = omega arith; done = put_none at before; here = omega arith }
 
   pub bytes-more :
       (out : List ℕ) (i place : ℕ) {out' : List ℕ} {r : ℕ}
@@ -52,25 +52,25 @@ module _ (bytes : List ℕ) (count at : ℕ) (before : List ℕ) where
       put_same (ap (λ (n : ℕ). take n bytes) e) d.done
 
 -- a part of each table behind the other
-pub tables-put :
+pub tables_put :
     {a b c d e r : ℕ} {o o1 o2 o3 o4 o5 o6 : List ℕ} (l : Lent)
-    → Put (joined word_bytes (head-fields l.head)) 0 a o o1
+    → Put (joined word_bytes (head_fields l.head)) 0 a o o1
     → Put (take l.head.variables l.initial) a b o1 o2
     → Put (joined word_bytes (take l.head.twins l.twins)) b c o2 o3
     → Put (joined word_bytes (take (3 * l.head.formulas) l.formulas)) c d o3 o4
     → Put (joined word_bytes (take (3 * l.head.effects) l.effects)) d e o4 o5
-    → Put (joined word_bytes (take (operator-width * l.head.operators) l.operators)) e r o5 o6
-    → Put (flat-bytes l) 0 r o o6
-unfolding flat-bytes
-tables-put l h i t f e p = put_then h (put_then i (put_then t (put_then f (put_then e p))))
+    → Put (joined word_bytes (take (operator_width * l.head.operators) l.operators)) e r o5 o6
+    → Put (flat_bytes l) 0 r o o6
+unfolding flat_bytes
+tables_put l h i t f e p = put_then h (put_then i (put_then t (put_then f (put_then e p))))
 
 -- the head's six words, which take 12 bytes
-pub head-put :
+pub head_put :
     (h : Head) {r : ℕ} {o o1 : List ℕ}
     → Put (joined word_bytes (h.variables ∷ h.twins ∷ h.formulas ∷ h.effects ∷ h.operators ∷ h.goal ∷ [])) 0 r o o1
-    → Put (joined word_bytes (head-fields h)) 0 r o o1 × (r ≡ 12)
-unfolding joined word_bytes head-fields
-head-put h p = (p, p.next)
+    → Put (joined word_bytes (head_fields h)) 0 r o o1 × (r ≡ 12)
+unfolding joined word_bytes head_fields
+head_put h p = (p, p.next)
 
 -- bytes put into an output that was cleared
 module _ (bytes out : List ℕ) {z out' : List ℕ} {end : ℕ} (clear : z ≡ replicate (length out) 0) (put : Put bytes 0 end z out') where
@@ -78,7 +78,7 @@ module _ (bytes out : List ℕ) {z out' : List ℕ} {end : ℕ} (clear : z ≡ r
   z-size = ap length clear ∙ length-replicate (length out) 0
 
   pub size : length out' ≡ length out
-  size = put-size put ∙ z-size
+  size = put_size put ∙ z-size
 
   pub end_is : end ≡ length bytes
   end_is = omega (arith, put.next)
@@ -89,7 +89,7 @@ module _ (bytes out : List ℕ) {z out' : List ℕ} {end : ℕ} (clear : z ≡ r
   put-padded h =
       let whole : out' ≡ bytes ++ drop (0 + length bytes) z = put.wrote ∙ sets-eq bytes z 0 (omega (arith, end_is, z-size, size)) in
       let rest : drop (0 + length bytes) z ≡ replicate (length out - length bytes) 0 =
-      ap (drop (0 + length bytes)) clear ∙ drop-zeros (length out) (0 + length bytes) ∙ ap (λ (k : ℕ). replicate (length out - k) 0) (zero-add (length bytes))
+      ap (drop (0 + length bytes)) clear ∙ drop_zeros (length out) (0 + length bytes) ∙ ap (λ (k : ℕ). replicate (length out - k) 0) (zero-add (length bytes))
       in
       whole ∙ ap (λ (x : List ℕ). bytes ++ x) rest
 
@@ -106,13 +106,13 @@ module _ (bytes out : List ℕ) {z out' : List ℕ} {end : ℕ} (clear : z ≡ r
       record { told = rw t; held = rw t (put-padded h) }
 
 -- tables that hold a task's words with anything behind them have the task's layout
-pub flat_in : (t : Task) (i w f e o : List ℕ) → flat-bytes (lent-in t i w f e o) ≡ tables-bytes t
-unfolding flat-bytes lent-in head_of tables-bytes
+pub flat_in : (t : Task) (i w f e o : List ℕ) → flat_bytes (lent_in t i w f e o) ≡ tables_bytes t
+unfolding flat_bytes lent_in head_of tables_bytes
 flat_in t i w f e o =
     rw (
       take-append_seam t.initial i,
       take-append_seam t.originals w,
-      take_at _ f (3 * length t.formulas) (length-words t.formulas),
-      take_at _ e (3 * length t.effects) (length-words t.effects),
-      take_at _ o (operator-width * length t.operators) (length-operator-words t.operators),
+      take_at _ f (3 * length t.formulas) (length_words t.formulas),
+      take_at _ e (3 * length t.effects) (length_words t.effects),
+      take_at _ o (operator_width * length t.operators) (length_operator_words t.operators),
     )

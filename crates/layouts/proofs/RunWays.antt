@@ -10,22 +10,22 @@ use lib.Seq.{take-suc-set, drop-drop, drop-set-lt}
 use lib.Dec.{leb, eqb}
 use borrow.Author.Tests.{le-leb, lt-leb, eq-eqb, ne_eqb, leb-true}
 use Rattle.task.specs.Bounded.{every, upto}
-use Rattle.task.specs.Check.{state-kept, sequence-kept, unless}
+use Rattle.task.specs.Check.{state_kept, sequence_kept, unless}
 use Rattle.task.proofs.Bounded.{length-upto}
 use Rattle.task_writer.specs.Inner.Putting.{Put}
-use Rattle.task_writer.proofs.Puts.{put-none, put_then, put_same}
+use Rattle.task_writer.proofs.Puts.{put_none, put_then, put_same}
 use Rattle.plan.specs.declared.outcome.RunOutcome.{RunOutcome}
-use Rattle.layouts.specs.Layout.{low-bytes, numbers_of, run-number, flag}
-use Rattle.layouts.specs.Inner.Giving.{stop-of, plan-of, outcome-bytes, ResultGives}
+use Rattle.layouts.specs.Layout.{low_bytes, numbers_of, run_number, flag}
+use Rattle.layouts.specs.Inner.Giving.{stop_of, plan_of, outcome_bytes, ResultGives}
 use Rattle.layouts.proofs.LayWays.{put-padded, size}
 
 -- the numbers of a sequence
 abbrev number_at : List ℕ → ℕ → ℕ
 number_at bytes i = get_or bytes (2 * i) 0 + 256 * get_or bytes (2 * i + 1) 0
 
-pub numbers-length : (bytes : List ℕ) → length (numbers_of bytes) ≡ length bytes / 2
+pub numbers_length : (bytes : List ℕ) → length (numbers_of bytes) ≡ length bytes / 2
 unfolding numbers_of
-numbers-length bytes = length-upto (length bytes / 2) (number_at bytes)
+numbers_length bytes = length-upto (length bytes / 2) (number_at bytes)
 
 -- what a loop has decoded after i numbers
 pub record Decoded (bytes before numbers : List ℕ) (i : ℕ) : Type 0 where
@@ -76,39 +76,39 @@ module _ (bytes before : List ℕ) where
 
 -- the refusals, in order
 module _ (v : ℕ) (s q : List ℕ) (r : ℕ) where
-  pub wrong-length : (length s ≡ v → ⊥) → 16 ≡ run-number v s q r
-  unfolding run-number state-kept sequence-kept
+  pub wrong-length : (length s ≡ v → ⊥) → 16 ≡ run_number v s q r
+  unfolding run_number state_kept sequence_kept
   wrong-length h = rw (ne_eqb (length s) v h)
 
   module _ (same : length s ≡ v) where
-    pub wrong-bits : {b : Bool} → b ≡ every (length s) (λ v. leb (get_or s v 0) 1) → b ≡ false → 16 ≡ run-number v s q r
-    unfolding run-number state-kept sequence-kept
+    pub wrong-bits : {b : Bool} → b ≡ every (length s) (λ v. leb (get_or s v 0) 1) → b ≡ false → 16 ≡ run_number v s q r
+    unfolding run_number state_kept sequence_kept
     wrong-bits e f = rw (eq-eqb (length s) v same, sym e ∙ f)
 
     module _ {b : Bool} (tested : b ≡ every (length s) (λ v. leb (get_or s v 0) 1)) (fine : b ≡ true) where
       state-fine : eqb (length s) v && every (length s) (λ v. leb (get_or s v 0) 1) ≡ true
       state-fine = rw (eq-eqb (length s) v same) (sym tested ∙ fine)
 
-      pub half-number : (length q % 2 ≡ 0 → ⊥) → 19 ≡ run-number v s q r
-      unfolding run-number state-kept sequence-kept
+      pub half-number : (length q % 2 ≡ 0 → ⊥) → 19 ≡ run_number v s q r
+      unfolding run_number state_kept sequence_kept
       half-number h = rw (state-fine, ne_eqb (length q % 2) 0 h)
 
       module _ (even : length q % 2 ≡ 0) where
-        pub too_many : 65535 < length q / 2 → 19 ≡ run-number v s q r
-        unfolding run-number state-kept sequence-kept
-        too_many h = rw (state-fine, eq-eqb (length q % 2) 0 even, lt-leb (length (numbers_of q)) 65535 (omega (arith, numbers-length q)))
+        pub too_many : 65535 < length q / 2 → 19 ≡ run_number v s q r
+        unfolding run_number state_kept sequence_kept
+        too_many h = rw (state-fine, eq-eqb (length q % 2) 0 even, lt-leb (length (numbers_of q)) 65535 (omega (arith, numbers_length q)))
 
         module _ (few : length q / 2 ≤ 65535) where
           few-numbers : leb (length (numbers_of q)) 65535 ≡ true
-          few-numbers = le-leb (length (numbers_of q)) 65535 (omega (arith, numbers-length q))
+          few-numbers = le-leb (length (numbers_of q)) 65535 (omega (arith, numbers_length q))
 
-          pub no_room : r < 16 → 20 ≡ run-number v s q r
-          unfolding run-number state-kept sequence-kept
+          pub no_room : r < 16 → 20 ≡ run_number v s q r
+          unfolding run_number state_kept sequence_kept
           no_room h = rw (state-fine, eq-eqb (length q % 2) 0 even, few-numbers, lt-leb 16 r h)
 
-          pub none-refused : 16 ≤ r → 0 ≡ run-number v s q r
-          unfolding run-number state-kept sequence-kept
-          none-refused h = rw (state-fine, eq-eqb (length q % 2) 0 even, few-numbers, le-leb 16 r h)
+          pub none_refused : 16 ≤ r → 0 ≡ run_number v s q r
+          unfolding run_number state_kept sequence_kept
+          none_refused h = rw (state-fine, eq-eqb (length q % 2) 0 even, few-numbers, le-leb 16 r h)
 
 -- what no refusal says
 pub record Free (v : ℕ) (s q : List ℕ) (r : ℕ) : Type 0 where
@@ -120,8 +120,8 @@ both_true : (a b : Bool) → a && b ≡ true → b ≡ true
 both_true true b e = e
 both_true false b e = absurd (false≢true e)
 
-pub free_of : (v : ℕ) (s q : List ℕ) (r : ℕ) → run-number v s q r ≡ 0 → Free v s q r
-unfolding run-number state-kept sequence-kept
+pub free_of : (v : ℕ) (s q : List ℕ) (r : ℕ) → run_number v s q r ≡ 0 → Free v s q r
+unfolding run_number state_kept sequence_kept
 free_of v s q r e = go (eqb (length s) v && every (length s) (λ v. leb (get_or s v 0) 1)) (eqb (length q % 2) 0 && leb (length (numbers_of q)) 65535) (leb 16 r) refl refl refl e
   where
     go :
@@ -141,12 +141,12 @@ pub record LowDone (count at x : ℕ) (before out : List ℕ) (i rest place : �
   pub done : List ℕ
   pub within : i ≤ count
   pub put : Put done at place before out
-  pub whole : low-bytes count x ≡ done ++ low-bytes (count - i) rest
+  pub whole : low_bytes count x ≡ done ++ low_bytes (count - i) rest
   pub here : place ≡ at + i
 
 module _ (count at x : ℕ) (before : List ℕ) where
   pub low-begin : LowDone count at x before before 0 x at
-  low-begin = record { done = []; within = omega arith; put = put-none at before; whole = ap (λ (n : ℕ). low-bytes n x) (omega arith); here = omega arith }
+  low-begin = record { done = []; within = omega arith; put = put_none at before; whole = ap (λ (n : ℕ). low_bytes n x) (omega arith); here = omega arith }
 
   pub low-more :
       (out : List ℕ) (i rest place : ℕ) {out' : List ℕ} {r : ℕ}
@@ -154,7 +154,7 @@ module _ (count at x : ℕ) (before : List ℕ) where
       → i < count
       → Put (rest % 256 ∷ []) place r out out'
       → LowDone count at x before out' (i + 1) (rest / 256) r
-  unfolding low-bytes
+  unfolding low_bytes
   low-more out i rest place d h p =
       let n : count - i ≡ suc (count - (i + 1)) = omega arith in
       record {
@@ -163,44 +163,44 @@ module _ (count at x : ℕ) (before : List ℕ) where
         put = put_then d.put p;
         whole =
             d.whole
-            ∙ ap (λ (k : ℕ). d.done ++ low-bytes k rest) n
-            ∙ sym (append_assoc d.done (rest % 256 ∷ []) (low-bytes (count - (i + 1)) (rest / 256)));
+            ∙ ap (λ (k : ℕ). d.done ++ low_bytes k rest) n
+            ∙ sym (append_assoc d.done (rest % 256 ∷ []) (low_bytes (count - (i + 1)) (rest / 256)));
         here = omega (arith, p.next, d.here);
       }
 
-  pub low_end : (out : List ℕ) (i rest place : ℕ) → LowDone count at x before out i rest place → count ≤ i → Put (low-bytes count x) at place before out
-  unfolding low-bytes
+  pub low_end : (out : List ℕ) (i rest place : ℕ) → LowDone count at x before out i rest place → count ≤ i → Put (low_bytes count x) at place before out
+  unfolding low_bytes
   low_end out i rest place d h =
       let n : count - i ≡ 0 = omega arith in
-      put_same (sym (d.whole ∙ ap (λ (k : ℕ). d.done ++ low-bytes k rest) n ∙ append-nil d.done)) d.put
+      put_same (sym (d.whole ∙ ap (λ (k : ℕ). d.done ++ low_bytes k rest) n ∙ append-nil d.done)) d.put
 
-pub low-length : (n x : ℕ) → length (low-bytes n x) ≡ n
-unfolding low-bytes
-low-length zero x = refl
-low-length (suc n) x = ap suc (low-length n (x / 256))
+pub low_length : (n x : ℕ) → length (low_bytes n x) ≡ n
+unfolding low_bytes
+low_length zero x = refl
+low_length (suc n) x = ap suc (low_length n (x / 256))
 
-pub low-next : (n x : ℕ) {at r : ℕ} {o o1 : List ℕ} → Put (low-bytes n x) at r o o1 → r ≡ at + n
-low-next n x p = omega (arith, p.next, low-length n x)
+pub low_next : (n x : ℕ) {at r : ℕ} {o o1 : List ℕ} → Put (low_bytes n x) at r o o1 → r ≡ at + n
+low_next n x p = omega (arith, p.next, low_length n x)
 
 -- the result's five parts
-pub result-put :
+pub result_put :
     (o : RunOutcome) (out : List ℕ) {z o1 o2 o3 o4 o5 : List ℕ} {a b c d e g p number : ℕ}
     → z ≡ replicate (length out) 0
-    → Put (low-bytes 4 o.steps) 0 a z o1
-    → Put (low-bytes 8 o.cost) a b o1 o2
+    → Put (low_bytes 4 o.steps) 0 a z o1
+    → Put (low_bytes 8 o.cost) a b o1 o2
     → Put (g ∷ []) b c o2 o3
     → Put (p ∷ []) c d o3 o4
-    → Put (low-bytes 2 number) d e o4 o5
+    → Put (low_bytes 2 number) d e o4 o5
     → g ≡ flag o.goal
-    → p ≡ flag (plan-of o.end)
-    → number ≡ stop-of o.end
+    → p ≡ flag (plan_of o.end)
+    → number ≡ stop_of o.end
     → 16 ≤ length out
     → ResultGives o (length out) number o5
-unfolding outcome-bytes
-result-put o out {z} {o1} {o2} {o3} {o4} {o5} {a} {b} {c} {d} {e} {g} {p} {number} clear p1 p2 p3 p4 p5 eg ep en room =
+unfolding outcome_bytes
+result_put o out {z} {o1} {o2} {o3} {o4} {o5} {a} {b} {c} {d} {e} {g} {p} {number} clear p1 p2 p3 p4 p5 eg ep en room =
     let whole = put_then p1 (put_then p2 (put_then p3 (put_then p4 p5))) in
-    let there : Put (outcome-bytes o) 0 e z o5 =
-    put_same (λ j. low-bytes 4 o.steps ++ (low-bytes 8 o.cost ++ (eg j ∷ ep j ∷ low-bytes 2 (en j)))) whole
+    let there : Put (outcome_bytes o) 0 e z o5 =
+    put_same (λ j. low_bytes 4 o.steps ++ (low_bytes 8 o.cost ++ (eg j ∷ ep j ∷ low_bytes 2 (en j)))) whole
     in
-    let end : e ≡ 16 = omega (arith, low-next 4 o.steps p1, low-next 8 o.cost p2, p3.next, p4.next, low-next 2 number p5) in
-    record { told = en; held = put-padded (outcome-bytes o) out clear there (omega (arith, size (outcome-bytes o) out clear there)) }
+    let end : e ≡ 16 = omega (arith, low_next 4 o.steps p1, low_next 8 o.cost p2, p3.next, p4.next, low_next 2 number p5) in
+    record { told = en; held = put-padded (outcome_bytes o) out clear there (omega (arith, size (outcome_bytes o) out clear there)) }

@@ -4,34 +4,34 @@ use native.Mathlib.Omega.{arith}
 use mathlib.Core.Path.{◌≡◌, refl}
 use mathlib.Core.List.{List, [], ◌∷◌, ◌++◌}
 use lib.ListN.{length, length-append}
-use Rattle.task.specs.Table.{Task, operator-width}
+use Rattle.task.specs.Table.{Task, operator_width}
 use Rattle.task.specs.Run.{Run}
-use Rattle.task.specs.Words.{joined, words_of, operator-words, head_of}
-use Rattle.task.proofs.Words.{length-words, length-operator-words}
-use Rattle.file_format.specs.Bytes.{word_bytes, head-fields}
-use Rattle.layouts.specs.Layout.{low-bytes, tables-bytes, run-bytes}
+use Rattle.task.specs.Words.{joined, words_of, operator_words, head_of}
+use Rattle.task.proofs.Words.{length_words, length_operator_words}
+use Rattle.file_format.specs.Bytes.{word_bytes, head_fields}
+use Rattle.layouts.specs.Layout.{low_bytes, tables_bytes, run_bytes}
 
-pub length-word-bytes : (words : List ℕ) → length (joined word_bytes words) ≡ 2 * length words
+pub length_word_bytes : (words : List ℕ) → length (joined word_bytes words) ≡ 2 * length words
 unfolding joined word_bytes
-length-word-bytes [] = refl
-length-word-bytes (w ∷ words) = omega (arith, length-word-bytes words)
+length_word_bytes [] = refl
+length_word_bytes (w ∷ words) = omega (arith, length_word_bytes words)
 
-pub length-tables-bytes :
+pub length_tables_bytes :
     (t : Task)
-    → length (tables-bytes t)
+    → length (tables_bytes t)
     ≡ 12
     + length t.initial
     + 2 * length t.originals
     + 6 * length t.formulas
     + 6 * length t.effects
-    + 2 * (operator-width * length t.operators)
-unfolding tables-bytes head-fields
-length-tables-bytes t =
-    let h = joined word_bytes (head-fields (head_of t)) in
+    + 2 * (operator_width * length t.operators)
+unfolding tables_bytes head_fields
+length_tables_bytes t =
+    let h = joined word_bytes (head_fields (head_of t)) in
     let w = joined word_bytes t.originals in
     let f = joined word_bytes (words_of t.formulas) in
     let e = joined word_bytes (words_of t.effects) in
-    let o = joined word_bytes (operator-words t.operators) in
+    let o = joined word_bytes (operator_words t.operators) in
     omega (
       arith,
       length-append h (t.initial ++ (w ++ (f ++ (e ++ o)))),
@@ -39,16 +39,16 @@ length-tables-bytes t =
       length-append w (f ++ (e ++ o)),
       length-append f (e ++ o),
       length-append e o,
-      length-word-bytes (head-fields (head_of t)),
-      length-word-bytes t.originals,
-      length-word-bytes (words_of t.formulas),
-      length-word-bytes (words_of t.effects),
-      length-word-bytes (operator-words t.operators),
-      length-words t.formulas,
-      length-words t.effects,
-      length-operator-words t.operators,
+      length_word_bytes (head_fields (head_of t)),
+      length_word_bytes t.originals,
+      length_word_bytes (words_of t.formulas),
+      length_word_bytes (words_of t.effects),
+      length_word_bytes (operator_words t.operators),
+      length_words t.formulas,
+      length_words t.effects,
+      length_operator_words t.operators,
     )
 
-pub length-run-bytes : (r : Run) → length (run-bytes r) ≡ 16
-unfolding run-bytes low-bytes
-length-run-bytes r = refl
+pub length_run_bytes : (r : Run) → length (run_bytes r) ≡ 16
+unfolding run_bytes low_bytes
+length_run_bytes r = refl

@@ -3,7 +3,7 @@ ghost use Rattle.std.specs.Prelude.{◌+◌, ◌≤◌, length, take};
 ghost use Rattle.task.specs.Table.{lent};
 ghost use Rattle.task_writer.specs.Inner.Putting.{Put};
 ghost use Rattle.layouts.specs.Layout.{laid};
-ghost use Rattle.layouts.specs.Inner.Giving.{LayIn, flat-bytes};
+ghost use Rattle.layouts.specs.Inner.Giving.{LayIn, flat_bytes};
 ghost use Rattle.layouts.specs.Layout.{Lays};
 
 use task::Head;
@@ -37,7 +37,7 @@ fn put_tables(
     out: &mut [u8],
 ) -> usize
     requires { LayIn (lent head initial.now twins.now formulas.now effects.now operators.now) }
-    ensures { Put (flat-bytes (lent head initial.now twins.now formulas.now effects.now operators.now)) 0 result out.old out.new }
+    ensures { Put (flat_bytes (lent head initial.now twins.now formulas.now effects.now operators.now)) 0 result out.old out.new }
 {
     let words = [
         head.variables,
@@ -71,7 +71,7 @@ pub fn lay(
     tables: &mut [u8],
 ) -> u32
     requires { LayIn (lent head initial.now twins.now formulas.now effects.now operators.now) }
-    ensures { Lays (laid (flat-bytes (lent head initial.now twins.now formulas.now effects.now operators.now)) (length tables.old)) result tables.new }
+    ensures { Lays (laid (flat_bytes (lent head initial.now twins.now formulas.now effects.now operators.now)) (length tables.old)) result tables.new }
 {
     clear_bytes(tables);
     let end = put_tables(head, initial, twins, formulas, effects, operators, tables);

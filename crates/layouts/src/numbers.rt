@@ -1,13 +1,13 @@
 // The state and the sequence that come in for a run.
 ghost use Rattle.std.specs.Prelude.{◌≡◌, ◌++◌, ◌/◌, ◌≤◌, length, drop};
 ghost use Rattle.layouts.specs.Layout.{numbers_of};
-ghost use Rattle.layouts.specs.Layout.{run-number};
+ghost use Rattle.layouts.specs.Layout.{run_number};
 
 use task::check::bits;
 
 // 0, or the first in order: 16, 19, 20. Linear in the state.
 pub fn refused_run(variables: usize, state: &[u8], sequence: &[u8], room: usize) -> u32
-    ensures { result ≡ run-number variables state.now sequence.now room }
+    ensures { result ≡ run_number variables state.now sequence.now room }
 {
     if state.len() != variables {
         return 16;

@@ -1,8 +1,8 @@
 // A run's result, laid out as bytes.
 ghost use Rattle.std.specs.Prelude.{◌≡◌, ◌+◌, ◌≤◌, length};
 ghost use Rattle.task_writer.specs.Inner.Putting.{Put};
-ghost use Rattle.layouts.specs.Layout.{low-bytes, flag};
-ghost use Rattle.layouts.specs.Inner.Giving.{stop-of, plan-of, ResultGives};
+ghost use Rattle.layouts.specs.Layout.{low_bytes, flag};
+ghost use Rattle.layouts.specs.Inner.Giving.{stop_of, plan_of, ResultGives};
 
 use plan::{End, RunOutcome};
 use task::clear::clear_bytes;
@@ -11,7 +11,7 @@ use task_writer::put::put_byte;
 // The `count` low bytes of a number, the lowest first. Linear in the count.
 pub fn put_low(out: &mut [u8], at: usize, count: usize, x: u64) -> usize
     requires { at + count ≤ 1000000 }
-    ensures { Put (low-bytes count x) at result out.old out.new }
+    ensures { Put (low_bytes count x) at result out.old out.new }
 {
     let mut i = 0;
     let mut rest = x;
@@ -36,7 +36,7 @@ fn flag(b: bool) -> u8
 
 // The number of a stop, 0 without one. Constant time.
 fn stop(end: End) -> u16
-    ensures { result ≡ stop-of end }
+    ensures { result ≡ stop_of end }
 {
     match end {
         End::Ended(_) => 0,
@@ -47,7 +47,7 @@ fn stop(end: End) -> u16
 
 // Whether a run that ended so is a plan. Constant time.
 fn plan(end: End) -> bool
-    ensures { result ≡ plan-of end }
+    ensures { result ≡ plan_of end }
 {
     match end {
         End::Ended(goal) => goal,

@@ -11,8 +11,8 @@ use Rattle.task.specs.Semantics.{Formula, Effect, sets, clears}
 use Rattle.normal_form.specs.Builder.{St, Got, Build, give, bind, each, pair, Polarity, plain}
 use Rattle.normal_form.specs.Growth.{Prefix, Grows, Steady}
 use Rattle.normal_form.specs.Conditions.{Becoming, condition}
-use Rattle.normal_form.specs.Operators.{Changes, deletes-of, changes-of}
-use Rattle.normal_form.proofs.Growth.{grows-refl, grows-trans, steady-give, steady-bind, steady-join}
+use Rattle.normal_form.specs.Operators.{Changes, deletes_of, changes_of}
+use Rattle.normal_form.proofs.Growth.{grows_refl, grows_trans, steady_give, steady_bind, steady_join}
 use Rattle.normal_form.proofs.Steady.{steady-condition, steady-deletes, steady-changes}
 
 -- the step adds nothing in this state
@@ -24,8 +24,8 @@ no_more : {A : Type 0} (l r : List A) → length (l ++ r) ≡ length l → l ++ 
 no_more l [] q = append-nil l
 no_more l (x ∷ r) q = absurd (omega (arith, q, length-append l (x ∷ r)))
 
-prefix-antisym : {A : Type 0} {l m : List A} → Prefix l m → Prefix m l → l ≡ m
-prefix-antisym {l = l} {m = m} p q =
+prefix_antisym : {A : Type 0} {l m : List A} → Prefix l m → Prefix m l → l ≡ m
+prefix_antisym {l = l} {m = m} p q =
     let longer : length m ≡ length l + length p.rest = ap length p.whole ∙ length-append l p.rest in
     let back : length l ≡ length m + length q.rest = ap length q.whole ∙ length-append m q.rest in
     sym (p.whole ∙ no_more l p.rest (omega (arith, length-append l p.rest, longer, back)))
@@ -33,8 +33,8 @@ prefix-antisym {l = l} {m = m} p q =
 abbrev made : List Row → List ℕ → St
 made rows twins = record { rows = rows; twins = twins }
 
-pub grows-antisym : {s t : St} → Grows s t → Grows t s → s ≡ t
-grows-antisym g h = ap₂ made (prefix-antisym g.rows h.rows) (prefix-antisym g.twins h.twins)
+pub grows_antisym : {s t : St} → Grows s t → Grows t s → s ≡ t
+grows_antisym g h = ap₂ made (prefix_antisym g.rows h.rows) (prefix_antisym g.twins h.twins)
 
 -- A step that was taken, or that adds nothing, adds nothing later.
 module _ {A : Type 0} {m : Build A} (steady : Steady m) where
@@ -50,7 +50,7 @@ module _ {A B : Type 0} {m : Build A} {f : A → Build B} (first : Steady m) (ne
   unfolding bind
   nothing-first q =
       let back : Grows (m s).st s = rw q at ((next (m s).value).grow (m s).st) in
-      grows-antisym back (first.grow s)
+      grows_antisym back (first.grow s)
 
   pub nothing-next : AddsNothing (bind m f) s → AddsNothing (f (m s).value) s
   unfolding bind
@@ -62,22 +62,22 @@ module _ {A B : Type 0} {m : Build A} {f : A → Build B} (first : Steady m) (ne
 module _ (p : Polarity) {l r : Build ℕ} (left : Steady l) (right : Steady r) {s : St} where
   pub nothing_left : AddsNothing (pair p l r) s → AddsNothing l s
   unfolding pair
-  nothing_left q = nothing-first left (λ a. steady-bind right (λ b. steady-join p a b)) q
+  nothing_left q = nothing-first left (λ a. steady_bind right (λ b. steady_join p a b)) q
 
   pub nothing_right : AddsNothing (pair p l r) s → AddsNothing r s
   unfolding pair
   nothing_right q =
-      nothing-first right (λ b. steady-join p (l s).value b) (nothing-next left (λ a. steady-bind right (λ b. steady-join p a b)) q)
+      nothing-first right (λ b. steady_join p (l s).value b) (nothing-next left (λ a. steady_bind right (λ b. steady_join p a b)) q)
 
 -- Of f 0, f 1 .. f (n - 1): each of them, once all are taken.
-pub nothing-each :
+pub nothing_each :
     {A : Type 0} (n : ℕ) {f : ℕ → Build A} (steady : (k : ℕ) → Steady (f k)) (s : St) {t : St} {v : ℕ}
     → v < n
     → Grows (each n f s).st t
     → AddsNothing (f v) t
 unfolding each bind give
-nothing-each zero steady s h g = absurd (omega arith)
-nothing-each (suc n) {f} steady s {t} {v} h g = go (dec_lt v n) (λ l. nothing-each n steady s l (grows-trans ((steady n).grow (each n f s).st) g))
+nothing_each zero steady s h g = absurd (omega arith)
+nothing_each (suc n) {f} steady s {t} {v} h g = go (dec_lt v n) (λ l. nothing_each n steady s l (grows_trans ((steady n).grow (each n f s).st) g))
   where
     go : Dec (v < n) → (v < n → AddsNothing (f v) t) → AddsNothing (f v) t
     go (yes l) below = below l
@@ -92,27 +92,27 @@ module _ (becomes : Becoming) (steady : (p : Polarity) (f : Formula) → Steady 
       (e : Effect) (v a : ℕ)
       → Steady
       (bind (condition becomes plain (clears v) e)
-      (λ d. bind (deletes-of becomes e v a d) (λ k. give {A = Changes} (record { variable = v; adds = a; deletes = k }))))
+      (λ d. bind (deletes_of becomes e v a d) (λ k. give {A = Changes} (record { variable = v; adds = a; deletes = k }))))
   steady-cleared e v a =
-      steady-bind (steady-condition becomes steady plain (clears v) e)
-      (λ d. steady-bind (steady-deletes becomes steady e v a d) (λ k. steady-give _))
+      steady_bind (steady-condition becomes steady plain (clears v) e)
+      (λ d. steady_bind (steady-deletes becomes steady e v a d) (λ k. steady_give _))
 
   -- Of the changes of a variable: A and D.
-  nothing-set : (e : Effect) (v : ℕ) {s : St} → AddsNothing (changes-of becomes e v) s → AddsNothing (condition becomes plain (sets v) e) s
-  unfolding changes-of
+  nothing-set : (e : Effect) (v : ℕ) {s : St} → AddsNothing (changes_of becomes e v) s → AddsNothing (condition becomes plain (sets v) e) s
+  unfolding changes_of
   nothing-set e v q = nothing-first (steady-condition becomes steady plain (sets v) e) (steady-cleared e v) q
 
-  nothing-clear : (e : Effect) (v : ℕ) {s : St} → AddsNothing (changes-of becomes e v) s → AddsNothing (condition becomes plain (clears v) e) s
-  unfolding changes-of
+  nothing-clear : (e : Effect) (v : ℕ) {s : St} → AddsNothing (changes_of becomes e v) s → AddsNothing (condition becomes plain (clears v) e) s
+  unfolding changes_of
   nothing-clear e v {s} q =
       nothing-first (steady-condition becomes steady plain (clears v) e)
-      (λ d. steady-bind (steady-deletes becomes steady e v (condition becomes plain (sets v) e s).value d) (λ k. steady-give _))
+      (λ d. steady_bind (steady-deletes becomes steady e v (condition becomes plain (sets v) e s).value d) (λ k. steady_give _))
       (nothing-next (steady-condition becomes steady plain (sets v) e) (steady-cleared e v) q)
 
 -- Of the changes of all variables, as an operator builds them: the plain conditions of every atom.
-module _ (becomes : Becoming) (steady : (p : Polarity) (f : Formula) → Steady (becomes p f)) (n : ℕ) (e : Effect) {s : St} (q : AddsNothing (each n (changes-of becomes e)) s) {v : ℕ} (h : v < n) where
-  change : AddsNothing (changes-of becomes e v) s
-  change = nothing-each n (steady-changes becomes steady e) s h (rw q (grows-refl s))
+module _ (becomes : Becoming) (steady : (p : Polarity) (f : Formula) → Steady (becomes p f)) (n : ℕ) (e : Effect) {s : St} (q : AddsNothing (each n (changes_of becomes e)) s) {v : ℕ} (h : v < n) where
+  change : AddsNothing (changes_of becomes e v) s
+  change = nothing_each n (steady-changes becomes steady e) s h (rw q (grows_refl s))
 
   pub nothing-sets : AddsNothing (condition becomes plain (sets v) e) s
   nothing-sets = nothing-set becomes steady e v change

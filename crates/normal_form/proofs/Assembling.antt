@@ -14,18 +14,18 @@ use Rattle.task.specs.Table.{Task}
 use Rattle.normal_form.specs.Builder.{place}
 use Rattle.normal_form.specs.Growth.{Prefix}
 use Rattle.normal_form.specs.Operators.{Changes, Built}
-use Rattle.normal_form.specs.Assembly.{Rule, rule, with-twin, rules-of, rules, Written, write-rules, Assembled, assemble-operator, assemble, unassembled}
+use Rattle.normal_form.specs.Assembly.{Rule, rule, with_twin, rules_of, rules, Written, write_rules, Assembled, assemble_operator, assemble, unassembled}
 use Rattle.normal_form.specs.Finished.{built, assembled, finished}
 use Rattle.normal_form.proofs.Growth.{longer}
-use Rattle.normal_form.proofs.ShapeWritten.{rules-prefix}
+use Rattle.normal_form.proofs.ShapeWritten.{rules_prefix}
 use Rattle.normal_form.proofs.ShapeAssembled.{unwritten, assemble-effects}
-use Rattle.normal_form.proofs.ShapeFinished.{no-built, built-at, built-operators}
-use Rattle.normal_form.proofs.ShapeCounts.{rules-split, assemble-split}
+use Rattle.normal_form.proofs.ShapeFinished.{no_built, built_at, built-operators}
+use Rattle.normal_form.proofs.ShapeCounts.{rules_split, assemble-split}
 
 module _ (n : ℕ) (twins : List ℕ) where
   -- a variable that an operator neither sets nor clears has no rules
-  pub rules-none : (c : Changes) → c.adds ≡ 0 → c.deletes ≡ 0 → rules-of n twins c ≡ []
-  unfolding rules-of rule with-twin
+  pub rules-none : (c : Changes) → c.adds ≡ 0 → c.deletes ≡ 0 → rules_of n twins c ≡ []
+  unfolding rules_of rule with_twin
   rules-none c a d =
       rw (eq-eqb c.adds 0 a, eq-eqb c.deletes 0 d) (none (ltb (place eqb c.variable twins) (length twins)))
     where
@@ -38,11 +38,11 @@ module _ (n : ℕ) (twins : List ℕ) where
   unfolding rules
   rules-append [] ds = refl
   rules-append (c ∷ cs) ds =
-      rw (rules-append cs ds) (sym (append_assoc (rules-of n twins c) (rules n twins cs) (rules n twins ds)))
+      rw (rules-append cs ds) (sym (append_assoc (rules_of n twins c) (rules n twins cs) (rules n twins ds)))
 
 -- The tables before operator o: those of the operators below it.
-unfoldable pub assembled-before : Task → ℕ → Assembled
-assembled-before t o =
+unfoldable pub assembled_before : Task → ℕ → Assembled
+assembled_before t o =
     assemble (length t.initial) (built t).st.twins unassembled (take o (built t).value.operators)
 
 module _ (t : Task) where
@@ -55,24 +55,24 @@ module _ (t : Task) where
   pub before_more :
       (o : ℕ)
       → o < length t.operators
-      → assembled-before t (o + 1)
-      ≡ assemble-operator (length t.initial) (built t).st.twins (assembled-before t o) (built-at t o)
-  unfolding assembled-before
+      → assembled_before t (o + 1)
+      ≡ assemble_operator (length t.initial) (built t).st.twins (assembled_before t o) (built_at t o)
+  unfolding assembled_before
   before_more o h =
       ap (λ (k : ℕ). assemble n twins unassembled (take k (built t).value.operators)) (add-one o)
       ∙ ap (λ (l : List Built). assemble n twins unassembled l)
-      (take-suc (built t).value.operators o no-built (rw (built-operators t) h))
-      ∙ assemble-split n twins unassembled (take o (built t).value.operators) (built-at t o ∷ [])
+      (take-suc (built t).value.operators o no_built (rw (built-operators t) h))
+      ∙ assemble-split n twins unassembled (take o (built t).value.operators) (built_at t o ∷ [])
       ∙ one
     where
       one :
-          assemble n twins (assemble n twins unassembled (take o (built t).value.operators)) (built-at t o ∷ [])
-          ≡ assemble-operator n twins (assemble n twins unassembled (take o (built t).value.operators)) (built-at t o)
+          assemble n twins (assemble n twins unassembled (take o (built t).value.operators)) (built_at t o ∷ [])
+          ≡ assemble_operator n twins (assemble n twins unassembled (take o (built t).value.operators)) (built_at t o)
       one = unfold assemble in refl
 
   -- what stands before operator o, stands in the end
-  before-grows : (o : ℕ) → Prefix (assembled-before t o).effects (finished t).effects
-  unfolding assembled-before assembled finished
+  before-grows : (o : ℕ) → Prefix (assembled_before t o).effects (finished t).effects
+  unfolding assembled_before assembled finished
   before-grows o =
       let os = (built t).value.operators in
       let whole : assemble n twins (assemble n twins unassembled (take o os)) (drop o os) ≡ assemble n twins unassembled os =
@@ -86,14 +86,14 @@ module _ (t : Task) where
       (o v : ℕ)
       → o < length t.operators
       → length
-      (write-rules (unwritten (assembled-before t o).effects)
-      (rules (length t.initial) (built t).st.twins (take v (built-at t o).changes))
+      (write_rules (unwritten (assembled_before t o).effects)
+      (rules (length t.initial) (built t).st.twins (take v (built_at t o).changes))
       ).rows
       ≤ length (finished t).effects
   moment-effects o v h =
       omega (
         arith,
-        longer _ _ (rules-prefix (write-rules w (rules n twins (take v cs))) (rules n twins (drop v cs))),
+        longer _ _ (rules_prefix (write_rules w (rules n twins (take v cs))) (rules n twins (drop v cs))),
         ap (λ (x : Written). length x.rows) (sym split),
         ap (λ (x : Assembled). length x.effects) (before_more o h),
         own,
@@ -101,18 +101,18 @@ module _ (t : Task) where
       )
     where
       w : Written
-      w = unwritten (assembled-before t o).effects
+      w = unwritten (assembled_before t o).effects
 
       cs : List Changes
-      cs = (built-at t o).changes
+      cs = (built_at t o).changes
 
-      split : write-rules w (rules n twins cs) ≡ write-rules (write-rules w (rules n twins (take v cs))) (rules n twins (drop v cs))
+      split : write_rules w (rules n twins cs) ≡ write_rules (write_rules w (rules n twins (take v cs))) (rules n twins (drop v cs))
       split =
-          ap (λ (l : List Changes). write-rules w (rules n twins l)) (sym (take-append-drop v cs))
-          ∙ ap (write-rules w) (rules-append n twins (take v cs) (drop v cs))
-          ∙ rules-split w (rules n twins (take v cs)) (rules n twins (drop v cs))
+          ap (λ (l : List Changes). write_rules w (rules n twins l)) (sym (take-append-drop v cs))
+          ∙ ap (write_rules w) (rules-append n twins (take v cs) (drop v cs))
+          ∙ rules_split w (rules n twins (take v cs)) (rules n twins (drop v cs))
 
       own :
-          length (assemble-operator n twins (assembled-before t o) (built-at t o)).effects
-          ≡ length (write-rules w (rules n twins cs)).rows
-      own = unfold assemble-operator in refl
+          length (assemble_operator n twins (assembled_before t o) (built_at t o)).effects
+          ≡ length (write_rules w (rules n twins cs)).rows
+      own = unfold assemble_operator in refl

@@ -10,16 +10,16 @@ use lib.Seq.{get_or-append-add}
 use lib.Dec.{ltb}
 use borrow.Author.Tests.{ltb-true, le-ltb}
 use Rattle.task.specs.Table.{Task}
-use Rattle.task.specs.Rules.{no-operator, Limits, Checked, Rules}
-use Rattle.task.proofs.Sixteen.{rules-with-costs}
-use Rattle.task.specs.Run.{operator-of, effect-of-operator, applicable, charge, Progress, after-step, Stop, ended, stopped, Run, answer, run_on, plain-run, unstopped, is-plan}
+use Rattle.task.specs.Rules.{no_operator, Limits, Checked, Rules}
+use Rattle.task.proofs.Sixteen.{rules_with_costs}
+use Rattle.task.specs.Run.{operator_of, effect_of_operator, applicable, charge, Progress, after_step, Stop, ended, stopped, Run, answer, run_on, plain_run, unstopped, is_plan}
 use Rattle.task.specs.Corresponding.{Corresponding}
-use Rattle.normal_form.specs.Finished.{built, twin-values, finished}
+use Rattle.normal_form.specs.Finished.{built, twin_values, finished}
 use Rattle.normal_form.specs.Alike.{Alike, Outside}
 use Rattle.normal_form.proofs.ShapeFinished.{finished-operators}
 use Rattle.normal_form.proofs.ShapePassed.{finished-rules}
-use Rattle.normal_form.proofs.MeaningFinished.{same-goal, same-applicable, same-cost, same-charge}
-use Rattle.normal_form.proofs.MeaningStep.{length-apply, correspond-after}
+use Rattle.normal_form.proofs.MeaningFinished.{same-goal, same-applicable, same_cost, same-charge}
+use Rattle.normal_form.proofs.MeaningStep.{length_apply, correspond-after}
 
 -- The initial states correspond.
 pub map_at : (f : ℕ → ℕ) (l : List ℕ) (k : ℕ) → k < length l → get_or (map f l) k 0 ≡ f (get_or l k 0)
@@ -27,39 +27,39 @@ map_at f [] k h = absurd (not-suc-le-zero h)
 map_at f (x ∷ l) zero h = refl
 map_at f (x ∷ l) (suc k) h = map_at f l k (omega arith)
 
-pub initial-correspond : (t : Task) → Checked t → Corresponding (finished t).originals t.initial (finished t).initial
-unfolding finished twin-values
-initial-correspond t rules =
+pub initial_correspond : (t : Task) → Checked t → Corresponding (finished t).originals t.initial (finished t).initial
+unfolding finished twin_values
+initial_correspond t rules =
     let twins = (built t).st.twins in
     let f : ℕ → ℕ = λ v. 1 - get_or t.initial v 0 in
     record {
-      bits = rules.initial-bits;
+      bits = rules.initial_bits;
       width = length-append t.initial (map f twins) ∙ ap (λ (k : ℕ). length t.initial + k) (length-map twins f);
       same = λ v h. get_or-append t.initial (map f twins) 0 v h;
       opposite = λ k h. get_or-append-add t.initial (map f twins) k 0 ∙ map_at f twins k h;
     }
 
 -- The plain run, number by number.
-pub run-outside :
+pub run_outside :
     (t : Task) (p : Progress) (o : ℕ) (rest : List ℕ)
     → ltb o (length t.operators) ≡ false
     → run_on t p (o ∷ rest) ≡ answer t p (stopped 17)
 unfolding run_on
-run-outside t p o rest e = rw e
+run_outside t p o rest e = rw e
 
-pub run-refused :
+pub run_refused :
     (t : Task) (p : Progress) (o : ℕ) (rest : List ℕ)
     → ltb o (length t.operators) ≡ true
     → applicable t p.state o ≡ false
     → run_on t p (o ∷ rest) ≡ answer t p (stopped 18)
 unfolding run_on
-run-refused t p o rest e f = rw (e, f)
+run_refused t p o rest e f = rw (e, f)
 
 pub run_step :
     (t : Task) (p : Progress) (o : ℕ) (rest : List ℕ)
     → ltb o (length t.operators) ≡ true
     → applicable t p.state o ≡ true
-    → run_on t p (o ∷ rest) ≡ run_on t (after-step t p o) rest
+    → run_on t p (o ∷ rest) ≡ run_on t (after_step t p o) rest
 unfolding run_on
 run_step t p o rest e f = rw (e, f)
 
@@ -75,7 +75,7 @@ module _ (t : Task) (rules : Checked t) where
       (p p' : Progress) (reason : Stop)
       → Abreast t p p'
       → Alike (finished t).originals (answer t p reason) (answer (finished t) p' reason)
-  unfolding answer is-plan
+  unfolding answer is_plan
   alike-answer p p' reason a =
       let g = sym (same-goal t rules p.state p'.state a.wide a.states) in
       record {
@@ -91,11 +91,11 @@ module _ (t : Task) (rules : Checked t) where
       (p p' : Progress) (o : ℕ)
       → o < length t.operators
       → Abreast t p p'
-      → Abreast t (after-step t p o) (after-step (finished t) p' o)
-  unfolding after-step charge
+      → Abreast t (after_step t p o) (after_step (finished t) p' o)
+  unfolding after_step charge
   abreast-after p p' o h a =
       record {
-        wide = length-apply p.state (effect-of-operator t o) ∙ a.wide;
+        wide = length_apply p.state (effect_of_operator t o) ∙ a.wide;
         states = correspond-after t rules p.state p'.state a.wide a.states o h;
         steps = ap (λ (k : ℕ). k + 1) a.steps;
         cost = ap₂ ◌+◌ a.cost (sym (same-charge t rules p.state p'.state a.wide a.states o h));
@@ -108,13 +108,13 @@ module _ (t : Task) (rules : Checked t) where
   unfolding run_on
   run-alike [] p p' a = alike-answer p p' ended a
   run-alike (o ∷ rest) p p' a =
-      below (ltb o (length t.operators)) refl (run-alike rest (after-step t p o) (after-step (finished t) p' o))
+      below (ltb o (length t.operators)) refl (run-alike rest (after_step t p o) (after_step (finished t) p' o))
     where
       later : Type 0
       later =
-          Abreast t (after-step t p o) (after-step (finished t) p' o)
-          → Alike (finished t).originals (run_on t (after-step t p o) rest)
-          (run_on (finished t) (after-step (finished t) p' o) rest)
+          Abreast t (after_step t p o) (after_step (finished t) p' o)
+          → Alike (finished t).originals (run_on t (after_step t p o) rest)
+          (run_on (finished t) (after_step (finished t) p' o) rest)
 
       count : ltb o (length (finished t).operators) ≡ ltb o (length t.operators)
       count = ap (ltb o) (finished-operators t)
@@ -131,7 +131,7 @@ module _ (t : Task) (rules : Checked t) where
           (k (abreast-after p p' o h a))
       may false e l k =
           let h : o < length t.operators = ltb-true o (length t.operators) l in
-          rw (run-refused t p o rest l e, run-refused (finished t) p' o rest (count ∙ l) (same-applicable t rules p.state p'.state a.wide a.states o h ∙ e))
+          rw (run_refused t p o rest l e, run_refused (finished t) p' o rest (count ∙ l) (same-applicable t rules p.state p'.state a.wide a.states o h ∙ e))
           (alike-answer p p' (stopped 18) a)
 
       below :
@@ -141,7 +141,7 @@ module _ (t : Task) (rules : Checked t) where
           → Alike (finished t).originals (run_on t p (o ∷ rest)) (run_on (finished t) p' (o ∷ rest))
       below true e k = may (applicable t p.state o) refl e k
       below false e k =
-          rw (run-outside t p o rest e, run-outside (finished t) p' o rest (count ∙ e)) (alike-answer p p' (stopped 17) a)
+          rw (run_outside t p o rest e, run_outside (finished t) p' o rest (count ∙ e)) (alike-answer p p' (stopped 17) a)
 
 -- From corresponding states, whatever the list of operator numbers, the two plain runs are alike: one claim about the whole list. Neither
 -- W 0 nor the limits of the finished task are needed.
@@ -152,17 +152,17 @@ pub alike_from :
     → length s ≡ length t.initial
     → Corresponding (finished t).originals s s'
     → (numbers : List ℕ)
-    → Alike (finished t).originals (plain-run t s numbers) (plain-run (finished t) s' numbers)
-unfolding plain-run
+    → Alike (finished t).originals (plain_run t s numbers) (plain_run (finished t) s' numbers)
+unfolding plain_run
 alike_from t rules s s' width states numbers =
     run-alike t rules numbers (record { state = s; steps = 0; cost = 0 }) (record { state = s'; steps = 0; cost = 0 })
     (record { wide = width; states = states; steps = refl; cost = refl })
 
 -- The finished task keeps the rules that the source keeps, the range of costs among them, where it keeps the limits.
-pub finished-keeps : (t : Task) → Rules t → Limits (finished t) → Rules (finished t)
-unfolding operator-of
-finished-keeps t r limits =
-    rules-with-costs (finished t) (finished-rules t c limits) (λ o h.
+pub finished_keeps : (t : Task) → Rules t → Limits (finished t) → Rules (finished t)
+unfolding operator_of
+finished_keeps t r limits =
+    rules_with_costs (finished t) (finished-rules t c limits) (λ o h.
     let b : o < length t.operators = rw (finished-operators t) at h in
     rw (cost-kept o b) (r.cost o b))
   where
@@ -172,20 +172,20 @@ finished-keeps t r limits =
     cost-kept :
         (o : ℕ)
         → o < length t.operators
-        → (get_or (finished t).operators o no-operator).cost ≡ (get_or t.operators o no-operator).cost
-    cost-kept o b = same-cost t c t.initial (finished t).initial refl (initial-correspond t c) o b
+        → (get_or (finished t).operators o no_operator).cost ≡ (get_or t.operators o no_operator).cost
+    cost-kept o b = same_cost t c t.initial (finished t).initial refl (initial_correspond t c) o b
 
 -- A number not below O is applicable nowhere, and stops a run with 17 where it is met.
-not-inside : (t : Task) (o : ℕ) → length t.operators ≤ o → Outside t o
-unfolding plain-run answer applicable
-not-inside t o h =
+not_inside : (t : Task) (o : ℕ) → length t.operators ≤ o → Outside t o
+unfolding plain_run answer applicable
+not_inside t o h =
     let e = le-ltb o (length t.operators) h in
     record {
       nowhere = λ s. rw e;
-      met = λ p rest. run-outside t p o rest e;
-      first = λ s rest. ap (λ (r : Run). r.stop) (run-outside t (record { state = s; steps = 0; cost = 0 }) o rest e);
+      met = λ p rest. run_outside t p o rest e;
+      first = λ s rest. ap (λ (r : Run). r.stop) (run_outside t (record { state = s; steps = 0; cost = 0 }) o rest e);
     }
 
 -- Outside the source is outside the finished task.
 pub outside : (t : Task) → (o : ℕ) → length t.operators ≤ o → Outside t o × Outside (finished t) o
-outside t o h = (not-inside t o h, not-inside (finished t) o (omega (arith, finished-operators t)))
+outside t o h = (not_inside t o h, not_inside (finished t) o (omega (arith, finished-operators t)))

@@ -3,15 +3,15 @@ use Prim.Native.Nat.{ℕ}
 use mathlib.Core.Path.{◌≡◌, refl}
 use mathlib.Core.List.{[], ◌∷◌}
 use Rattle.task.specs.Bounded.{upto}
-use Rattle.task.specs.Table.{Row, Operator, Lent, Task, formula-kind, effect-kind, row_at, operator-at, task-of, operator}
-use Rattle.task.specs.Tree.{formula-node, formula-within, formula-of, effect-node, effect-within, effect_of}
-use Rattle.task.specs.Run.{operator-of, effect-of-operator}
-use Rattle.normal_form.specs.Builder.{give, bind, each, place, including, same_row, row, twin, variable-row, twin-row, start, choice, join-as, join, pair}
+use Rattle.task.specs.Table.{Row, Operator, Lent, Task, formula_kind, effect_kind, row_at, operator_at, task_of, operator}
+use Rattle.task.specs.Tree.{formula_node, formula_within, formula_of, effect_node, effect_within, effect_of}
+use Rattle.task.specs.Run.{operator_of, effect_of_operator}
+use Rattle.normal_form.specs.Builder.{give, bind, each, place, including, same_row, row, twin, variable_row, twin_row, start, choice, join_as, join, pair}
 use Rattle.normal_form.specs.Image.{literal, image}
 use Rattle.normal_form.specs.Conditions.{guarded, condition}
-use Rattle.normal_form.specs.Operators.{deletes-of, changes-of, built-operator, parts}
-use Rattle.normal_form.specs.Assembly.{rule, with-twin, rules-of, rules, atom-row, rule-rows, write-rule, write-rules, assemble-operator, assemble, unassembled}
-use Rattle.normal_form.specs.Finished.{built, assembled, twin-values, finished}
+use Rattle.normal_form.specs.Operators.{deletes_of, changes_of, built_operator, parts}
+use Rattle.normal_form.specs.Assembly.{rule, with_twin, rules_of, rules, atom_row, rule_rows, write_rule, write_rules, assemble_operator, assemble, unassembled}
+use Rattle.normal_form.specs.Finished.{built, assembled, twin_values, finished}
 
 abbrev pub words : ℕ → ℕ → ℕ → Row
 words k a b = record { kind = k; a = a; b = b }
@@ -19,10 +19,10 @@ words k a b = record { kind = k; a = a; b = b }
 -- finished, computed
 result : Task → Task
 unfolding
-    formula-kind effect-kind formula-node formula-within formula-of effect-node effect-within effect_of operator-of effect-of-operator
-    give bind each place including same_row row twin variable-row twin-row start choice join-as join pair literal image guarded condition
-    deletes-of changes-of built-operator parts rule with-twin rules-of rules atom-row rule-rows write-rule write-rules assemble-operator
-    assemble unassembled built assembled twin-values finished
+    formula_kind effect_kind formula_node formula_within formula_of effect_node effect_within effect_of operator_of effect_of_operator
+    give bind each place including same_row row twin variable_row twin_row start choice join_as join pair literal image guarded condition
+    deletes_of changes_of built_operator parts rule with_twin rules_of rules atom_row rule_rows write_rule write_rules assemble_operator
+    assemble unassembled built assembled twin_values finished
 result t = finished t
 
 -- The whole example, for the outcomes in ExamplesCompiled. Formulas v0; v1; not 0; not 1; 0 and 3. Effects set v0; clear v1; 1 under 1; both 0 and 2. Operator (2, 3, cost 3). Goal 4.
@@ -38,7 +38,7 @@ source =
     }
 
 pub whole :
-    finished (task-of source)
+    finished (task_of source)
     ≡ record {
       initial = 0 ∷ 1 ∷ 1 ∷ 0 ∷ [];
       originals = 0 ∷ 1 ∷ [];
@@ -61,7 +61,7 @@ pub whole :
       operators = operator 2 11 3 100 ∷ [];
       goal = 6;
     }
-unfolding result task-of upto row_at operator-at
+unfolding result task_of upto row_at operator_at
 whole = refl
 
 -- the smallest: goal true, no variables, effects or operators
@@ -87,7 +87,7 @@ unfolding result
 smallest = refl
 
 -- the goal brings a twin, for which the operator before it gets its rule: clear v0, goal "not v0"
-pub twin-by-goal :
+pub twin_by_goal :
     finished
     (record {
       initial = 1 ∷ [];
@@ -106,10 +106,10 @@ pub twin-by-goal :
       goal = 2;
     }
 unfolding result
-twin-by-goal = refl
+twin_by_goal = refl
 
 -- folding saves no building: "false and not v0" is row 0, and v0 has its twin
-pub fold-after-building :
+pub fold_after_building :
     finished
     (record {
       initial = 1 ∷ [];
@@ -128,10 +128,10 @@ pub fold-after-building :
       goal = 0;
     }
 unfolding result
-fold-after-building = refl
+fold_after_building = refl
 
 -- "v0 equivalent to v1" or its negation: first the plain image, then the negated one, in each of them each pair left, right, join
-pub equivalence-order :
+pub equivalence_order :
     finished
     (record {
       initial = 0 ∷ 0 ∷ [];
@@ -164,10 +164,10 @@ pub equivalence-order :
       goal = 12;
     }
 unfolding result
-equivalence-order = refl
+equivalence_order = refl
 
 -- no conflict, no N: "set v1 under v0" brings no twin, nor does "set v1 under 'false and v0', and clear v1"
-pub no-conflict-no-twin :
+pub no_conflict_no_twin :
     finished
     (record {
       initial = 0 ∷ 0 ∷ [];
@@ -186,4 +186,4 @@ pub no-conflict-no-twin :
       goal = 2;
     }
 unfolding result
-no-conflict-no-twin = refl
+no_conflict_no_twin = refl

@@ -8,7 +8,7 @@ use lib.ListN.{length, get_or, length-append, get_or-append}
 use lib.Dec.{eqb}
 use borrow.Author.Tests.{eq-eqb}
 use Rattle.task.specs.Table.{Row}
-use Rattle.normal_form.specs.Builder.{St, Got, Build, give, bind, each, place, including, same_row, row, twin, variable-row, twin-row, Polarity, Choice, absorbed, only-left, only-right, own_row, choice, join-as, join, pair}
+use Rattle.normal_form.specs.Builder.{St, Got, Build, give, bind, each, place, including, same_row, row, twin, variable_row, twin_row, Polarity, Choice, absorbed, only_left, only_right, own_row, choice, join_as, join, pair}
 use Rattle.normal_form.specs.Growth.{Prefix, Grows, Steady}
 
 module _ {A : Type 0} where
@@ -31,11 +31,11 @@ module _ {A : Type 0} where
   pub prefix-at : (l m : List A) (d : A) (k : ℕ) → Prefix l m → k < length l → get_or m k d ≡ get_or l k d
   prefix-at l m d k p h = rw p.whole (get_or-append l p.rest d k h)
 
-pub grows-refl : (s : St) → Grows s s
-grows-refl s = record { rows = prefix_refl s.rows; twins = prefix_refl s.twins }
+pub grows_refl : (s : St) → Grows s s
+grows_refl s = record { rows = prefix_refl s.rows; twins = prefix_refl s.twins }
 
-pub grows-trans : {s t u : St} → Grows s t → Grows t u → Grows s u
-grows-trans g h = record { rows = prefix_trans g.rows h.rows; twins = prefix_trans g.twins h.twins }
+pub grows_trans : {s t u : St} → Grows s t → Grows t u → Grows s u
+grows_trans g h = record { rows = prefix_trans g.rows h.rows; twins = prefix_trans g.twins h.twins }
 
 -- Find or append, with a test under which each is the same as itself.
 module _ {A : Type 0} (same : A → A → Bool) (itself : (x : A) → same x x ≡ true) (x : A) where
@@ -76,83 +76,83 @@ module _ {A : Type 0} (same : A → A → Bool) (itself : (x : A) → same x x �
       go false e h = rw (e, h)
 
   -- the same, of a list that has it as its prefix
-  pub place-within : (l : List A) {m : List A} → Prefix (including same x l) m → place same x m ≡ place same x l
-  place-within l p = rw p.whole (place-again l p.rest)
+  pub place_within : (l : List A) {m : List A} → Prefix (including same x l) m → place same x m ≡ place same x l
+  place_within l p = rw p.whole (place-again l p.rest)
 
   pub kept-within : (l : List A) {m : List A} → Prefix (including same x l) m → including same x m ≡ m
   kept-within l p = rw p.whole (kept_again l p.rest)
 
-pub same-row-itself : (r : Row) → same_row r r ≡ true
+pub same_row_itself : (r : Row) → same_row r r ≡ true
 unfolding same_row
-same-row-itself r =
+same_row_itself r =
     rw (eq-eqb r.kind r.kind refl, eq-eqb r.a r.a refl, eq-eqb r.b r.b refl)
 
-pub eqb-itself : (n : ℕ) → eqb n n ≡ true
-eqb-itself n = eq-eqb n n refl
+pub eqb_itself : (n : ℕ) → eqb n n ≡ true
+eqb_itself n = eq-eqb n n refl
 
-pub steady-give : {A : Type 0} (x : A) → Steady (give x)
+pub steady_give : {A : Type 0} (x : A) → Steady (give x)
 unfolding give
-steady-give x = record { grow = grows-refl; again = λ s t g. refl }
+steady_give x = record { grow = grows_refl; again = λ s t g. refl }
 
-pub steady-bind : {A B : Type 0} {m : Build A} {f : A → Build B} → Steady m → ((x : A) → Steady (f x)) → Steady (bind m f)
+pub steady_bind : {A B : Type 0} {m : Build A} {f : A → Build B} → Steady m → ((x : A) → Steady (f x)) → Steady (bind m f)
 unfolding bind
-steady-bind {A} {m} {f} p q =
+steady_bind {A} {m} {f} p q =
     record {
-      grow = λ s. grows-trans (p.grow s) ((q (m s).value).grow (m s).st);
+      grow = λ s. grows_trans (p.grow s) ((q (m s).value).grow (m s).st);
       again = λ s t g.
-          let e = p.again s t (grows-trans ((q (m s).value).grow (m s).st) g) in
+          let e = p.again s t (grows_trans ((q (m s).value).grow (m s).st) g) in
           ap (λ (r : Got A). f r.value r.st) e ∙ (q (m s).value).again (m s).st t g;
     }
 
-pub steady-row : (r : Row) → Steady (row r)
+pub steady_row : (r : Row) → Steady (row r)
 unfolding row
-steady-row r =
+steady_row r =
     record {
-      grow = λ s. record { rows = kept-prefix same_row same-row-itself r s.rows; twins = prefix_refl s.twins };
+      grow = λ s. record { rows = kept-prefix same_row same_row_itself r s.rows; twins = prefix_refl s.twins };
       again = λ s t g.
           let p : Prefix (including same_row r s.rows) t.rows = g.rows in
-          rw (place-within same_row same-row-itself r s.rows p, kept-within same_row same-row-itself r s.rows p);
+          rw (place_within same_row same_row_itself r s.rows p, kept-within same_row same_row_itself r s.rows p);
     }
 
-pub steady-twin : (v : ℕ) → Steady (twin v)
+pub steady_twin : (v : ℕ) → Steady (twin v)
 unfolding twin
-steady-twin v =
+steady_twin v =
     record {
-      grow = λ s. record { rows = prefix_refl s.rows; twins = kept-prefix eqb eqb-itself v s.twins };
+      grow = λ s. record { rows = prefix_refl s.rows; twins = kept-prefix eqb eqb_itself v s.twins };
       again = λ s t g.
           let p : Prefix (including eqb v s.twins) t.twins = g.twins in
-          rw (place-within eqb eqb-itself v s.twins p, kept-within eqb eqb-itself v s.twins p);
+          rw (place_within eqb eqb_itself v s.twins p, kept-within eqb eqb_itself v s.twins p);
     }
 
-pub steady-variable-row : (v : ℕ) → Steady (variable-row v)
-unfolding variable-row
-steady-variable-row v = steady-row _
+pub steady_variable_row : (v : ℕ) → Steady (variable_row v)
+unfolding variable_row
+steady_variable_row v = steady_row _
 
-pub steady-twin-row : (n v : ℕ) → Steady (twin-row n v)
-unfolding twin-row
-steady-twin-row n v = steady-bind (steady-twin v) (λ k. steady-variable-row (n + k))
+pub steady_twin_row : (n v : ℕ) → Steady (twin_row n v)
+unfolding twin_row
+steady_twin_row n v = steady_bind (steady_twin v) (λ k. steady_variable_row (n + k))
 
-pub steady-joined : (p : Polarity) (c : Choice) (a b : ℕ) → Steady (join-as p c a b)
-unfolding join-as
-steady-joined p absorbed a b = steady-give _
-steady-joined p only-left a b = steady-give a
-steady-joined p only-right a b = steady-give b
-steady-joined p own_row a b = steady-row _
+pub steady_joined : (p : Polarity) (c : Choice) (a b : ℕ) → Steady (join_as p c a b)
+unfolding join_as
+steady_joined p absorbed a b = steady_give _
+steady_joined p only_left a b = steady_give a
+steady_joined p only_right a b = steady_give b
+steady_joined p own_row a b = steady_row _
 
-pub steady-join : (p : Polarity) (a b : ℕ) → Steady (join p a b)
+pub steady_join : (p : Polarity) (a b : ℕ) → Steady (join p a b)
 unfolding join
-steady-join p a b = steady-joined p (choice p a b) a b
+steady_join p a b = steady_joined p (choice p a b) a b
 
-pub steady-pair : (p : Polarity) {l r : Build ℕ} → Steady l → Steady r → Steady (pair p l r)
+pub steady_pair : (p : Polarity) {l r : Build ℕ} → Steady l → Steady r → Steady (pair p l r)
 unfolding pair
-steady-pair p l r = steady-bind l (λ a. steady-bind r (λ b. steady-join p a b))
+steady_pair p l r = steady_bind l (λ a. steady_bind r (λ b. steady_join p a b))
 
-pub steady-each : {A : Type 0} (n : ℕ) {f : ℕ → Build A} → ((k : ℕ) → Steady (f k)) → Steady (each n f)
+pub steady_each : {A : Type 0} (n : ℕ) {f : ℕ → Build A} → ((k : ℕ) → Steady (f k)) → Steady (each n f)
 unfolding each
-steady-each zero h = steady-give []
-steady-each (suc n) h = steady-bind (steady-each n h) (λ l. steady-bind (h n) (λ x. steady-give _))
+steady_each zero h = steady_give []
+steady_each (suc n) h = steady_bind (steady_each n h) (λ l. steady_bind (h n) (λ x. steady_give _))
 
 -- of two steps, the one that a test picks
-pub steady-cond : {A : Type 0} (b : Bool) {l r : Build A} → Steady l → Steady r → Steady (cond b l r)
-steady-cond true l r = l
-steady-cond false l r = r
+pub steady_cond : {A : Type 0} (b : Bool) {l r : Build A} → Steady l → Steady r → Steady (cond b l r)
+steady_cond true l r = l
+steady_cond false l r = r

@@ -7,18 +7,18 @@ use mathlib.Core.List.{List}
 use lib.ListN.{length, get_or}
 use lib.Dec.{eqb}
 use borrow.Author.Tests.{eqb-true}
-use Rattle.task.specs.Table.{Row, FormulaKind, formula-kind}
+use Rattle.task.specs.Table.{Row, FormulaKind, formula_kind}
 use Rattle.task.specs.Rules.{no_row}
 use Rattle.task.specs.Semantics.{Formula, holds}
-use Rattle.task.specs.Tree.{formula-node, formula-of}
+use Rattle.task.specs.Tree.{formula_node, formula_of}
 use Rattle.task.specs.Corresponding.{Corresponding}
 use Rattle.task.proofs.Trees.{formula-unfolds, formula-grows}
 use Rattle.task.specs.Inner.Rows.{FormulaKept, FormulasDown}
-use Rattle.normal_form.specs.Builder.{St, Got, Build, give, bind, row, Polarity, plain, negated, image-of-false, image-of-true, join-kind, Choice, absorbed, only-left, only-right, own_row, choice, join-as, join, pair}
+use Rattle.normal_form.specs.Builder.{St, Got, Build, give, bind, row, Polarity, plain, negated, image_of_false, image_of_true, join_kind, Choice, absorbed, only_left, only_right, own_row, choice, join_as, join, pair}
 use Rattle.normal_form.specs.Growth.{Prefix, Grows, Steady}
 pub use Rattle.normal_form.proofs.Growth.{longer, prefix-at}
-use Rattle.normal_form.proofs.Growth.{prefix_trans, steady-row}
-use Rattle.normal_form.proofs.Fine.{Joins, Fine, fine-row, row_below, row_has}
+use Rattle.normal_form.proofs.Growth.{prefix_trans, steady_row}
+use Rattle.normal_form.proofs.Fine.{Joins, Fine, fine_row, row_below, row_has}
 
 -- A source state of n variables and a compiled state that corresponds to it, once all twins (final) are met.
 pub record Seen (n : ℕ) (s : St) : Type 0 where
@@ -32,15 +32,15 @@ pub record Seen (n : ℕ) (s : St) : Type 0 where
 -- Row a stands, and holds in a compiled state where b is true of the source state.
 pub record Means (n : ℕ) (b : List ℕ → Bool) (s : St) (a : ℕ) : Type 0 where
   pub below : a < length s.rows
-  pub value : (w : Seen n s) → holds w.compiled (formula-of s.rows a) ≡ b w.source
+  pub value : (w : Seen n s) → holds w.compiled (formula_of s.rows a) ≡ b w.source
 
 -- A step's answer: the state after it is fine, with rows of allowed kinds, and the value is as P says.
 pub record Good {A : Type 0} (allowed : FormulaKind → Type 0) (n : ℕ) (P : St → A → Type 0) (g : Got A) : Type 0 where
   pub fine : Fine allowed n g.st
   pub value : P g.st g.value
 
-abbrev pub seen-before : {n : ℕ} {s t : St} → Grows s t → Seen n t → Seen n s
-seen-before g w =
+abbrev pub seen_before : {n : ℕ} {s t : St} → Grows s t → Seen n t → Seen n s
+seen_before g w =
     record {
       final = w.final;
       source = w.source;
@@ -51,8 +51,8 @@ seen-before g w =
     }
 
 -- rows stay what they mean when building goes on
-pub means-later : {allowed : FormulaKind → Type 0} {n : ℕ} {b : List ℕ → Bool} {s t : St} {a : ℕ} → Fine allowed n s → Grows s t → Means n b s a → Means n b t a
-means-later {n = n} {b = b} {s = s} {t = t} {a = a} f g m =
+pub means_later : {allowed : FormulaKind → Type 0} {n : ℕ} {b : List ℕ → Bool} {s t : St} {a : ℕ} → Fine allowed n s → Grows s t → Means n b s a → Means n b t a
+means_later {n = n} {b = b} {s = s} {t = t} {a = a} f g m =
     record {
       below = omega (arith, longer s.rows t.rows g.rows, m.below);
       value =
@@ -60,28 +60,28 @@ means-later {n = n} {b = b} {s = s} {t = t} {a = a} f g m =
           rw g.rows.whole
           (ap (holds w.compiled)
           (formula-grows (n + length s.twins) s.rows f.down g.rows.rest a m.below)
-          ∙ m.value (seen-before g w));
+          ∙ m.value (seen_before g w));
     }
 
 -- the same under another name of the truth value
-pub means-as :
+pub means_as :
     {n : ℕ} {b : List ℕ → Bool} {s : St} {a : ℕ} (c : List ℕ → Bool)
     → Means n b s a
     → ((w : Seen n s) → b w.source ≡ c w.source)
     → Means n c s a
-means-as c m e = record { below = m.below; value = λ w. m.value w ∙ e w }
+means_as c m e = record { below = m.below; value = λ w. m.value w ∙ e w }
 
-pub good-bind :
+pub good_bind :
     {allowed : FormulaKind → Type 0} {A B : Type 0} {n : ℕ} {P : St → A → Type 0} {Q : St → B → Type 0} (m : Build A) (f : A → Build B) (s : St)
     → Good allowed n P (m s)
     → (Fine allowed n (m s).st → P (m s).st (m s).value → Good allowed n Q (f (m s).value (m s).st))
     → Good allowed n Q (bind m f s)
 unfolding bind
-good-bind m f s g k = k g.fine g.value
+good_bind m f s g k = k g.fine g.value
 
-pub good-give : {allowed : FormulaKind → Type 0} {A : Type 0} {n : ℕ} {P : St → A → Type 0} (x : A) (s : St) → Fine allowed n s → P s x → Good allowed n P (give x s)
+pub good_give : {allowed : FormulaKind → Type 0} {A : Type 0} {n : ℕ} {P : St → A → Type 0} (x : A) (s : St) → Fine allowed n s → P s x → Good allowed n P (give x s)
 unfolding give
-good-give x s f p = record { fine = f; value = p }
+good_give x s f p = record { fine = f; value = p }
 
 -- a truth value; negated, its opposite
 abbrev pub sense : Polarity → Bool → Bool
@@ -94,144 +94,144 @@ meet plain x y = x && y
 meet negated x y = x || y
 
 -- a row by its words
-pub row-unfolds :
+pub row_unfolds :
     (v : ℕ) (rows : List Row) (i : ℕ) (r : Row)
     → FormulasDown v rows
     → i < length rows
     → get_or rows i no_row ≡ r
-    → formula-of rows i ≡ formula-node (formula-kind r.kind) r.a (formula-of rows r.a) (formula-of rows r.b)
-row-unfolds v rows i r down h e = formula-unfolds v rows down i h ∙ rw e
+    → formula_of rows i ≡ formula_node (formula_kind r.kind) r.a (formula_of rows r.a) (formula_of rows r.b)
+row_unfolds v rows i r down h e = formula-unfolds v rows down i h ∙ rw e
 
-means-zero : {allowed : FormulaKind → Type 0} {n : ℕ} {s : St} → Fine allowed n s → Means n (λ source. false) s 0
-unfolding formula-kind formula-node holds
-means-zero {n = n} {s = s} f =
+means_zero : {allowed : FormulaKind → Type 0} {n : ℕ} {s : St} → Fine allowed n s → Means n (λ source. false) s 0
+unfolding formula_kind formula_node holds
+means_zero {n = n} {s = s} f =
     record {
       below = omega (arith, f.two);
       value =
           λ w.
           ap (holds w.compiled)
-          (row-unfolds (n + length s.twins) s.rows 0 (record { kind = 0; a = 0; b = 0 }) f.down
-          (omega (arith, f.two)) f.row-false);
+          (row_unfolds (n + length s.twins) s.rows 0 (record { kind = 0; a = 0; b = 0 }) f.down
+          (omega (arith, f.two)) f.row_false);
     }
 
-means-one : {allowed : FormulaKind → Type 0} {n : ℕ} {s : St} → Fine allowed n s → Means n (λ source. true) s 1
-unfolding formula-kind formula-node holds
-means-one {n = n} {s = s} f =
+means_one : {allowed : FormulaKind → Type 0} {n : ℕ} {s : St} → Fine allowed n s → Means n (λ source. true) s 1
+unfolding formula_kind formula_node holds
+means_one {n = n} {s = s} f =
     record {
       below = omega (arith, f.two);
       value =
           λ w.
           ap (holds w.compiled)
-          (row-unfolds (n + length s.twins) s.rows 1 (record { kind = 1; a = 0; b = 0 }) f.down
-          (omega (arith, f.two)) f.row-true);
+          (row_unfolds (n + length s.twins) s.rows 1 (record { kind = 1; a = 0; b = 0 }) f.down
+          (omega (arith, f.two)) f.row_true);
     }
 
-pub means-falsity : {allowed : FormulaKind → Type 0} {n : ℕ} {s : St} (p : Polarity) → Fine allowed n s → Means n (λ source. sense p false) s (image-of-false p)
-means-falsity plain f = means-zero f
-means-falsity negated f = means-one f
+pub means_falsity : {allowed : FormulaKind → Type 0} {n : ℕ} {s : St} (p : Polarity) → Fine allowed n s → Means n (λ source. sense p false) s (image_of_false p)
+means_falsity plain f = means_zero f
+means_falsity negated f = means_one f
 
-pub means-truth : {allowed : FormulaKind → Type 0} {n : ℕ} {s : St} (p : Polarity) → Fine allowed n s → Means n (λ source. sense p true) s (image-of-true p)
-means-truth plain f = means-one f
-means-truth negated f = means-zero f
+pub means_truth : {allowed : FormulaKind → Type 0} {n : ℕ} {s : St} (p : Polarity) → Fine allowed n s → Means n (λ source. sense p true) s (image_of_true p)
+means_truth plain f = means_one f
+means_truth negated f = means_zero f
 
 -- one row means one thing
-pub means-alike :
+pub means_alike :
     {n : ℕ} {b c : List ℕ → Bool} {s : St} {i j : ℕ}
     → Means n b s i
     → Means n c s j
     → i ≡ j
     → (w : Seen n s)
     → b w.source ≡ c w.source
-means-alike {n} {b} {c} {s} m k e w =
-    sym (m.value w) ∙ ap (λ (a : ℕ). holds w.compiled (formula-of s.rows a)) e ∙ k.value w
+means_alike {n} {b} {c} {s} m k e w =
+    sym (m.value w) ∙ ap (λ (a : ℕ). holds w.compiled (formula_of s.rows a)) e ∙ k.value w
 
 -- Why a join comes out as it does.
 data Folded (p : Polarity) (a b : ℕ) : Choice → Type 0 where
-  left_false : a ≡ image-of-false p → Folded p a b absorbed
-  right-false : b ≡ image-of-false p → Folded p a b absorbed
-  left-true : a ≡ image-of-true p → Folded p a b only-right
-  right-true : b ≡ image-of-true p → Folded p a b only-left
+  left_false : a ≡ image_of_false p → Folded p a b absorbed
+  right_false : b ≡ image_of_false p → Folded p a b absorbed
+  left_true : a ≡ image_of_true p → Folded p a b only_right
+  right_true : b ≡ image_of_true p → Folded p a b only_left
   neither : Folded p a b own_row
 
 folded : (p : Polarity) (a b : ℕ) → Folded p a b (choice p a b)
 unfolding choice
-folded p a b = first (eqb a (image-of-false p)) refl
+folded p a b = first (eqb a (image_of_false p)) refl
   where
-    fourth : (t : Bool) → eqb b (image-of-true p) ≡ t → Folded p a b (cond t only-left own_row)
-    fourth true e = right-true (eqb-true b (image-of-true p) e)
+    fourth : (t : Bool) → eqb b (image_of_true p) ≡ t → Folded p a b (cond t only_left own_row)
+    fourth true e = right_true (eqb-true b (image_of_true p) e)
     fourth false e = neither
 
-    third : (t : Bool) → eqb a (image-of-true p) ≡ t → Folded p a b (cond t only-right (cond (eqb b (image-of-true p)) only-left own_row))
-    third true e = left-true (eqb-true a (image-of-true p) e)
-    third false e = fourth (eqb b (image-of-true p)) refl
+    third : (t : Bool) → eqb a (image_of_true p) ≡ t → Folded p a b (cond t only_right (cond (eqb b (image_of_true p)) only_left own_row))
+    third true e = left_true (eqb-true a (image_of_true p) e)
+    third false e = fourth (eqb b (image_of_true p)) refl
 
     second :
         (t : Bool)
-        → eqb b (image-of-false p) ≡ t
-        → Folded p a b (cond t absorbed (cond (eqb a (image-of-true p)) only-right (cond (eqb b (image-of-true p)) only-left own_row)))
-    second true e = right-false (eqb-true b (image-of-false p) e)
-    second false e = third (eqb a (image-of-true p)) refl
+        → eqb b (image_of_false p) ≡ t
+        → Folded p a b (cond t absorbed (cond (eqb a (image_of_true p)) only_right (cond (eqb b (image_of_true p)) only_left own_row)))
+    second true e = right_false (eqb-true b (image_of_false p) e)
+    second false e = third (eqb a (image_of_true p)) refl
 
     first :
         (t : Bool)
-        → eqb a (image-of-false p) ≡ t
+        → eqb a (image_of_false p) ≡ t
         → Folded p a b
         (cond t absorbed
-        (cond (eqb b (image-of-false p)) absorbed (cond (eqb a (image-of-true p)) only-right (cond (eqb b (image-of-true p)) only-left own_row))))
-    first true e = left_false (eqb-true a (image-of-false p) e)
-    first false e = second (eqb b (image-of-false p)) refl
+        (cond (eqb b (image_of_false p)) absorbed (cond (eqb a (image_of_true p)) only_right (cond (eqb b (image_of_true p)) only_left own_row))))
+    first true e = left_false (eqb-true a (image_of_false p) e)
+    first false e = second (eqb b (image_of_false p)) refl
 
-meet-false-left : (p : Polarity) (x y : Bool) → x ≡ sense p false → sense p false ≡ meet p x y
-meet-false-left plain x y e = rw e
-meet-false-left negated x y e = rw e
+meet_false_left : (p : Polarity) (x y : Bool) → x ≡ sense p false → sense p false ≡ meet p x y
+meet_false_left plain x y e = rw e
+meet_false_left negated x y e = rw e
 
-meet-false-right : (p : Polarity) (x y : Bool) → y ≡ sense p false → sense p false ≡ meet p x y
-meet-false-right plain true y e = sym e
-meet-false-right plain false y e = refl
-meet-false-right negated true y e = refl
-meet-false-right negated false y e = sym e
+meet_false_right : (p : Polarity) (x y : Bool) → y ≡ sense p false → sense p false ≡ meet p x y
+meet_false_right plain true y e = sym e
+meet_false_right plain false y e = refl
+meet_false_right negated true y e = refl
+meet_false_right negated false y e = sym e
 
-meet-true-left : (p : Polarity) (x y : Bool) → x ≡ sense p true → y ≡ meet p x y
-meet-true-left plain x y e = rw e
-meet-true-left negated x y e = rw e
+meet_true_left : (p : Polarity) (x y : Bool) → x ≡ sense p true → y ≡ meet p x y
+meet_true_left plain x y e = rw e
+meet_true_left negated x y e = rw e
 
-meet-true-right : (p : Polarity) (x y : Bool) → y ≡ sense p true → x ≡ meet p x y
-meet-true-right plain true y e = sym e
-meet-true-right plain false y e = refl
-meet-true-right negated true y e = refl
-meet-true-right negated false y e = sym e
+meet_true_right : (p : Polarity) (x y : Bool) → y ≡ sense p true → x ≡ meet p x y
+meet_true_right plain true y e = sym e
+meet_true_right plain false y e = refl
+meet_true_right negated true y e = refl
+meet_true_right negated false y e = sym e
 
 -- A connective of two operands, by a row's kind: the row's rule, and what it says.
 pub record Connects (kind : ℕ) (says : Bool → Bool → Bool) : Type 0 where
   pub kept : (v i a b : ℕ) → a < i → b < i → FormulaKept v i (record { kind = kind; a = a; b = b })
   pub said :
       (a : ℕ) (c : List ℕ) (q r : Formula)
-      → holds c (formula-node (formula-kind kind) a q r) ≡ says (holds c q) (holds c r)
+      → holds c (formula_node (formula_kind kind) a q r) ≡ says (holds c q) (holds c r)
 
-join-connects : (p : Polarity) → Connects (join-kind p) (meet p)
-unfolding formula-kind formula-node holds
-join-connects plain = record { kept = λ v i a b h g. (h, g); said = λ a c q r. refl }
-join-connects negated = record { kept = λ v i a b h g. (h, g); said = λ a c q r. refl }
+join_connects : (p : Polarity) → Connects (join_kind p) (meet p)
+unfolding formula_kind formula_node holds
+join_connects plain = record { kept = λ v i a b h g. (h, g); said = λ a c q r. refl }
+join_connects negated = record { kept = λ v i a b h g. (h, g); said = λ a c q r. refl }
 
-join-allowed : {allowed : FormulaKind → Type 0} → Joins allowed → (p : Polarity) → allowed (formula-kind (join-kind p))
-unfolding formula-kind
-join-allowed joins plain = joins.ands
-join-allowed joins negated = joins.ors
+join_allowed : {allowed : FormulaKind → Type 0} → Joins allowed → (p : Polarity) → allowed (formula_kind (join_kind p))
+unfolding formula_kind
+join_allowed joins plain = joins.ands
+join_allowed joins negated = joins.ors
 
 -- a row of an allowed kind that keeps its rule, by what its words say in the state after it
-pub good-row :
+pub good_row :
     {allowed : FormulaKind → Type 0} {n : ℕ} {b : List ℕ → Bool} (q : Row) (s : St)
     → Fine allowed n s
     → FormulaKept (n + length s.twins) (length s.rows) q
-    → allowed (formula-kind q.kind)
+    → allowed (formula_kind q.kind)
     → ((w : Seen n (row q s).st)
     → let rows = (row q s).st.rows in
-    holds w.compiled (formula-node (formula-kind q.kind) q.a (formula-of rows q.a) (formula-of rows q.b))
+    holds w.compiled (formula_node (formula_kind q.kind) q.a (formula_of rows q.a) (formula_of rows q.b))
     ≡ b w.source)
     → Good allowed n (Means n b) (row q s)
-good-row {allowed} {n} q s f kept kind said =
+good_row {allowed} {n} q s f kept kind said =
     let u = (row q s).st in
-    let fine : Fine allowed n u = fine-row n s q f kept kind in
+    let fine : Fine allowed n u = fine_row n s q f kept kind in
     record {
       fine = fine;
       value =
@@ -240,7 +240,7 @@ good-row {allowed} {n} q s f kept kind said =
             value =
                 λ w.
                 ap (holds w.compiled)
-                (row-unfolds (n + length u.twins) u.rows (row q s).value q fine.down (row_below q s) (row_has q s))
+                (row_unfolds (n + length u.twins) u.rows (row q s).value q fine.down (row_below q s) (row_has q s))
                 ∙ said w;
           };
     }
@@ -250,52 +250,52 @@ module _ {allowed : FormulaKind → Type 0} {n : ℕ} {x y : List ℕ → Bool} 
   pub good-connected :
       {kind : ℕ} {says : Bool → Bool → Bool}
       → Connects kind says
-      → allowed (formula-kind kind)
+      → allowed (formula_kind kind)
       → Good allowed n (Means n (λ source. says (x source) (y source))) (row (record { kind = kind; a = a; b = b }) s)
   good-connected {kind} {says} c k =
       let q : Row = record { kind = kind; a = a; b = b } in
       let u = (row q s).st in
-      let l' = means-later f ((steady-row q).grow s) l in
-      let r' = means-later f ((steady-row q).grow s) r in
-      good-row q s f (c.kept (n + length s.twins) (length s.rows) a b l.below r.below) k
+      let l' = means_later f ((steady_row q).grow s) l in
+      let r' = means_later f ((steady_row q).grow s) r in
+      good_row q s f (c.kept (n + length s.twins) (length s.rows) a b l.below r.below) k
       (λ w.
-      c.said a w.compiled (formula-of u.rows a) (formula-of u.rows b)
+      c.said a w.compiled (formula_of u.rows a) (formula_of u.rows b)
       ∙ ap₂ says (l'.value w) (r'.value w))
 
 module _ {allowed : FormulaKind → Type 0} (joins : Joins allowed) {n : ℕ} {x y : List ℕ → Bool} (p : Polarity) (s : St) (a b : ℕ) (f : Fine allowed n s) (l : Means n x s a) (r : Means n y s b) where
-  good-joined : (c : Choice) → Folded p a b c → Good allowed n (Means n (λ source. meet p (x source) (y source))) (join-as p c a b s)
-  unfolding join-as
+  good-joined : (c : Choice) → Folded p a b c → Good allowed n (Means n (λ source. meet p (x source) (y source))) (join_as p c a b s)
+  unfolding join_as
   good-joined absorbed (left_false e) =
-      good-give (image-of-false p) s f
-      (means-as _ (means-falsity p f)
-      (λ w. meet-false-left p (x w.source) (y w.source) (means-alike l (means-falsity p f) e w)))
-  good-joined absorbed (right-false e) =
-      good-give (image-of-false p) s f
-      (means-as _ (means-falsity p f)
-      (λ w. meet-false-right p (x w.source) (y w.source) (means-alike r (means-falsity p f) e w)))
-  good-joined only-right (left-true e) =
-      good-give b s f
-      (means-as _ r (λ w. meet-true-left p (x w.source) (y w.source) (means-alike l (means-truth p f) e w)))
-  good-joined only-left (right-true e) =
-      good-give a s f
-      (means-as _ l (λ w. meet-true-right p (x w.source) (y w.source) (means-alike r (means-truth p f) e w)))
-  good-joined own_row neither = good-connected s a b f l r (join-connects p) (join-allowed joins p)
+      good_give (image_of_false p) s f
+      (means_as _ (means_falsity p f)
+      (λ w. meet_false_left p (x w.source) (y w.source) (means_alike l (means_falsity p f) e w)))
+  good-joined absorbed (right_false e) =
+      good_give (image_of_false p) s f
+      (means_as _ (means_falsity p f)
+      (λ w. meet_false_right p (x w.source) (y w.source) (means_alike r (means_falsity p f) e w)))
+  good-joined only_right (left_true e) =
+      good_give b s f
+      (means_as _ r (λ w. meet_true_left p (x w.source) (y w.source) (means_alike l (means_truth p f) e w)))
+  good-joined only_left (right_true e) =
+      good_give a s f
+      (means_as _ l (λ w. meet_true_right p (x w.source) (y w.source) (means_alike r (means_truth p f) e w)))
+  good-joined own_row neither = good-connected s a b f l r (join_connects p) (join_allowed joins p)
 
   pub good-join : Good allowed n (Means n (λ source. meet p (x source) (y source))) (join p a b s)
   unfolding join
   good-join = good-joined (choice p a b) (folded p a b)
 
 -- a pair: left, right, then the join
-pub good-pair :
+pub good_pair :
     {allowed : FormulaKind → Type 0} (joins : Joins allowed) {n : ℕ} {x y : List ℕ → Bool} (p : Polarity) (l r : Build ℕ) (s : St)
     → Steady r
     → Good allowed n (Means n x) (l s)
     → ((t : St) → Fine allowed n t → Good allowed n (Means n y) (r t))
     → Good allowed n (Means n (λ source. meet p (x source) (y source))) (pair p l r s)
 unfolding pair
-good-pair joins {n} {x} {y} p l r s steady gl gr =
-    good-bind {Q = Means n (λ source. meet p (x source) (y source))} l (λ a. bind r (λ b. join p a b)) s gl
+good_pair joins {n} {x} {y} p l r s steady gl gr =
+    good_bind {Q = Means n (λ source. meet p (x source) (y source))} l (λ a. bind r (λ b. join p a b)) s gl
     (λ f m.
     let t = (l s).st in
-    good-bind {Q = Means n (λ source. meet p (x source) (y source))} r (λ b. join p (l s).value b) t (gr t f)
-    (λ f' m'. good-join joins p (r t).st (l s).value (r t).value f' (means-later f (steady.grow t) m) m'))
+    good_bind {Q = Means n (λ source. meet p (x source) (y source))} r (λ b. join p (l s).value b) t (gr t f)
+    (λ f' m'. good-join joins p (r t).st (l s).value (r t).value f' (means_later f (steady.grow t) m) m'))

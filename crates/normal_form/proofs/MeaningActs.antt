@@ -4,30 +4,30 @@ use mathlib.Core.Path.{◌≡◌, refl, sym, ◌∙◌}
 use mathlib.Core.Bool.{Bool, true, false, ◌&&◌, ◌||◌, or-false}
 use mathlib.Core.List.{List, [], ◌∷◌}
 use Rattle.task.specs.Table.{Row}
-use Rattle.task.specs.Semantics.{holds, Atom, same-atom, Effect, effcond}
-use Rattle.task.specs.Tree.{formula-of}
+use Rattle.task.specs.Semantics.{holds, Atom, same_atom, Effect, effcond}
+use Rattle.task.specs.Tree.{formula_of}
 use Rattle.normal_form.specs.Assembly.{Rule}
 use Rattle.normal_form.proofs.ShapeRule.{conjunct}
-use Rattle.normal_form.proofs.ShapeWritten.{chain-on, chain}
+use Rattle.normal_form.proofs.ShapeWritten.{chain_on, chain}
 
 -- in compiled state c, over a table of formulas: whether a rule of atom l acts
 unfoldable pub acts : List Row → List ℕ → Atom → List Rule → Bool
 acts formulas c l [] = false
-acts formulas c l (r ∷ rs) = (holds c (formula-of formulas r.condition) && same-atom l r.atom) || acts formulas c l rs
+acts formulas c l (r ∷ rs) = (holds c (formula_of formulas r.condition) && same_atom l r.atom) || acts formulas c l rs
 
-pub or-regroup : (x y z : Bool) → ((x || y) || z) ≡ (x || (y || z))
-or-regroup true y z = refl
-or-regroup false y z = refl
+pub or_regroup : (x y z : Bool) → ((x || y) || z) ≡ (x || (y || z))
+or_regroup true y z = refl
+or_regroup false y z = refl
 
 module _ (formulas : List Row) (c : List ℕ) (l : Atom) where
   acts-on :
       (e : Effect) (rs : List Rule)
-      → effcond c l (chain-on formulas e rs) ≡ (effcond c l e || acts formulas c l rs)
-  unfolding chain-on conjunct effcond acts
+      → effcond c l (chain_on formulas e rs) ≡ (effcond c l e || acts formulas c l rs)
+  unfolding chain_on conjunct effcond acts
   acts-on e [] = sym (or-false (effcond c l e))
   acts-on e (r ∷ rs) =
       acts-on _ rs
-      ∙ or-regroup (effcond c l e) (holds c (formula-of formulas r.condition) && same-atom l r.atom)
+      ∙ or_regroup (effcond c l e) (holds c (formula_of formulas r.condition) && same_atom l r.atom)
       (acts formulas c l rs)
 
   pub acts-chain : (rs : List Rule) → effcond c l (chain formulas rs) ≡ acts formulas c l rs

@@ -11,24 +11,24 @@ use borrow.Author.Tests.{eq-eqb, ne_eqb}
 use Rattle.task.specs.Table.{Row, Task, Operator}
 use Rattle.task.specs.Rules.{Checked}
 use Rattle.task.specs.Semantics.{holds, Atom, sets, clears, effcond}
-use Rattle.task.specs.Tree.{formula-of}
-use Rattle.task.specs.Run.{operator-of, effect-of-operator, goal-holds, applicable, charge-of}
+use Rattle.task.specs.Tree.{formula_of}
+use Rattle.task.specs.Run.{operator_of, effect_of_operator, goal_holds, applicable, charge_of}
 use Rattle.task.specs.Corresponding.{Corresponding}
 use Rattle.normal_form.specs.Builder.{plain}
 use Rattle.normal_form.specs.Operators.{Changes}
-use Rattle.normal_form.specs.Assembly.{rules-of, rules as rules-over}
+use Rattle.normal_form.specs.Assembly.{rules_of, rules as rules-over}
 use Rattle.normal_form.specs.Finished.{built, finished}
 use Rattle.normal_form.proofs.Growth.{prefix_refl}
-use Rattle.normal_form.proofs.Meaning.{Seen, means-falsity}
+use Rattle.normal_form.proofs.Meaning.{Seen, means_falsity}
 use Rattle.normal_form.proofs.MeaningCondition.{freed, ChangesMean}
 use Rattle.normal_form.proofs.MeaningParts.{good-parts}
 use Rattle.normal_form.proofs.MeaningActs.{acts, acts-chain}
 use Rattle.normal_form.proofs.MeaningRules.{twinned, acts-sets, acts-clears, acts-none, acts-one, twinned-not, twinned-itself}
-use Rattle.normal_form.proofs.ShapeFinished.{no-changes, no-built, finished-operators, finished-operator, operator-chain}
+use Rattle.normal_form.proofs.ShapeFinished.{no_changes, no_built, finished-operators, finished-operator, operator-chain}
 
 -- the changes of operator o
 abbrev changes : Task → ℕ → List Changes
-changes t o = (get_or (built t).value.operators o no-built).changes
+changes t o = (get_or (built t).value.operators o no_built).changes
 
 -- the source's variables, the new formula rows, the twins and the original of twin j
 abbrev vars : Task → ℕ
@@ -45,10 +45,10 @@ original t j = get_or (twins t) j 0
 
 -- where operator o sets x in a source state, and where it clears x and does not set it
 abbrev pub added : Task → ℕ → ℕ → List ℕ → Bool
-added t o x source = effcond source (sets x) (effect-of-operator t o)
+added t o x source = effcond source (sets x) (effect_of_operator t o)
 
 abbrev pub deleted : Task → ℕ → ℕ → List ℕ → Bool
-deleted t o x source = freed (effect-of-operator t o) x source
+deleted t o x source = freed (effect_of_operator t o) x source
 
 -- an atom that none, one or the other of a variable's two rules has
 neither : (a d p q : Bool) → p ≡ false → q ≡ false → ((a && p) || (d && q)) ≡ false
@@ -57,16 +57,16 @@ neither true false p q e f = rw e
 neither false true p q e f = f
 neither false false p q e f = refl
 
-only-first : (a d p q : Bool) → p ≡ true → q ≡ false → ((a && p) || (d && q)) ≡ a
-only-first true d p q e f = rw e
-only-first false true p q e f = f
-only-first false false p q e f = refl
+only_first : (a d p q : Bool) → p ≡ true → q ≡ false → ((a && p) || (d && q)) ≡ a
+only_first true d p q e f = rw e
+only_first false true p q e f = f
+only_first false false p q e f = refl
 
-only-second : (a d p q : Bool) → p ≡ false → q ≡ true → ((a && p) || (d && q)) ≡ d
-only-second true true p q e f = rw (e, f)
-only-second true false p q e f = rw e
-only-second false true p q e f = f
-only-second false false p q e f = refl
+only_second : (a d p q : Bool) → p ≡ false → q ≡ true → ((a && p) || (d && q)) ≡ d
+only_second true true p q e f = rw (e, f)
+only_second true false p q e f = rw e
+only_second false true p q e f = f
+only_second false false p q e f = refl
 
 module _ (t : Task) (rules : Checked t) (source compiled : List ℕ) (width : length source ≡ vars t)
     (states : Corresponding (finished t).originals source compiled) where
@@ -82,72 +82,72 @@ module _ (t : Task) (rules : Checked t) (source compiled : List ℕ) (width : le
         states = states;
       }
 
-  pub same-goal : goal-holds (finished t) compiled ≡ goal-holds t source
-  unfolding goal-holds finished seen
+  pub same-goal : goal_holds (finished t) compiled ≡ goal_holds t source
+  unfolding goal_holds finished seen
   same-goal = (good-parts t rules).value.goal.value seen
 
   module _ (o : ℕ) (h : o < length t.operators) where
     pub same-applicable : applicable (finished t) compiled o ≡ applicable t source o
-    unfolding applicable operator-of finished seen
+    unfolding applicable operator_of finished seen
     same-applicable =
         ap₂ ◌&&◌ (ap (ltb o) (finished-operators t))
-        (ap (λ (a : ℕ). holds compiled (formula-of (rows t) a)) (finished-operator t o h).precondition
-        ∙ ((good-parts t rules).value.operators.at no-built o h).precondition.value seen)
+        (ap (λ (a : ℕ). holds compiled (formula_of (rows t) a)) (finished-operator t o h).precondition
+        ∙ ((good-parts t rules).value.operators.at no_built o h).precondition.value seen)
 
-    pub same-cost : (operator-of (finished t) o).cost ≡ (operator-of t o).cost
-    unfolding operator-of finished
-    same-cost =
+    pub same_cost : (operator_of (finished t) o).cost ≡ (operator_of t o).cost
+    unfolding operator_of finished
+    same_cost =
         (finished-operator t o h).cost
-        ∙ ap (λ (x : Operator). x.cost) ((good-parts t rules).value.operators.at no-built o h).source
+        ∙ ap (λ (x : Operator). x.cost) ((good-parts t rules).value.operators.at no_built o h).source
 
-    pub same-percent : (operator-of (finished t) o).percent ≡ (operator-of t o).percent
-    unfolding operator-of finished
+    pub same-percent : (operator_of (finished t) o).percent ≡ (operator_of t o).percent
+    unfolding operator_of finished
     same-percent =
         (finished-operator t o h).percent
-        ∙ ap (λ (x : Operator). x.percent) ((good-parts t rules).value.operators.at no-built o h).source
+        ∙ ap (λ (x : Operator). x.percent) ((good-parts t rules).value.operators.at no_built o h).source
 
-    pub same-charge : charge-of (operator-of (finished t) o) ≡ charge-of (operator-of t o)
-    unfolding charge-of
-    same-charge = rw (same-cost, same-percent) refl
+    pub same-charge : charge_of (operator_of (finished t) o) ≡ charge_of (operator_of t o)
+    unfolding charge_of
+    same-charge = rw (same_cost, same-percent) refl
 
     -- where an atom acts: at one source variable y, or nowhere
-    acts-there : (l : Atom) → effcond compiled l (effect-of-operator (finished t) o)
+    acts-there : (l : Atom) → effcond compiled l (effect_of_operator (finished t) o)
         ≡ acts (rows t) compiled l
         (rules-over (vars t) (twins t)
         (changes t o))
-    unfolding effect-of-operator operator-of finished
+    unfolding effect_of_operator operator_of finished
     acts-there l =
         ap (effcond compiled l) (operator-chain t o h)
         ∙ acts-chain (rows t) compiled l (rules-over (vars t) (twins t) (changes t o))
 
-    zeroth : holds compiled (formula-of (rows t) 0) ≡ false
+    zeroth : holds compiled (formula_of (rows t) 0) ≡ false
     unfolding seen
-    zeroth = (means-falsity plain (good-parts t rules).fine).value seen
+    zeroth = (means_falsity plain (good-parts t rules).fine).value seen
 
     changes-mean :
         (k : ℕ)
         → k < vars t
-        → ChangesMean (vars t) (effect-of-operator t o) k (built t).st
-        (get_or (changes t o) k no-changes)
-    changes-mean k b = ((good-parts t rules).value.operators.at no-built o h).changes.at no-changes k b
+        → ChangesMean (vars t) (effect_of_operator t o) k (built t).st
+        (get_or (changes t o) k no_changes)
+    changes-mean k b = ((good-parts t rules).value.operators.at no_built o h).changes.at no_changes k b
 
     changes-counted : length (changes t o) ≡ vars t
-    changes-counted = ((good-parts t rules).value.operators.at no-built o h).changes.count
+    changes-counted = ((good-parts t rules).value.operators.at no_built o h).changes.count
 
     -- the rules of source variable k that set x, and that clear x
     sets-at :
         (x k : ℕ)
         → k < vars t
         → acts (rows t) compiled (sets x)
-        (rules-of (vars t) (twins t)
-        (get_or (changes t o) k no-changes))
+        (rules_of (vars t) (twins t)
+        (get_or (changes t o) k no_changes))
         ≡ ((added t o k source && eqb x k)
         || (deleted t o k source && twinned (vars t) (twins t) x k))
     unfolding seen
     sets-at x k b =
         let m = changes-mean k b in
         acts-sets (rows t) compiled zeroth (vars t) (twins t)
-        (get_or (changes t o) k no-changes) x
+        (get_or (changes t o) k no_changes) x
         ∙ ap₂ ◌||◌ (ap₂ ◌&&◌ (m.adds.value seen) (ap (eqb x) m.variable))
         (ap₂ ◌&&◌ (m.deletes.value seen) (ap (twinned (vars t) (twins t) x) m.variable))
 
@@ -155,15 +155,15 @@ module _ (t : Task) (rules : Checked t) (source compiled : List ℕ) (width : le
         (x k : ℕ)
         → k < vars t
         → acts (rows t) compiled (clears x)
-        (rules-of (vars t) (twins t)
-        (get_or (changes t o) k no-changes))
+        (rules_of (vars t) (twins t)
+        (get_or (changes t o) k no_changes))
         ≡ ((added t o k source && twinned (vars t) (twins t) x k)
         || (deleted t o k source && eqb x k))
     unfolding seen
     clears-at x k b =
         let m = changes-mean k b in
         acts-clears (rows t) compiled zeroth (vars t) (twins t)
-        (get_or (changes t o) k no-changes) x
+        (get_or (changes t o) k no_changes) x
         ∙ ap₂ ◌||◌
         (ap₂ ◌&&◌ (m.adds.value seen) (ap (twinned (vars t) (twins t) x) m.variable))
         (ap₂ ◌&&◌ (m.deletes.value seen) (ap (eqb x) m.variable))
@@ -174,12 +174,12 @@ module _ (t : Task) (rules : Checked t) (source compiled : List ℕ) (width : le
         → y < vars t
         → ((k : ℕ) → k < vars t → (k ≡ y → ⊥) → eqb x k ≡ false)
         → ((k : ℕ) → k < vars t → (k ≡ y → ⊥) → twinned (vars t) (twins t) x k ≡ false)
-        → effcond compiled (sets x) (effect-of-operator (finished t) o)
+        → effcond compiled (sets x) (effect_of_operator (finished t) o)
         ≡ ((added t o y source && eqb x y)
         || (deleted t o y source && twinned (vars t) (twins t) x y))
     sets-one x y b off-same off-twin =
         acts-there (sets x)
-        ∙ acts-one (rows t) compiled zeroth (vars t) (twins t) (sets x) no-changes
+        ∙ acts-one (rows t) compiled zeroth (vars t) (twins t) (sets x) no_changes
         (changes t o) y (omega (arith, changes-counted))
         (λ k l ne.
         let l' : k < vars t = omega (arith, changes-counted) in
@@ -191,12 +191,12 @@ module _ (t : Task) (rules : Checked t) (source compiled : List ℕ) (width : le
         → y < vars t
         → ((k : ℕ) → k < vars t → (k ≡ y → ⊥) → eqb x k ≡ false)
         → ((k : ℕ) → k < vars t → (k ≡ y → ⊥) → twinned (vars t) (twins t) x k ≡ false)
-        → effcond compiled (clears x) (effect-of-operator (finished t) o)
+        → effcond compiled (clears x) (effect_of_operator (finished t) o)
         ≡ ((added t o y source && twinned (vars t) (twins t) x y)
         || (deleted t o y source && eqb x y))
     clears-one x y b off-same off-twin =
         acts-there (clears x)
-        ∙ acts-one (rows t) compiled zeroth (vars t) (twins t) (clears x) no-changes
+        ∙ acts-one (rows t) compiled zeroth (vars t) (twins t) (clears x) no_changes
         (changes t o) y (omega (arith, changes-counted))
         (λ k l ne.
         let l' : k < vars t = omega (arith, changes-counted) in
@@ -206,11 +206,11 @@ module _ (t : Task) (rules : Checked t) (source compiled : List ℕ) (width : le
     pub sets-none :
         (x : ℕ)
         → vars t + length (finished t).originals ≤ x
-        → effcond compiled (sets x) (effect-of-operator (finished t) o) ≡ false
+        → effcond compiled (sets x) (effect_of_operator (finished t) o) ≡ false
     unfolding finished
     sets-none x b =
         acts-there (sets x)
-        ∙ acts-none (rows t) compiled zeroth (vars t) (twins t) (sets x) no-changes
+        ∙ acts-none (rows t) compiled zeroth (vars t) (twins t) (sets x) no_changes
         (changes t o)
         (λ k l.
         let l' : k < vars t = omega (arith, changes-counted) in
@@ -220,28 +220,28 @@ module _ (t : Task) (rules : Checked t) (source compiled : List ℕ) (width : le
 
     -- a source variable
     module _ (x : ℕ) (b : x < vars t) where
-      no-twin : (k : ℕ) → twinned (vars t) (twins t) x k ≡ false
-      no-twin k = twinned-not (vars t) (twins t) x k (λ j m e f. omega arith)
+      no_twin : (k : ℕ) → twinned (vars t) (twins t) x k ≡ false
+      no_twin k = twinned-not (vars t) (twins t) x k (λ j m e f. omega arith)
 
       pub sets-original :
-          effcond compiled (sets x) (effect-of-operator (finished t) o) ≡ added t o x source
+          effcond compiled (sets x) (effect_of_operator (finished t) o) ≡ added t o x source
       sets-original =
-          sets-one x x b (λ k l ne. ne_eqb x k (λ e. ne (sym e))) (λ k l ne. no-twin k)
-          ∙ only-first (added t o x source) (deleted t o x source) _ _ (eq-eqb x x refl) (no-twin x)
+          sets-one x x b (λ k l ne. ne_eqb x k (λ e. ne (sym e))) (λ k l ne. no_twin k)
+          ∙ only_first (added t o x source) (deleted t o x source) _ _ (eq-eqb x x refl) (no_twin x)
 
       pub clears-original :
-          effcond compiled (clears x) (effect-of-operator (finished t) o) ≡ deleted t o x source
+          effcond compiled (clears x) (effect_of_operator (finished t) o) ≡ deleted t o x source
       clears-original =
-          clears-one x x b (λ k l ne. ne_eqb x k (λ e. ne (sym e))) (λ k l ne. no-twin k)
-          ∙ only-second (added t o x source) (deleted t o x source) _ _ (no-twin x) (eq-eqb x x refl)
+          clears-one x x b (λ k l ne. ne_eqb x k (λ e. ne (sym e))) (λ k l ne. no_twin k)
+          ∙ only_second (added t o x source) (deleted t o x source) _ _ (no_twin x) (eq-eqb x x refl)
 
     -- the twin of place j, and its original
     module _ (j : ℕ) (b : j < length (twins t)) where
       below : original t j < vars t
-      below = (good-parts t rules).fine.twin-below j b
+      below = (good-parts t rules).fine.twin_below j b
 
       itself : twinned (vars t) (twins t) (vars t + j) (original t j) ≡ true
-      itself = twinned-itself (vars t) (twins t) (good-parts t rules).fine.twin-once j b
+      itself = twinned-itself (vars t) (twins t) (good-parts t rules).fine.twin_once j b
 
       not-source : (k : ℕ) → k < vars t → eqb (vars t + j) k ≡ false
       not-source k l = ne_eqb (vars t + j) k (λ e. omega arith)
@@ -257,17 +257,17 @@ module _ (t : Task) (rules : Checked t) (source compiled : List ℕ) (width : le
           ne (sym f ∙ ap (λ (y : ℕ). get_or (twins t) y 0) s))
 
       pub sets-twin :
-          effcond compiled (sets (vars t + j)) (effect-of-operator (finished t) o)
+          effcond compiled (sets (vars t + j)) (effect_of_operator (finished t) o)
           ≡ deleted t o (original t j) source
       sets-twin =
           sets-one (vars t + j) (original t j) below (λ k l ne. not-source k l)
           (λ k l ne. no_other k ne)
-          ∙ only-second (added t o (original t j) source) (deleted t o (original t j) source) _ _ (not-source (original t j) below) itself
+          ∙ only_second (added t o (original t j) source) (deleted t o (original t j) source) _ _ (not-source (original t j) below) itself
 
       pub clears-twin :
-          effcond compiled (clears (vars t + j)) (effect-of-operator (finished t) o)
+          effcond compiled (clears (vars t + j)) (effect_of_operator (finished t) o)
           ≡ added t o (original t j) source
       clears-twin =
           clears-one (vars t + j) (original t j) below (λ k l ne. not-source k l)
           (λ k l ne. no_other k ne)
-          ∙ only-first (added t o (original t j) source) (deleted t o (original t j) source) _ _ itself (not-source (original t j) below)
+          ∙ only_first (added t o (original t j) source) (deleted t o (original t j) source) _ _ itself (not-source (original t j) below)

@@ -7,16 +7,16 @@ use mathlib.Core.List.{List}
 use lib.ListN.{length, get_or}
 use lib.Dec.{eqb}
 use borrow.Author.Tests.{eqb-true}
-use Rattle.task.specs.Table.{Row, FormulaKind, formula-kind}
+use Rattle.task.specs.Table.{Row, FormulaKind, formula_kind}
 use Rattle.task.specs.Semantics.{Formula, falsum, verum, variable, negation, conjunction, disjunction, implication, equivalence, holds}
-use Rattle.task.specs.Tree.{formula-node}
-use Rattle.normal_form.specs.Builder.{St, Got, bind, place, twin, variable-row, twin-row, Polarity, plain, negated, opposite, image-of-false, image-of-true, pair}
+use Rattle.task.specs.Tree.{formula_node}
+use Rattle.normal_form.specs.Builder.{St, Got, bind, place, twin, variable_row, twin_row, Polarity, plain, negated, opposite, image_of_false, image_of_true, pair}
 use Rattle.normal_form.specs.Image.{literal, image}
-use Rattle.normal_form.proofs.Growth.{steady-row, steady-pair}
-use Rattle.normal_form.proofs.Steady.{steady-image}
+use Rattle.normal_form.proofs.Growth.{steady_row, steady_pair}
+use Rattle.normal_form.proofs.Steady.{steady_image}
 use Rattle.normal_form.proofs.Place.{place-below, place-has}
-use Rattle.normal_form.proofs.Fine.{Joins, Fine, fine-twin}
-use Rattle.normal_form.proofs.Meaning.{Seen, seen-before, Means, Good, longer, prefix-at, means-as, means-falsity, means-truth, good-give, good-row, good-pair, sense, meet}
+use Rattle.normal_form.proofs.Fine.{Joins, Fine, fine_twin}
+use Rattle.normal_form.proofs.Meaning.{Seen, seen_before, Means, Good, longer, prefix-at, means_as, means_falsity, means_truth, good_give, good_row, good_pair, sense, meet}
 
 -- a formula over n variables
 abbrev pub Over : ℕ → Formula → Type 0
@@ -29,80 +29,80 @@ Over n (disjunction f g) = Over n f × Over n g
 Over n (implication f g) = Over n f × Over n g
 Over n (equivalence f g) = Over n f × Over n g
 
-pub good-as :
+pub good_as :
     {allowed : FormulaKind → Type 0} {n : ℕ} {b : List ℕ → Bool} {g : Got ℕ} (c : List ℕ → Bool)
     → Good allowed n (Means n b) g
     → ((source : List ℕ) → b source ≡ c source)
     → Good allowed n (Means n c) g
-good-as c good e = record { fine = good.fine; value = means-as c good.value (λ w. e w.source) }
+good_as c good e = record { fine = good.fine; value = means_as c good.value (λ w. e w.source) }
 
 -- De Morgan
-pub sense-not : (p : Polarity) (x : Bool) → sense (opposite p) x ≡ sense p (not x)
-sense-not plain x = refl
-sense-not negated true = refl
-sense-not negated false = refl
+pub sense_not : (p : Polarity) (x : Bool) → sense (opposite p) x ≡ sense p (not x)
+sense_not plain x = refl
+sense_not negated true = refl
+sense_not negated false = refl
 
-pub sense-and : (p : Polarity) (x y : Bool) → meet p (sense p x) (sense p y) ≡ sense p (x && y)
-sense-and plain x y = refl
-sense-and negated true y = refl
-sense-and negated false y = refl
+pub sense_and : (p : Polarity) (x y : Bool) → meet p (sense p x) (sense p y) ≡ sense p (x && y)
+sense_and plain x y = refl
+sense_and negated true y = refl
+sense_and negated false y = refl
 
-pub sense-or : (p : Polarity) (x y : Bool) → meet (opposite p) (sense p x) (sense p y) ≡ sense p (x || y)
-sense-or plain x y = refl
-sense-or negated true y = refl
-sense-or negated false y = refl
+pub sense_or : (p : Polarity) (x y : Bool) → meet (opposite p) (sense p x) (sense p y) ≡ sense p (x || y)
+sense_or plain x y = refl
+sense_or negated true y = refl
+sense_or negated false y = refl
 
-sense-implies : (p : Polarity) (x y : Bool) → meet (opposite p) (sense (opposite p) x) (sense p y) ≡ sense p (not x || y)
-sense-implies plain x y = refl
-sense-implies negated true y = refl
-sense-implies negated false y = refl
+sense_implies : (p : Polarity) (x y : Bool) → meet (opposite p) (sense (opposite p) x) (sense p y) ≡ sense p (not x || y)
+sense_implies plain x y = refl
+sense_implies negated true y = refl
+sense_implies negated false y = refl
 
-sense-equivalent :
+sense_equivalent :
     (p : Polarity) (x y : Bool)
     → meet negated (meet plain (sense plain x) (sense p y)) (meet plain (sense negated x) (sense (opposite p) y))
     ≡ sense p (beq x y)
-sense-equivalent plain true true = refl
-sense-equivalent plain true false = refl
-sense-equivalent plain false true = refl
-sense-equivalent plain false false = refl
-sense-equivalent negated true true = refl
-sense-equivalent negated true false = refl
-sense-equivalent negated false true = refl
-sense-equivalent negated false false = refl
+sense_equivalent plain true true = refl
+sense_equivalent plain true false = refl
+sense_equivalent plain false true = refl
+sense_equivalent plain false false = refl
+sense_equivalent negated true true = refl
+sense_equivalent negated true false = refl
+sense_equivalent negated false true = refl
+sense_equivalent negated false false = refl
 
 -- a row for variable v, whose value in the compiled state is known
-pub good-variable :
+pub good_variable :
     {allowed : FormulaKind → Type 0} (joins : Joins allowed) {n : ℕ} {b : List ℕ → Bool} (s : St) (v : ℕ)
     → Fine allowed n s
     → v < n + length s.twins
     → ((w : Seen n s) → eqb (get_or w.compiled v 0) 1 ≡ b w.source)
-    → Good allowed n (Means n b) (variable-row v s)
-unfolding variable-row formula-kind formula-node holds
-good-variable joins s v f h e =
+    → Good allowed n (Means n b) (variable_row v s)
+unfolding variable_row formula_kind formula_node holds
+good_variable joins s v f h e =
     let q : Row = record { kind = 2; a = v; b = 0 } in
-    good-row q s f (h, refl) joins.variables (λ w. e (seen-before ((steady-row q).grow s) w))
+    good_row q s f (h, refl) joins.variables (λ w. e (seen_before ((steady_row q).grow s) w))
 
 -- a source variable's own row
-pub good-original :
+pub good_original :
     {allowed : FormulaKind → Type 0} (joins : Joins allowed) {n : ℕ} (s : St) (v : ℕ)
     → Fine allowed n s
     → v < n
-    → Good allowed n (Means n (λ source. eqb (get_or source v 0) 1)) (variable-row v s)
-good-original joins s v f h =
-    good-variable joins s v f (omega arith) (λ w. ap (λ (x : ℕ). eqb x 1) (w.states.same v (omega (arith, w.width))))
+    → Good allowed n (Means n (λ source. eqb (get_or source v 0) 1)) (variable_row v s)
+good_original joins s v f h =
+    good_variable joins s v f (omega arith) (λ w. ap (λ (x : ℕ). eqb x 1) (w.states.same v (omega (arith, w.width))))
 
 flipped : (b : ℕ) → b ≤ 1 → eqb (1 - b) 1 ≡ not (eqb b 1)
 flipped zero h = refl
 flipped (suc zero) h = refl
 flipped (suc (suc b)) h = absurd (omega arith)
 
-good-twin :
-    {allowed : FormulaKind → Type 0} (joins : Joins allowed) {n : ℕ} (s : St) (v : ℕ) → Fine allowed n s → v < n → Good allowed n (Means n (λ source. not (eqb (get_or source v 0) 1))) (twin-row n v s)
-unfolding twin-row bind twin
-good-twin joins {n} s v f h =
+good_twin :
+    {allowed : FormulaKind → Type 0} (joins : Joins allowed) {n : ℕ} (s : St) (v : ℕ) → Fine allowed n s → v < n → Good allowed n (Means n (λ source. not (eqb (get_or source v 0) 1))) (twin_row n v s)
+unfolding twin_row bind twin
+good_twin joins {n} s v f h =
     let u = (twin v s).st in
     let k = place eqb v s.twins in
-    good-variable joins u (n + k) (fine-twin n s v f h) (omega (arith, place-below eqb v s.twins))
+    good_variable joins u (n + k) (fine_twin n s v f h) (omega (arith, place-below eqb v s.twins))
     (λ w.
     let b : k < length u.twins = place-below eqb v s.twins in
     let at : get_or w.final k 0 ≡ v =
@@ -113,49 +113,49 @@ good-twin joins {n} s v f h =
     in
     rw value (flipped (get_or w.source v 0) (w.states.bits v (omega (arith, w.width)))))
 
-pub good-literal :
+pub good_literal :
     {allowed : FormulaKind → Type 0} (joins : Joins allowed) {n : ℕ} (p : Polarity) (s : St) (v : ℕ)
     → Fine allowed n s
     → v < n
     → Good allowed n (Means n (λ source. sense p (eqb (get_or source v 0) 1))) (literal n p v s)
 unfolding literal
-good-literal joins plain s v f h = good-original joins s v f h
-good-literal joins negated s v f h = good-twin joins s v f h
+good_literal joins plain s v f h = good_original joins s v f h
+good_literal joins negated s v f h = good_twin joins s v f h
 
-pub good-image :
+pub good_image :
     {allowed : FormulaKind → Type 0} (joins : Joins allowed) {n : ℕ} (p : Polarity) (f : Formula) (s : St)
     → Over n f
     → Fine allowed n s
     → Good allowed n (Means n (λ source. sense p (holds source f))) (image n p f s)
 unfolding image holds
-good-image joins p falsum s o fine = good-give (image-of-false p) s fine (means-falsity p fine)
-good-image joins p verum s o fine = good-give (image-of-true p) s fine (means-truth p fine)
-good-image joins p (variable v) s o fine = good-literal joins p s v fine o
-good-image joins {n} p (negation f) s o fine =
-    good-as (λ source. sense p (not (holds source f))) (good-image joins (opposite p) f s o fine)
-    (λ source. sense-not p (holds source f))
-good-image joins {n} p (conjunction f g) s o fine =
-    good-as (λ source. sense p (holds source f && holds source g))
-    (good-pair joins p (image n p f) (image n p g) s (steady-image n p g) (good-image joins p f s o.0 fine)
-    (λ t m. good-image joins p g t o.1 m))
-    (λ source. sense-and p (holds source f) (holds source g))
-good-image joins {n} p (disjunction f g) s o fine =
-    good-as (λ source. sense p (holds source f || holds source g))
-    (good-pair joins (opposite p) (image n p f) (image n p g) s (steady-image n p g) (good-image joins p f s o.0 fine)
-    (λ t m. good-image joins p g t o.1 m))
-    (λ source. sense-or p (holds source f) (holds source g))
-good-image joins {n} p (implication f g) s o fine =
-    good-as (λ source. sense p (not (holds source f) || holds source g))
-    (good-pair joins (opposite p) (image n (opposite p) f) (image n p g) s (steady-image n p g)
-    (good-image joins (opposite p) f s o.0 fine) (λ t m. good-image joins p g t o.1 m))
-    (λ source. sense-implies p (holds source f) (holds source g))
-good-image joins {n} p (equivalence f g) s o fine =
-    good-as (λ source. sense p (beq (holds source f) (holds source g)))
-    (good-pair joins negated (pair plain (image n plain f) (image n p g)) (pair plain (image n negated f) (image n (opposite p) g)) s
-    (steady-pair plain (steady-image n negated f) (steady-image n (opposite p) g))
-    (good-pair joins plain (image n plain f) (image n p g) s (steady-image n p g) (good-image joins plain f s o.0 fine)
-    (λ t m. good-image joins p g t o.1 m))
+good_image joins p falsum s o fine = good_give (image_of_false p) s fine (means_falsity p fine)
+good_image joins p verum s o fine = good_give (image_of_true p) s fine (means_truth p fine)
+good_image joins p (variable v) s o fine = good_literal joins p s v fine o
+good_image joins {n} p (negation f) s o fine =
+    good_as (λ source. sense p (not (holds source f))) (good_image joins (opposite p) f s o fine)
+    (λ source. sense_not p (holds source f))
+good_image joins {n} p (conjunction f g) s o fine =
+    good_as (λ source. sense p (holds source f && holds source g))
+    (good_pair joins p (image n p f) (image n p g) s (steady_image n p g) (good_image joins p f s o.0 fine)
+    (λ t m. good_image joins p g t o.1 m))
+    (λ source. sense_and p (holds source f) (holds source g))
+good_image joins {n} p (disjunction f g) s o fine =
+    good_as (λ source. sense p (holds source f || holds source g))
+    (good_pair joins (opposite p) (image n p f) (image n p g) s (steady_image n p g) (good_image joins p f s o.0 fine)
+    (λ t m. good_image joins p g t o.1 m))
+    (λ source. sense_or p (holds source f) (holds source g))
+good_image joins {n} p (implication f g) s o fine =
+    good_as (λ source. sense p (not (holds source f) || holds source g))
+    (good_pair joins (opposite p) (image n (opposite p) f) (image n p g) s (steady_image n p g)
+    (good_image joins (opposite p) f s o.0 fine) (λ t m. good_image joins p g t o.1 m))
+    (λ source. sense_implies p (holds source f) (holds source g))
+good_image joins {n} p (equivalence f g) s o fine =
+    good_as (λ source. sense p (beq (holds source f) (holds source g)))
+    (good_pair joins negated (pair plain (image n plain f) (image n p g)) (pair plain (image n negated f) (image n (opposite p) g)) s
+    (steady_pair plain (steady_image n negated f) (steady_image n (opposite p) g))
+    (good_pair joins plain (image n plain f) (image n p g) s (steady_image n p g) (good_image joins plain f s o.0 fine)
+    (λ t m. good_image joins p g t o.1 m))
     (λ t m.
-    good-pair joins plain (image n negated f) (image n (opposite p) g) t (steady-image n (opposite p) g)
-    (good-image joins negated f t o.0 m) (λ u k. good-image joins (opposite p) g u o.1 k)))
-    (λ source. sense-equivalent p (holds source f) (holds source g))
+    good_pair joins plain (image n negated f) (image n (opposite p) g) t (steady_image n (opposite p) g)
+    (good_image joins negated f t o.0 m) (λ u k. good_image joins (opposite p) g u o.1 k)))
+    (λ source. sense_equivalent p (holds source f) (holds source g))

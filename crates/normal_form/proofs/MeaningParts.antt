@@ -6,82 +6,82 @@ use native.Mathlib.Numerals.{add-one}
 use mathlib.Core.Path.{◌≡◌, refl, ◌∙◌}
 use mathlib.Core.List.{List, [], ◌∷◌, ◌++◌}
 use lib.ListN.{length, get_or, length-append}
-use Rattle.task.specs.Table.{Row, Task, FormulaKind, false-kind, true-kind, variable-kind, not-kind, and-kind, or-kind, implies-kind, equivalent-kind, unknown-formula, formula-kind, EffectKind, empty-kind, set-kind, clear-kind, both-kind, under-kind, unknown-effect, effect-kind}
+use Rattle.task.specs.Table.{Row, Task, FormulaKind, false_kind, true_kind, variable_kind, not_kind, and_kind, or_kind, implies_kind, equivalent_kind, unknown_formula, formula_kind, EffectKind, empty_kind, set_kind, clear_kind, both_kind, under_kind, unknown_effect, effect_kind}
 use Rattle.task.specs.Rules.{no_row, FormulaRule, EffectRule, Checked}
 use Rattle.task.specs.Semantics.{Formula, holds, Effect}
-use Rattle.task.specs.Tree.{formula-node, formula-within, formula-of, effect-node, effect-within, effect_of}
-use Rattle.task.specs.Run.{operator-of, effect-of-operator}
-use Rattle.task.proofs.Trees.{rules-formulas, rules-effects}
+use Rattle.task.specs.Tree.{formula_node, formula_within, formula_of, effect_node, effect_within, effect_of}
+use Rattle.task.specs.Run.{operator_of, effect_of_operator}
+use Rattle.task.proofs.Trees.{rules_formulas, rules_effects}
 use Rattle.task.specs.Inner.Rows.{FormulasDown, EffectsDown}
 use Rattle.normal_form.specs.Builder.{St, Build, give, bind, each, start, plain}
 use Rattle.normal_form.specs.Growth.{Grows, Steady}
 use Rattle.normal_form.specs.Image.{image}
-use Rattle.normal_form.specs.Operators.{Changes, Built, Parts, changes-of, built-operator, parts}
+use Rattle.normal_form.specs.Operators.{Changes, Built, Parts, changes_of, built_operator, parts}
 use Rattle.normal_form.specs.Finished.{built}
-use Rattle.normal_form.proofs.Growth.{steady-each}
-use Rattle.normal_form.proofs.Steady.{steady-image, steady-changes, steady-operator}
+use Rattle.normal_form.proofs.Growth.{steady_each}
+use Rattle.normal_form.proofs.Steady.{steady_image, steady-changes, steady_operator}
 use Rattle.normal_form.proofs.Place.{one_more}
-use Rattle.normal_form.proofs.Fine.{PositiveKind, positive-joins, Fine, fine-start}
-use Rattle.normal_form.proofs.Meaning.{Means, Good, means-later}
-use Rattle.normal_form.proofs.MeaningImage.{Over, good-image}
+use Rattle.normal_form.proofs.Fine.{PositiveKind, positive_joins, Fine, fine_start}
+use Rattle.normal_form.proofs.Meaning.{Means, Good, means_later}
+use Rattle.normal_form.proofs.MeaningImage.{Over, good_image}
 use Rattle.normal_form.proofs.MeaningCondition.{EffectOver, ChangesMean, good-changes}
 
 -- The source's formulas and effects are over its variables.
-over-node :
+over_node :
     (n i : ℕ) (k : FormulaKind) (a b : ℕ) (p q : Formula)
     → FormulaRule n i k a b
     → (a < i → Over n p)
     → (b < i → Over n q)
-    → Over n (formula-node k a p q)
-unfolding formula-node
-over-node n i false-kind a b p q r f g = tt
-over-node n i true-kind a b p q r f g = tt
-over-node n i variable-kind a b p q r f g = r.0
-over-node n i not-kind a b p q r f g = f r.0
-over-node n i and-kind a b p q r f g = (f r.0, g r.1)
-over-node n i or-kind a b p q r f g = (f r.0, g r.1)
-over-node n i implies-kind a b p q r f g = (f r.0, g r.1)
-over-node n i equivalent-kind a b p q r f g = (f r.0, g r.1)
-over-node n i unknown-formula a b p q r f g = tt
+    → Over n (formula_node k a p q)
+unfolding formula_node
+over_node n i false_kind a b p q r f g = tt
+over_node n i true_kind a b p q r f g = tt
+over_node n i variable_kind a b p q r f g = r.0
+over_node n i not_kind a b p q r f g = f r.0
+over_node n i and_kind a b p q r f g = (f r.0, g r.1)
+over_node n i or_kind a b p q r f g = (f r.0, g r.1)
+over_node n i implies_kind a b p q r f g = (f r.0, g r.1)
+over_node n i equivalent_kind a b p q r f g = (f r.0, g r.1)
+over_node n i unknown_formula a b p q r f g = tt
 
-over-within :
-    (n : ℕ) (rows : List Row) → FormulasDown n rows → (d i : ℕ) → i < length rows → Over n (formula-within d rows i)
-unfolding formula-within
-over-within n rows down zero i h = tt
-over-within n rows down (suc d) i h =
+over_within :
+    (n : ℕ) (rows : List Row) → FormulasDown n rows → (d i : ℕ) → i < length rows → Over n (formula_within d rows i)
+unfolding formula_within
+over_within n rows down zero i h = tt
+over_within n rows down (suc d) i h =
     let r = get_or rows i no_row in
-    over-node n i (formula-kind r.kind) r.a r.b (formula-within d rows r.a) (formula-within d rows r.b)
-    (down.row i h) (λ l. over-within n rows down d r.a (omega arith))
-    (λ l. over-within n rows down d r.b (omega arith))
+    over_node n i (formula_kind r.kind) r.a r.b (formula_within d rows r.a) (formula_within d rows r.b)
+    (down.row i h) (λ l. over_within n rows down d r.a (omega arith))
+    (λ l. over_within n rows down d r.b (omega arith))
 
-pub over-formula : (n : ℕ) (rows : List Row) → FormulasDown n rows → (i : ℕ) → i < length rows → Over n (formula-of rows i)
-unfolding formula-of
-over-formula n rows down i h = over-within n rows down (suc i) i h
+pub over_formula : (n : ℕ) (rows : List Row) → FormulasDown n rows → (i : ℕ) → i < length rows → Over n (formula_of rows i)
+unfolding formula_of
+over_formula n rows down i h = over_within n rows down (suc i) i h
 
-over-effect-node :
+over_effect_node :
     (n v f i : ℕ) (k : EffectKind) (a b : ℕ) (p : Formula) (d e : Effect)
     → EffectRule v f i k a b
     → (a < f → Over n p)
     → (a < i → EffectOver n d)
     → (b < i → EffectOver n e)
-    → EffectOver n (effect-node k a p d e)
-unfolding effect-node
-over-effect-node n v f i empty-kind a b p d e r o l m = tt
-over-effect-node n v f i set-kind a b p d e r o l m = tt
-over-effect-node n v f i clear-kind a b p d e r o l m = tt
-over-effect-node n v f i both-kind a b p d e r o l m = (l r.0, m r.1)
-over-effect-node n v f i under-kind a b p d e r o l m = (o r.0, m r.1)
-over-effect-node n v f i unknown-effect a b p d e r o l m = tt
+    → EffectOver n (effect_node k a p d e)
+unfolding effect_node
+over_effect_node n v f i empty_kind a b p d e r o l m = tt
+over_effect_node n v f i set_kind a b p d e r o l m = tt
+over_effect_node n v f i clear_kind a b p d e r o l m = tt
+over_effect_node n v f i both_kind a b p d e r o l m = (l r.0, m r.1)
+over_effect_node n v f i under_kind a b p d e r o l m = (o r.0, m r.1)
+over_effect_node n v f i unknown_effect a b p d e r o l m = tt
 
 module _ (n v : ℕ) (formulas effects : List Row) (fd : FormulasDown n formulas) (ed : EffectsDown v (length formulas) effects) where
-  over-effect-within : (d i : ℕ) → i < length effects → EffectOver n (effect-within d formulas effects i)
-  unfolding effect-within
+  over-effect-within : (d i : ℕ) → i < length effects → EffectOver n (effect_within d formulas effects i)
+  unfolding effect_within
   over-effect-within zero i h = tt
   over-effect-within (suc d) i h =
       let r = get_or effects i no_row in
-      over-effect-node n v (length formulas) i (effect-kind r.kind) r.a r.b (formula-of formulas r.a)
-      (effect-within d formulas effects r.a) (effect-within d formulas effects r.b) (ed.row i h)
-      (λ l. over-formula n formulas fd r.a l) (λ l. over-effect-within d r.a (omega arith))
+      over_effect_node n v (length formulas) i (effect_kind r.kind) r.a r.b (formula_of formulas r.a)
+      (effect_within d formulas effects r.a) (effect_within d formulas effects r.b) (ed.row i h)
+      (λ l. over_formula n formulas fd r.a l) (λ l. over-effect-within d r.a (omega arith))
       (λ l. over-effect-within d r.b (omega arith))
 
   pub over-effect : (i : ℕ) → i < length effects → EffectOver n (effect_of formulas effects i)
@@ -105,7 +105,7 @@ each_more P m l x e p =
     }
 
 -- f 0, f 1 .. f (m - 1), each in a state that is grown from the first
-pub good-each :
+pub good_each :
     {allowed : FormulaKind → Type 0} {A : Type 0} {n : ℕ} (P : ℕ → St → A → Type 0) (f : ℕ → Build A)
     → ((k : ℕ) (s t : St) (x : A) → Fine allowed n s → Grows s t → P k s x → P k t x)
     → ((k : ℕ) → Steady (f k))
@@ -114,12 +114,12 @@ pub good-each :
     → Fine allowed n s
     → Good allowed n (λ u. Each (λ k. P k u) m) (each m f s)
 unfolding each bind give
-good-each P f later steady zero s h fine =
+good_each P f later steady zero s h fine =
     record { fine = fine; value = record { count = refl; at = λ d k b. absurd (not-suc-le-zero b) } }
-good-each P f later steady (suc m) s h fine =
-    let g = good-each P f later steady m s (λ k b. h k (omega arith)) fine in
+good_each P f later steady (suc m) s h fine =
+    let g = good_each P f later steady m s (λ k b. h k (omega arith)) fine in
     let t = (each m f s).st in
-    let last = h m (omega arith) t ((steady-each m steady).grow s) g.fine in
+    let last = h m (omega arith) t ((steady_each m steady).grow s) g.fine in
     let u = (f m t).st in
     record {
       fine = last.fine;
@@ -132,39 +132,39 @@ good-each P f later steady (suc m) s h fine =
           last.value;
     }
 
-pub changes-later :
+pub changes_later :
     {allowed : FormulaKind → Type 0} {n : ℕ} (e : Effect) (v : ℕ) (s t : St) (c : Changes)
     → Fine allowed n s
     → Grows s t
     → ChangesMean n e v s c
     → ChangesMean n e v t c
-changes-later e v s t c f g m =
-    record { variable = m.variable; adds = means-later f g m.adds; deletes = means-later f g m.deletes }
+changes_later e v s t c f g m =
+    record { variable = m.variable; adds = means_later f g m.adds; deletes = means_later f g m.deletes }
 
 -- What is built of operator o: its precondition, the changes of every source variable, and the operator itself.
 pub record BuiltMeans (t : Task) (o : ℕ) (s : St) (b : Built) : Type 0 where
   pub precondition :
-      Means (length t.initial) (λ source. holds source (formula-of t.formulas (operator-of t o).precondition)) s
+      Means (length t.initial) (λ source. holds source (formula_of t.formulas (operator_of t o).precondition)) s
       b.precondition
   pub changes :
-      Each (λ v. ChangesMean (length t.initial) (effect-of-operator t o) v s) (length t.initial) b.changes
-  pub source : b.source ≡ operator-of t o
+      Each (λ v. ChangesMean (length t.initial) (effect_of_operator t o) v s) (length t.initial) b.changes
+  pub source : b.source ≡ operator_of t o
 
-built-later :
+built_later :
     (t : Task) (o : ℕ) (s u : St) (b : Built)
     → Fine PositiveKind (length t.initial) s
     → Grows s u
     → BuiltMeans t o s b
     → BuiltMeans t o u b
-built-later t o s u b f g m =
+built_later t o s u b f g m =
     record {
-      precondition = means-later f g m.precondition;
+      precondition = means_later f g m.precondition;
       changes =
           record {
             count = m.changes.count;
             at =
                 λ d v h.
-                changes-later (effect-of-operator t o) v s u (get_or b.changes v d) f g (m.changes.at d v h);
+                changes_later (effect_of_operator t o) v s u (get_or b.changes v d) f g (m.changes.at d v h);
           };
       source = m.source;
     }
@@ -172,35 +172,35 @@ built-later t o s u b f g m =
 -- What is built of the task.
 pub record PartsMean (t : Task) (s : St) (p : Parts) : Type 0 where
   pub operators : Each (λ o. BuiltMeans t o s) (length t.operators) p.operators
-  pub goal : Means (length t.initial) (λ source. holds source (formula-of t.formulas t.goal)) s p.goal
+  pub goal : Means (length t.initial) (λ source. holds source (formula_of t.formulas t.goal)) s p.goal
 
 module _ (t : Task) (rules : Checked t) where
   good-operator :
       (o : ℕ) (s : St)
       → o < length t.operators
       → Fine PositiveKind (length t.initial) s
-      → Good PositiveKind (length t.initial) (BuiltMeans t o) (built-operator t o s)
-  unfolding built-operator bind give operator-of effect-of-operator
+      → Good PositiveKind (length t.initial) (BuiltMeans t o) (built_operator t o s)
+  unfolding built_operator bind give operator_of effect_of_operator
   good-operator o s h fine =
       let n = length t.initial in
-      let e = effect-of-operator t o in
-      let pre = formula-of t.formulas (operator-of t o).precondition in
+      let e = effect_of_operator t o in
+      let pre = formula_of t.formulas (operator_of t o).precondition in
       let rule = rules.operator o h in
-      let down = rules-formulas t rules in
-      let gp = good-image positive-joins plain pre s (over-formula n t.formulas down (operator-of t o).precondition rule.formula) fine in
+      let down = rules_formulas t rules in
+      let gp = good_image positive_joins plain pre s (over_formula n t.formulas down (operator_of t o).precondition rule.formula) fine in
       let p = image n plain pre s in
       let eo : EffectOver n e =
-      over-effect n n t.formulas t.effects down (rules-effects t rules) (operator-of t o).effect rule.changes
+      over-effect n n t.formulas t.effects down (rules_effects t rules) (operator_of t o).effect rule.changes
       in
       let gc =
-      good-each (ChangesMean n e) (changes-of (image n) e) (changes-later e) (steady-changes (image n) (steady-image n) e) n p.st
-      (λ v b u grown f. good-changes positive-joins (image n) (steady-image n) (good-image positive-joins) e v u eo f) gp.fine
+      good_each (ChangesMean n e) (changes_of (image n) e) (changes_later e) (steady-changes (image n) (steady_image n) e) n p.st
+      (λ v b u grown f. good-changes positive_joins (image n) (steady_image n) (good_image positive_joins) e v u eo f) gp.fine
       in
       record {
         fine = gc.fine;
         value =
             record {
-              precondition = means-later gp.fine ((steady-each n (steady-changes (image n) (steady-image n) e)).grow p.st) gp.value;
+              precondition = means_later gp.fine ((steady_each n (steady-changes (image n) (steady_image n) e)).grow p.st) gp.value;
               changes = gc.value;
               source = refl;
             };
@@ -211,14 +211,14 @@ module _ (t : Task) (rules : Checked t) where
   good-parts =
       let n = length t.initial in
       let go =
-      good-each (BuiltMeans t) (built-operator t) (built-later t) (steady-operator t) (length t.operators) start
-      (λ o h s grown f. good-operator o s h f) (fine-start positive-joins n)
+      good_each (BuiltMeans t) (built_operator t) (built_later t) (steady_operator t) (length t.operators) start
+      (λ o h s grown f. good-operator o s h f) (fine_start positive_joins n)
       in
-      let os = each (length t.operators) (built-operator t) start in
-      let goal = formula-of t.formulas t.goal in
+      let os = each (length t.operators) (built_operator t) start in
+      let goal = formula_of t.formulas t.goal in
       let gg =
-      good-image positive-joins plain goal os.st
-      (over-formula n t.formulas (rules-formulas t rules) t.goal rules.goal-is-formula) go.fine
+      good_image positive_joins plain goal os.st
+      (over_formula n t.formulas (rules_formulas t rules) t.goal rules.goal_is_formula) go.fine
       in
       let u = (image n plain goal os.st).st in
       record {
@@ -230,8 +230,8 @@ module _ (t : Task) (rules : Checked t) where
                     count = go.value.count;
                     at =
                         λ d o h.
-                        built-later t o os.st u (get_or os.value o d) go.fine
-                        ((steady-image n plain goal).grow os.st) (go.value.at d o h);
+                        built_later t o os.st u (get_or os.value o d) go.fine
+                        ((steady_image n plain goal).grow os.st) (go.value.at d o h);
                   };
               goal = gg.value;
             };

@@ -9,7 +9,7 @@ use lib.ListN.{length, get_or}
 use Rattle.task.specs.Table.{Task}
 use Rattle.task.specs.Rules.{Checked}
 use Rattle.task.specs.Semantics.{Effect, empty, sets, clears, effcond, value_after, apply}
-use Rattle.task.specs.Run.{effect-of-operator}
+use Rattle.task.specs.Run.{effect_of_operator}
 use Rattle.task.specs.Corresponding.{Corresponding}
 use Rattle.task.proofs.Bounded.{length-upto, getD-upto}
 use Rattle.normal_form.specs.Finished.{finished}
@@ -18,44 +18,44 @@ use Rattle.normal_form.proofs.ShapeFinished.{operator-past}
 use Rattle.normal_form.proofs.MeaningFinished.{sets-none, sets-original, clears-original, sets-twin, clears-twin}
 
 -- One variable, and one twin, after a step: A where it is set, D where it is cleared.
-original-after : (a d : Bool) (x : ℕ) → cond a 1 (cond (d && not a) 0 x) ≡ cond a 1 (cond d 0 x)
-original-after true d x = refl
-original-after false true x = refl
-original-after false false x = refl
+original_after : (a d : Bool) (x : ℕ) → cond a 1 (cond (d && not a) 0 x) ≡ cond a 1 (cond d 0 x)
+original_after true d x = refl
+original_after false true x = refl
+original_after false false x = refl
 
-twin-after : (a d : Bool) (x : ℕ) → cond (d && not a) 1 (cond a 0 (1 - x)) ≡ 1 - cond a 1 (cond d 0 x)
-twin-after true true x = refl
-twin-after true false x = refl
-twin-after false true x = refl
-twin-after false false x = refl
+twin_after : (a d : Bool) (x : ℕ) → cond (d && not a) 1 (cond a 0 (1 - x)) ≡ 1 - cond a 1 (cond d 0 x)
+twin_after true true x = refl
+twin_after true false x = refl
+twin_after false true x = refl
+twin_after false false x = refl
 
-bit-after : (a d : Bool) (x : ℕ) → x ≤ 1 → cond a 1 (cond d 0 x) ≤ 1
-bit-after true d x h = omega arith
-bit-after false true x h = omega arith
-bit-after false false x h = h
+bit_after : (a d : Bool) (x : ℕ) → x ≤ 1 → cond a 1 (cond d 0 x) ≤ 1
+bit_after true d x h = omega arith
+bit_after false true x h = omega arith
+bit_after false false x h = h
 
 free : (a d : Bool) → (a && (d && not a)) ≡ false
 free true true = refl
 free true false = refl
 free false d = refl
 
-free-twin : (a d : Bool) → ((d && not a) && a) ≡ false
-free-twin true true = refl
-free-twin true false = refl
-free-twin false true = refl
-free-twin false false = refl
+free_twin : (a d : Bool) → ((d && not a) && a) ≡ false
+free_twin true true = refl
+free_twin true false = refl
+free_twin false true = refl
+free_twin false false = refl
 
-pub length-apply : (s : List ℕ) (e : Effect) → length (apply s e) ≡ length s
+pub length_apply : (s : List ℕ) (e : Effect) → length (apply s e) ≡ length s
 unfolding apply
-length-apply s e = length-upto (length s) (value_after s e)
+length_apply s e = length-upto (length s) (value_after s e)
 
 apply_at : (s : List ℕ) (e : Effect) (v : ℕ) → v < length s → get_or (apply s e) v 0 ≡ value_after s e v
 unfolding apply
 apply_at s e v h = getD-upto (length s) (value_after s e) v 0 h
 
-bit-value : (s : List ℕ) (e : Effect) (v : ℕ) → get_or s v 0 ≤ 1 → value_after s e v ≤ 1
+bit_value : (s : List ℕ) (e : Effect) (v : ℕ) → get_or s v 0 ≤ 1 → value_after s e v ≤ 1
 unfolding value_after
-bit-value s e v h = bit-after (effcond s (sets v) e) (effcond s (clears v) e) (get_or s v 0) h
+bit_value s e v h = bit_after (effcond s (sets v) e) (effcond s (clears v) e) (get_or s v 0) h
 
 -- below n, or below n + w as n + k, or beyond
 place_of : (P : ℕ → Type 0) (n w x : ℕ) → (x < n → P x) → ((k : ℕ) → k < w → P (n + k)) → (n + w ≤ x → P x) → P x
@@ -71,45 +71,45 @@ module _ (t : Task) (rules : Checked t) (s s' : List ℕ) (width : length s ≡ 
     original-value :
         (v : ℕ)
         → v < length t.initial
-        → value_after s' (effect-of-operator (finished t) o) v ≡ value_after s (effect-of-operator t o) v
+        → value_after s' (effect_of_operator (finished t) o) v ≡ value_after s (effect_of_operator t o) v
     unfolding value_after
     original-value v b =
-        let e = effect-of-operator t o in
+        let e = effect_of_operator t o in
         ap₂ (λ (a : Bool) (r : ℕ). cond a 1 r) (sets-original t rules s s' width states o h v b)
         (ap₂ (λ (d : Bool) (r : ℕ). cond d 0 r) (clears-original t rules s s' width states o h v b)
         (states.same v (omega arith)))
-        ∙ original-after (effcond s (sets v) e) (effcond s (clears v) e) (get_or s v 0)
+        ∙ original_after (effcond s (sets v) e) (effcond s (clears v) e) (get_or s v 0)
 
     twin-value :
         (k : ℕ)
         → k < length (finished t).originals
-        → value_after s' (effect-of-operator (finished t) o) (length t.initial + k)
-        ≡ 1 - value_after s (effect-of-operator t o) (get_or (finished t).originals k 0)
+        → value_after s' (effect_of_operator (finished t) o) (length t.initial + k)
+        ≡ 1 - value_after s (effect_of_operator t o) (get_or (finished t).originals k 0)
     unfolding value_after finished
     twin-value k b =
-        let e = effect-of-operator t o in
+        let e = effect_of_operator t o in
         let v = get_or (finished t).originals k 0 in
         ap₂ (λ (a : Bool) (r : ℕ). cond a 1 r) (sets-twin t rules s s' width states o h k b)
         (ap₂ (λ (d : Bool) (r : ℕ). cond d 0 r) (clears-twin t rules s s' width states o h k b)
         (rw width at (states.opposite k b)))
-        ∙ twin-after (effcond s (sets v) e) (effcond s (clears v) e) (get_or s v 0)
+        ∙ twin_after (effcond s (sets v) e) (effcond s (clears v) e) (get_or s v 0)
 
-    twin-below : (k : ℕ) → k < length (finished t).originals → get_or (finished t).originals k 0 < length t.initial
+    twin_below : (k : ℕ) → k < length (finished t).originals → get_or (finished t).originals k 0 < length t.initial
     unfolding finished
-    twin-below k b = (good-parts t rules).fine.twin-below k b
+    twin_below k b = (good-parts t rules).fine.twin_below k b
 
     -- in corresponding states a step leads to corresponding states
     pub correspond-after :
-        Corresponding (finished t).originals (apply s (effect-of-operator t o))
-        (apply s' (effect-of-operator (finished t) o))
+        Corresponding (finished t).originals (apply s (effect_of_operator t o))
+        (apply s' (effect_of_operator (finished t) o))
     correspond-after =
         let n = length t.initial in
-        let e = effect-of-operator t o in
-        let e' = effect-of-operator (finished t) o in
-        let len = length-apply s e in
-        let len' = length-apply s' e' in
+        let e = effect_of_operator t o in
+        let e' = effect_of_operator (finished t) o in
+        let len = length_apply s e in
+        let len' = length_apply s' e' in
         record {
-          bits = λ v b. rw (apply_at s e v (omega arith)) (bit-value s e v (states.bits v (omega arith)));
+          bits = λ v b. rw (apply_at s e v (omega arith)) (bit_value s e v (states.bits v (omega arith)));
           width = len' ∙ states.width ∙ rw len;
           same =
               λ v b.
@@ -122,19 +122,19 @@ module _ (t : Task) (rules : Checked t) (s s' : List ℕ) (width : length s ≡ 
               rw (len, width)
               (apply_at s' e' (n + k) (omega (arith, states.width))
               ∙ twin-value k b
-              ∙ ap (λ (x : ℕ). 1 - x) (sym (apply_at s e v (omega (arith, twin-below k b)))));
+              ∙ ap (λ (x : ℕ). 1 - x) (sym (apply_at s e v (omega (arith, twin_below k b)))));
         }
 
     -- an operator of the task sets and clears no variable together
     free-inside :
         (x : ℕ)
-        → (effcond s' (sets x) (effect-of-operator (finished t) o)
-        && effcond s' (clears x) (effect-of-operator (finished t) o))
+        → (effcond s' (sets x) (effect_of_operator (finished t) o)
+        && effcond s' (clears x) (effect_of_operator (finished t) o))
         ≡ false
     unfolding finished
     free-inside x =
-        let e = effect-of-operator t o in
-        let e' = effect-of-operator (finished t) o in
+        let e = effect_of_operator t o in
+        let e' = effect_of_operator (finished t) o in
         place_of (λ x. (effcond s' (sets x) e' && effcond s' (clears x) e') ≡ false) (length t.initial)
         (length (finished t).originals) x
         (λ b.
@@ -143,25 +143,25 @@ module _ (t : Task) (rules : Checked t) (s s' : List ℕ) (width : length s ≡ 
         (λ k b.
         let v = get_or (finished t).originals k 0 in
         ap₂ ◌&&◌ (sets-twin t rules s s' width states o h k b) (clears-twin t rules s s' width states o h k b)
-        ∙ free-twin (effcond s (sets v) e) (effcond s (clears v) e))
+        ∙ free_twin (effcond s (sets v) e) (effcond s (clears v) e))
         (λ b.
         ap (λ (a : Bool). a && effcond s' (clears x) e') (sets-none t rules s s' width states o h x b))
 
   -- nor does any other number, which has the empty effect
   pub free-of-conflict :
       (o x : ℕ)
-      → (effcond s' (sets x) (effect-of-operator (finished t) o)
-      && effcond s' (clears x) (effect-of-operator (finished t) o))
+      → (effcond s' (sets x) (effect_of_operator (finished t) o)
+      && effcond s' (clears x) (effect_of_operator (finished t) o))
       ≡ false
   unfolding effcond
   free-of-conflict o x = go (dec_lt o (length t.operators))
     where
       go :
           Dec (o < length t.operators)
-          → (effcond s' (sets x) (effect-of-operator (finished t) o)
-          && effcond s' (clears x) (effect-of-operator (finished t) o))
+          → (effcond s' (sets x) (effect_of_operator (finished t) o)
+          && effcond s' (clears x) (effect_of_operator (finished t) o))
           ≡ false
       go (yes h) = free-inside o h x
       go (no h) =
-          let none : effect-of-operator (finished t) o ≡ empty = operator-past t o (omega arith) in
+          let none : effect_of_operator (finished t) o ≡ empty = operator-past t o (omega arith) in
           ap (λ (e : Effect). effcond s' (sets x) e && effcond s' (clears x) e) none

@@ -11,15 +11,15 @@ use lib.Dec.{eqb}
 use borrow.Author.Tests.{eqb-true, eqb-false, eq-eqb, ne_eqb}
 use Rattle.task.specs.Rules.{no_row}
 use Rattle.task.specs.Table.{Row}
-use Rattle.task.specs.Semantics.{Formula, falsum, verum, variable, negation, conjunction, disjunction, implication, equivalence, Atom, Effect, empty, atomic, both, under, same-atom, sets, clears}
-use Rattle.normal_form.specs.Builder.{St, Got, Build, give, bind, row, including, same_row, variable-row, twin-row, twin, Polarity, plain, negated, opposite, image-of-false, image-of-true, join-kind, Choice, absorbed, only-left, only-right, own_row, choice, join-as, join, pair}
+use Rattle.task.specs.Semantics.{Formula, falsum, verum, variable, negation, conjunction, disjunction, implication, equivalence, Atom, Effect, empty, atomic, both, under, same_atom, sets, clears}
+use Rattle.normal_form.specs.Builder.{St, Got, Build, give, bind, row, including, same_row, variable_row, twin_row, twin, Polarity, plain, negated, opposite, image_of_false, image_of_true, join_kind, Choice, absorbed, only_left, only_right, own_row, choice, join_as, join, pair}
 use Rattle.normal_form.specs.Growth.{Grows, Steady}
 use Rattle.normal_form.specs.Image.{literal, image}
 use Rattle.normal_form.specs.Conditions.{Becoming, guarded, condition}
-use Rattle.normal_form.specs.Copy.{over-two, copy, itself}
-use Rattle.normal_form.specs.Operators.{deletes-of, changes-of}
-use Rattle.normal_form.proofs.Growth.{longer, prefix-at, steady-pair}
-use Rattle.normal_form.proofs.Steady.{steady-image, steady-condition}
+use Rattle.normal_form.specs.Copy.{over_two, copy, itself}
+use Rattle.normal_form.specs.Operators.{deletes_of, changes_of}
+use Rattle.normal_form.proofs.Growth.{longer, prefix-at, steady_pair}
+use Rattle.normal_form.proofs.Steady.{steady_image, steady-condition}
 use Rattle.normal_form.proofs.Place.{Placed, found, added, placed}
 use Rattle.normal_form.proofs.Fine.{row_below, row_has}
 
@@ -27,8 +27,8 @@ use Rattle.normal_form.proofs.Fine.{row_below, row_has}
 pub record Stands (m : Build ℕ) : Type 0 where
   pub stands : (s : St) → 2 ≤ length s.rows → (m s).value < length (m s).st.rows
 
-rows-longer : {s t : St} → Grows s t → length s.rows ≤ length t.rows
-rows-longer {s} {t} g = longer s.rows t.rows g.rows
+rows_longer : {s t : St} → Grows s t → length s.rows ≤ length t.rows
+rows_longer {s} {t} g = longer s.rows t.rows g.rows
 
 -- A join's row stands where its sides do.
 module _ (s : St) (two : 2 ≤ length s.rows) where
@@ -36,13 +36,13 @@ module _ (s : St) (two : 2 ≤ length s.rows) where
       (p : Polarity) (c : Choice) (a b : ℕ)
       → a < length s.rows
       → b < length s.rows
-      → (join-as p c a b s).value < length (join-as p c a b s).st.rows
-  unfolding join-as give
+      → (join_as p c a b s).value < length (join_as p c a b s).st.rows
+  unfolding join_as give
   joined-stands plain absorbed a b h k = omega arith
   joined-stands negated absorbed a b h k = omega arith
-  joined-stands p only-left a b h k = h
-  joined-stands p only-right a b h k = k
-  joined-stands p own_row a b h k = row_below (record { kind = join-kind p; a = a; b = b }) s
+  joined-stands p only_left a b h k = h
+  joined-stands p only_right a b h k = k
+  joined-stands p own_row a b h k = row_below (record { kind = join_kind p; a = a; b = b }) s
 
   join_stands :
       (p : Polarity) (a b : ℕ)
@@ -61,73 +61,73 @@ module _ (p : Polarity) {l r : Build ℕ} (ls : Steady l) (rs : Steady r) where
             λ s two.
             let x = (l s).st in
             let y = (r x).st in
-            let g = rows-longer (ls.grow s) in
-            let h = rows-longer (rs.grow x) in
+            let g = rows_longer (ls.grow s) in
+            let h = rows_longer (rs.grow x) in
             join_stands y (omega arith) p (l s).value (r x).value (omega (arith, lb.stands s two)) (rb.stands x (omega arith));
       }
 
 -- The row of an image, and of an effect condition, stands.
-give-stands : (k : ℕ) → k < 2 → Stands (give k)
+give_stands : (k : ℕ) → k < 2 → Stands (give k)
 unfolding give
-give-stands k h = record { stands = λ s two. omega arith }
+give_stands k h = record { stands = λ s two. omega arith }
 
-falsity-stands : (p : Polarity) → Stands (give (image-of-false p))
-falsity-stands plain = give-stands 0 (omega arith)
-falsity-stands negated = give-stands 1 (omega arith)
+falsity_stands : (p : Polarity) → Stands (give (image_of_false p))
+falsity_stands plain = give_stands 0 (omega arith)
+falsity_stands negated = give_stands 1 (omega arith)
 
-truth-stands : (p : Polarity) → Stands (give (image-of-true p))
-truth-stands plain = give-stands 1 (omega arith)
-truth-stands negated = give-stands 0 (omega arith)
+truth_stands : (p : Polarity) → Stands (give (image_of_true p))
+truth_stands plain = give_stands 1 (omega arith)
+truth_stands negated = give_stands 0 (omega arith)
 
-literal-stands : (n : ℕ) (p : Polarity) (v : ℕ) → Stands (literal n p v)
-unfolding literal twin-row variable-row bind
-literal-stands n plain v = record { stands = λ s two. row_below (record { kind = 2; a = v; b = 0 }) s }
-literal-stands n negated v =
+literal_stands : (n : ℕ) (p : Polarity) (v : ℕ) → Stands (literal n p v)
+unfolding literal twin_row variable_row bind
+literal_stands n plain v = record { stands = λ s two. row_below (record { kind = 2; a = v; b = 0 }) s }
+literal_stands n negated v =
     record { stands = λ s two. row_below (record { kind = 2; a = n + (twin v s).value; b = 0 }) (twin v s).st }
 
-pub image-stands : (n : ℕ) (p : Polarity) (f : Formula) → Stands (image n p f)
+pub image_stands : (n : ℕ) (p : Polarity) (f : Formula) → Stands (image n p f)
 unfolding image
-image-stands n p falsum = falsity-stands p
-image-stands n p verum = truth-stands p
-image-stands n p (variable v) = literal-stands n p v
-image-stands n p (negation f) = image-stands n (opposite p) f
-image-stands n p (conjunction f g) =
-    pair-stands p (steady-image n p f) (steady-image n p g) (image-stands n p f) (image-stands n p g)
-image-stands n p (disjunction f g) =
-    pair-stands (opposite p) (steady-image n p f) (steady-image n p g) (image-stands n p f) (image-stands n p g)
-image-stands n p (implication f g) =
-    pair-stands (opposite p) (steady-image n (opposite p) f) (steady-image n p g) (image-stands n (opposite p) f) (image-stands n p g)
-image-stands n p (equivalence f g) =
+image_stands n p falsum = falsity_stands p
+image_stands n p verum = truth_stands p
+image_stands n p (variable v) = literal_stands n p v
+image_stands n p (negation f) = image_stands n (opposite p) f
+image_stands n p (conjunction f g) =
+    pair-stands p (steady_image n p f) (steady_image n p g) (image_stands n p f) (image_stands n p g)
+image_stands n p (disjunction f g) =
+    pair-stands (opposite p) (steady_image n p f) (steady_image n p g) (image_stands n p f) (image_stands n p g)
+image_stands n p (implication f g) =
+    pair-stands (opposite p) (steady_image n (opposite p) f) (steady_image n p g) (image_stands n (opposite p) f) (image_stands n p g)
+image_stands n p (equivalence f g) =
     pair-stands negated
-    (steady-pair plain (steady-image n plain f) (steady-image n p g))
-    (steady-pair plain (steady-image n negated f) (steady-image n (opposite p) g))
-    (pair-stands plain (steady-image n plain f) (steady-image n p g) (image-stands n plain f) (image-stands n p g))
-    (pair-stands plain (steady-image n negated f) (steady-image n (opposite p) g) (image-stands n negated f)
-    (image-stands n (opposite p) g))
+    (steady_pair plain (steady_image n plain f) (steady_image n p g))
+    (steady_pair plain (steady_image n negated f) (steady_image n (opposite p) g))
+    (pair-stands plain (steady_image n plain f) (steady_image n p g) (image_stands n plain f) (image_stands n p g))
+    (pair-stands plain (steady_image n negated f) (steady_image n (opposite p) g) (image_stands n negated f)
+    (image_stands n (opposite p) g))
 
 -- The row of a copy stands (02, K3).
-over-two-stands : (kind : ℕ) (l r : Build ℕ) → Stands (over-two kind l r)
-unfolding over-two bind
-over-two-stands kind l r =
+over_two_stands : (kind : ℕ) (l r : Build ℕ) → Stands (over_two kind l r)
+unfolding over_two bind
+over_two_stands kind l r =
     record {
       stands = λ s two. row_below (record { kind = kind; a = (l s).value; b = (r (l s).st).value }) (r (l s).st).st;
     }
 
-pub copy-stands : (f : Formula) → Stands (copy f)
-unfolding copy bind variable-row
-copy-stands falsum = give-stands 0 (omega arith)
-copy-stands verum = give-stands 1 (omega arith)
-copy-stands (variable v) = record { stands = λ s two. row_below (record { kind = 2; a = v; b = 0 }) s }
-copy-stands (negation f) =
+pub copy_stands : (f : Formula) → Stands (copy f)
+unfolding copy bind variable_row
+copy_stands falsum = give_stands 0 (omega arith)
+copy_stands verum = give_stands 1 (omega arith)
+copy_stands (variable v) = record { stands = λ s two. row_below (record { kind = 2; a = v; b = 0 }) s }
+copy_stands (negation f) =
     record { stands = λ s two. row_below (record { kind = 3; a = (copy f s).value; b = 0 }) (copy f s).st }
-copy-stands (conjunction f g) = over-two-stands 4 (copy f) (copy g)
-copy-stands (disjunction f g) = over-two-stands 5 (copy f) (copy g)
-copy-stands (implication f g) = over-two-stands 6 (copy f) (copy g)
-copy-stands (equivalence f g) = over-two-stands 7 (copy f) (copy g)
+copy_stands (conjunction f g) = over_two_stands 4 (copy f) (copy g)
+copy_stands (disjunction f g) = over_two_stands 5 (copy f) (copy g)
+copy_stands (implication f g) = over_two_stands 6 (copy f) (copy g)
+copy_stands (equivalence f g) = over_two_stands 7 (copy f) (copy g)
 
-pub itself-stands : (p : Polarity) (f : Formula) → Stands (itself p f)
+pub itself_stands : (p : Polarity) (f : Formula) → Stands (itself p f)
 unfolding itself
-itself-stands p f = copy-stands f
+itself_stands p f = copy_stands f
 
 -- Whatever a formula becomes, if that is steady and its row stands.
 module _ (becomes : Becoming) (steady : (p : Polarity) (f : Formula) → Steady (becomes p f)) (stand : (p : Polarity) (f : Formula) → Stands (becomes p f)) where
@@ -137,7 +137,7 @@ module _ (becomes : Becoming) (steady : (p : Polarity) (f : Formula) → Steady 
       → c < length s.rows
       → (guarded becomes p f c s).value < length (guarded becomes p f c s).st.rows
   unfolding guarded give bind
-  guarded-stands p f c s two h = go (eqb c (image-of-false p))
+  guarded-stands p f c s two h = go (eqb c (image_of_false p))
     where
       go : (b : Bool)
           → (cond b (give c) (bind (becomes p f) (λ a. join p a c)) s).value
@@ -145,17 +145,17 @@ module _ (becomes : Becoming) (steady : (p : Polarity) (f : Formula) → Steady 
       go true = h
       go false =
           let x = (becomes p f s).st in
-          let g = rows-longer ((steady p f).grow s) in
+          let g = rows_longer ((steady p f).grow s) in
           join_stands x (omega arith) p (becomes p f s).value c ((stand p f).stands s two) (omega arith)
 
   pub condition-stands : (p : Polarity) (l : Atom) (e : Effect) → Stands (condition becomes p l e)
   unfolding condition bind
-  condition-stands p l empty = falsity-stands p
-  condition-stands p l (atomic m) = go (same-atom l m)
+  condition-stands p l empty = falsity_stands p
+  condition-stands p l (atomic m) = go (same_atom l m)
     where
-      go : (b : Bool) → Stands (give (cond b (image-of-true p) (image-of-false p)))
-      go true = truth-stands p
-      go false = falsity-stands p
+      go : (b : Bool) → Stands (give (cond b (image_of_true p) (image_of_false p)))
+      go true = truth_stands p
+      go false = falsity_stands p
   condition-stands p l (both e f) =
       pair-stands (opposite p) (steady-condition becomes steady p l e) (steady-condition becomes steady p l f) (condition-stands p l e)
       (condition-stands p l f)
@@ -164,16 +164,16 @@ module _ (becomes : Becoming) (steady : (p : Polarity) (f : Formula) → Steady 
         stands =
             λ s two.
             let x = condition becomes p l e s in
-            let g = rows-longer ((steady-condition becomes steady p l e).grow s) in
+            let g = rows_longer ((steady-condition becomes steady p l e).grow s) in
             guarded-stands p f x.value x.st (omega arith) ((condition-stands p l e).stands s two);
       }
 
 -- A value stays what it is in every later state.
-pub value-later : {A : Type 0} {m : Build A} → Steady m → (s u : St) → Grows (m s).st u → (m u).value ≡ (m s).value
-value-later {A} h s u g = ap (λ (r : Got A). r.value) (h.again s u g)
+pub value_later : {A : Type 0} {m : Build A} → Steady m → (s u : St) → Grows (m s).st u → (m u).value ≡ (m s).value
+value_later {A} h s u g = ap (λ (r : Got A). r.value) (h.again s u g)
 
 -- Of two steps, one after the other, the row of the second that is new behind the first has the higher number: in every later state.
-pub lower-number :
+pub lower_number :
     {first second : Build ℕ} (s u : St)
     → Steady first
     → Steady second
@@ -183,8 +183,8 @@ pub lower-number :
     → Grows (second (first s).st).st u
     → length (first s).st.rows ≤ (second (first s).st).value
     → (first u).value < (second u).value
-lower-number {first} {second} s u fs ss fb two g h new =
-    omega (arith, fb.stands s two, value-later fs s u g, value-later ss (first s).st u h)
+lower_number {first} {second} s u fs ss fb two g h new =
+    omega (arith, fb.stands s two, value_later fs s u g, value_later ss (first s).st u h)
 
 -- How a join comes out. Where either side is a constant it folds, and nothing is added.
 module _ (p : Polarity) (a b : ℕ) where
@@ -199,67 +199,67 @@ module _ (p : Polarity) (a b : ℕ) where
   -- a row of its own joins rows that are no constants
   own-sides : choice p a b ≡ own_row → (2 ≤ a) × (2 ≤ b)
   unfolding choice
-  own-sides e = go (eqb a (image-of-false p)) (eqb b (image-of-false p)) (eqb a (image-of-true p)) (eqb b (image-of-true p)) refl refl refl refl e
+  own-sides e = go (eqb a (image_of_false p)) (eqb b (image_of_false p)) (eqb a (image_of_true p)) (eqb b (image_of_true p)) refl refl refl refl e
     where
-      past : (q : Polarity) (k : ℕ) → (k ≡ image-of-false q → ⊥) → (k ≡ image-of-true q → ⊥) → 2 ≤ k
+      past : (q : Polarity) (k : ℕ) → (k ≡ image_of_false q → ⊥) → (k ≡ image_of_true q → ⊥) → 2 ≤ k
       past plain k h i = omega arith
       past negated k h i = omega arith
 
       go :
           (af bf at bt : Bool)
-          → eqb a (image-of-false p) ≡ af
-          → eqb b (image-of-false p) ≡ bf
-          → eqb a (image-of-true p) ≡ at
-          → eqb b (image-of-true p) ≡ bt
-          → cond af absorbed (cond bf absorbed (cond at only-right (cond bt only-left own_row))) ≡ own_row
+          → eqb a (image_of_false p) ≡ af
+          → eqb b (image_of_false p) ≡ bf
+          → eqb a (image_of_true p) ≡ at
+          → eqb b (image_of_true p) ≡ bt
+          → cond af absorbed (cond bf absorbed (cond at only_right (cond bt only_left own_row))) ≡ own_row
           → (2 ≤ a) × (2 ≤ b)
       go true bf at bt w x y z e = absurd (let q : ◌≡◌ {A = ℕ} 0 1 = cc in omega arith)
       go false true at bt w x y z e = absurd (let q : ◌≡◌ {A = ℕ} 0 1 = cc in omega arith)
       go false false true bt w x y z e = absurd (let q : ◌≡◌ {A = ℕ} 0 1 = cc in omega arith)
       go false false false true w x y z e = absurd (let q : ◌≡◌ {A = ℕ} 0 1 = cc in omega arith)
       go false false false false w x y z e = (
-        past p a (eqb-false a (image-of-false p) w) (eqb-false a (image-of-true p) y),
-        past p b (eqb-false b (image-of-false p) x) (eqb-false b (image-of-true p) z),
+        past p a (eqb-false a (image_of_false p) w) (eqb-false a (image_of_true p) y),
+        past p b (eqb-false b (image_of_false p) x) (eqb-false b (image_of_true p) z),
       )
 
   module _ (s : St) where
     -- at most one row is added, and no twin
     pub join-no-twin : (join p a b s).st.twins ≡ s.twins
-    unfolding join join-as give row
+    unfolding join join_as give row
     join-no-twin = go (choice p a b)
       where
-        go : (c : Choice) → (join-as p c a b s).st.twins ≡ s.twins
+        go : (c : Choice) → (join_as p c a b s).st.twins ≡ s.twins
         go absorbed = refl
-        go only-left = refl
-        go only-right = refl
+        go only_left = refl
+        go only_right = refl
         go own_row = refl
 
     pub join-one-row : length (join p a b s).st.rows ≤ length s.rows + 1
-    unfolding join join-as give row
+    unfolding join join_as give row
     join-one-row = go (choice p a b)
       where
         r : Row
-        r = record { kind = join-kind p; a = a; b = b }
+        r = record { kind = join_kind p; a = a; b = b }
 
         put : Placed same_row r s.rows → length (including same_row r s.rows) ≤ length s.rows + 1
         put (found h k) = rw k (omega arith)
         put (added h k f) = rw k (omega (arith, length-append s.rows (r ∷ [])))
 
-        go : (c : Choice) → length (join-as p c a b s).st.rows ≤ length s.rows + 1
+        go : (c : Choice) → length (join_as p c a b s).st.rows ≤ length s.rows + 1
         go absorbed = omega arith
-        go only-left = omega arith
-        go only-right = omega arith
+        go only_left = omega arith
+        go only_right = omega arith
         go own_row = put (placed same_row r s.rows)
 
     -- none where either side is a constant
     pub join-adds-nothing : (2 ≤ a → 2 ≤ b → ⊥) → (join p a b s).st ≡ s
-    unfolding join join-as give
+    unfolding join join_as give
     join-adds-nothing folds = go (choice p a b) refl
       where
-        go : (c : Choice) → choice p a b ≡ c → (join-as p c a b s).st ≡ s
+        go : (c : Choice) → choice p a b ≡ c → (join_as p c a b s).st ≡ s
         go absorbed e = refl
-        go only-left e = refl
-        go only-right e = refl
+        go only_left e = refl
+        go only_right e = refl
         go own_row e = absurd (folds (own-sides e).0 (own-sides e).1)
 
     -- Else its row names a, then b, in every later state.
@@ -268,49 +268,49 @@ module _ (p : Polarity) (a b : ℕ) where
         → Grows (join p a b s).st u
         → 2 ≤ a
         → 2 ≤ b
-        → get_or u.rows (join p a b s).value no_row ≡ record { kind = join-kind p; a = a; b = b }
+        → get_or u.rows (join p a b s).value no_row ≡ record { kind = join_kind p; a = a; b = b }
     join-own-row u g h k =
         prefix-at (join p a b s).st.rows u.rows no_row (join p a b s).value g.rows below ∙ here
       where
         below : (join p a b s).value < length (join p a b s).st.rows
-        below = unfold join join-as in rw (own-choice h k) (row_below (record { kind = join-kind p; a = a; b = b }) s)
+        below = unfold join join_as in rw (own-choice h k) (row_below (record { kind = join_kind p; a = a; b = b }) s)
 
-        here : get_or (join p a b s).st.rows (join p a b s).value no_row ≡ record { kind = join-kind p; a = a; b = b }
-        here = unfold join join-as in rw (own-choice h k) (row_has (record { kind = join-kind p; a = a; b = b }) s)
+        here : get_or (join p a b s).st.rows (join p a b s).value no_row ≡ record { kind = join_kind p; a = a; b = b }
+        here = unfold join join_as in rw (own-choice h k) (row_has (record { kind = join_kind p; a = a; b = b }) s)
 
     -- false and f, f and false give false; true and f, f and true give f; dually for or
-    pub join-zero-left : a ≡ image-of-false p → (join p a b s).value ≡ image-of-false p
-    unfolding join join-as choice give
-    join-zero-left e = rw (eq-eqb a (image-of-false p) e)
+    pub join-zero-left : a ≡ image_of_false p → (join p a b s).value ≡ image_of_false p
+    unfolding join join_as choice give
+    join-zero-left e = rw (eq-eqb a (image_of_false p) e)
 
-    pub join-zero-right : b ≡ image-of-false p → (join p a b s).value ≡ image-of-false p
-    unfolding join join-as choice give
-    join-zero-right e = go (eqb a (image-of-false p)) refl
+    pub join-zero-right : b ≡ image_of_false p → (join p a b s).value ≡ image_of_false p
+    unfolding join join_as choice give
+    join-zero-right e = go (eqb a (image_of_false p)) refl
       where
-        go : (q : Bool) → eqb a (image-of-false p) ≡ q → (join p a b s).value ≡ image-of-false p
+        go : (q : Bool) → eqb a (image_of_false p) ≡ q → (join p a b s).value ≡ image_of_false p
         go true w = rw w
-        go false w = rw (w, eq-eqb b (image-of-false p) e)
+        go false w = rw (w, eq-eqb b (image_of_false p) e)
 
-    other : (q : Polarity) (k : ℕ) → k ≡ image-of-true q → k ≡ image-of-false q → ⊥
+    other : (q : Polarity) (k : ℕ) → k ≡ image_of_true q → k ≡ image_of_false q → ⊥
     other plain k e f = omega arith
     other negated k e f = omega arith
 
-    pub join-one-left : a ≡ image-of-true p → (join p a b s).value ≡ b
-    unfolding join join-as choice give
-    join-one-left e = go (eqb b (image-of-false p)) refl
+    pub join-one-left : a ≡ image_of_true p → (join p a b s).value ≡ b
+    unfolding join join_as choice give
+    join-one-left e = go (eqb b (image_of_false p)) refl
       where
-        go : (q : Bool) → eqb b (image-of-false p) ≡ q → (join p a b s).value ≡ b
-        go true w = rw (ne_eqb a (image-of-false p) (other p a e), w) (sym (eqb-true b (image-of-false p) w))
-        go false w = rw (ne_eqb a (image-of-false p) (other p a e), w, eq-eqb a (image-of-true p) e)
+        go : (q : Bool) → eqb b (image_of_false p) ≡ q → (join p a b s).value ≡ b
+        go true w = rw (ne_eqb a (image_of_false p) (other p a e), w) (sym (eqb-true b (image_of_false p) w))
+        go false w = rw (ne_eqb a (image_of_false p) (other p a e), w, eq-eqb a (image_of_true p) e)
 
-    pub join-one-right : b ≡ image-of-true p → (join p a b s).value ≡ a
-    unfolding join join-as choice give
-    join-one-right e = go (eqb a (image-of-false p)) (eqb a (image-of-true p)) refl refl
+    pub join-one-right : b ≡ image_of_true p → (join p a b s).value ≡ a
+    unfolding join join_as choice give
+    join-one-right e = go (eqb a (image_of_false p)) (eqb a (image_of_true p)) refl refl
       where
-        go : (q r : Bool) → eqb a (image-of-false p) ≡ q → eqb a (image-of-true p) ≡ r → (join p a b s).value ≡ a
-        go true r w x = rw w (sym (eqb-true a (image-of-false p) w))
-        go false true w x = rw (w, ne_eqb b (image-of-false p) (other p b e), x) (e ∙ sym (eqb-true a (image-of-true p) x))
-        go false false w x = rw (w, ne_eqb b (image-of-false p) (other p b e), x, eq-eqb b (image-of-true p) e)
+        go : (q r : Bool) → eqb a (image_of_false p) ≡ q → eqb a (image_of_true p) ≡ r → (join p a b s).value ≡ a
+        go true r w x = rw w (sym (eqb-true a (image_of_false p) w))
+        go false true w x = rw (w, ne_eqb b (image_of_false p) (other p b e), x) (e ∙ sym (eqb-true a (image_of_true p) x))
+        go false false w x = rw (w, ne_eqb b (image_of_false p) (other p b e), x, eq-eqb b (image_of_true p) e)
 
 -- A pair: left, right, then their join.
 module _ (p : Polarity) (l r : Build ℕ) (s : St) where
@@ -320,17 +320,17 @@ module _ (p : Polarity) (l r : Build ℕ) (s : St) where
 
 -- An effect under a formula: the inner effect first. If it is false (dually true), nothing else; else what the formula becomes, then their join.
 module _ (becomes : Becoming) (p : Polarity) (l : Atom) (f : Formula) (e : Effect) (s : St) where
-  pub under-false : (condition becomes p l e s).value ≡ image-of-false p → condition becomes p l (under f e) s ≡ condition becomes p l e s
+  pub under-false : (condition becomes p l e s).value ≡ image_of_false p → condition becomes p l (under f e) s ≡ condition becomes p l e s
   unfolding condition bind guarded give
-  under-false q = rw (eq-eqb (condition becomes p l e s).value (image-of-false p) q)
+  under-false q = rw (eq-eqb (condition becomes p l e s).value (image_of_false p) q)
 
   pub under-is :
-      ((condition becomes p l e s).value ≡ image-of-false p → ⊥)
+      ((condition becomes p l e s).value ≡ image_of_false p → ⊥)
       → let c = condition becomes p l e s in
       let a = becomes p f c.st in
       condition becomes p l (under f e) s ≡ join p a.value c.value a.st
   unfolding condition bind guarded
-  under-is q = rw (ne_eqb (condition becomes p l e s).value (image-of-false p) q)
+  under-is q = rw (ne_eqb (condition becomes p l e s).value (image_of_false p) q)
 
 -- A variable's changes: A, then D; if neither is row 0, then N and the join of D and N.
 module _ (becomes : Becoming) (e : Effect) (v : ℕ) (s : St) where
@@ -345,14 +345,14 @@ module _ (becomes : Becoming) (e : Effect) (v : ℕ) (s : St) where
 
   pub changes-alone :
       (A.value ≡ 0) ⊎ (D.value ≡ 0)
-      → changes-of becomes e v s ≡ record { value = record { variable = v; adds = A.value; deletes = D.value }; st = D.st }
-  unfolding changes-of deletes-of bind give
+      → changes_of becomes e v s ≡ record { value = record { variable = v; adds = A.value; deletes = D.value }; st = D.st }
+  unfolding changes_of deletes_of bind give
   changes-alone (inl q) = rw (eq-eqb A.value 0 q)
   changes-alone (inr q) = go (eqb A.value 0) refl
     where
       go : (b : Bool)
           → eqb A.value 0 ≡ b
-          → changes-of becomes e v s ≡ record { value = record { variable = v; adds = A.value; deletes = D.value }; st = D.st }
+          → changes_of becomes e v s ≡ record { value = record { variable = v; adds = A.value; deletes = D.value }; st = D.st }
       go true w = rw w
       go false w = rw (w, eq-eqb D.value 0 q)
 
@@ -360,6 +360,6 @@ module _ (becomes : Becoming) (e : Effect) (v : ℕ) (s : St) where
       (A.value ≡ 0 → ⊥)
       → (D.value ≡ 0 → ⊥)
       → let k = join plain D.value N.value N.st in
-      changes-of becomes e v s ≡ record { value = record { variable = v; adds = A.value; deletes = k.value }; st = k.st }
-  unfolding changes-of deletes-of bind give
+      changes_of becomes e v s ≡ record { value = record { variable = v; adds = A.value; deletes = k.value }; st = k.st }
+  unfolding changes_of deletes_of bind give
   changes-joined q r = rw (ne_eqb A.value 0 q, ne_eqb D.value 0 r)

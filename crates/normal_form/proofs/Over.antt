@@ -9,25 +9,25 @@ use Rattle.normal_form.specs.Growth.{Grows}
 use Rattle.normal_form.specs.Finished.{built, finished}
 use Rattle.normal_form.specs.Compiled.{Room, Fits}
 use Rattle.normal_form.proofs.ShapePassed.{finished-variables}
-use Rattle.normal_form.proofs.ShapeSizes.{grows-fewer}
+use Rattle.normal_form.proofs.ShapeSizes.{grows_fewer}
 use Rattle.normal_form.specs.Inner.Allowed.{Allows}
 
 -- rows and twins within what is allowed
 pub record WithinRoom (rows twins : ℕ) (s : St) : Type 0 where
-  pub rows-within : length s.rows ≤ rows
-  pub twins-within : length s.twins ≤ twins
+  pub rows_within : length s.rows ≤ rows
+  pub twins_within : length s.twins ≤ twins
 
 module _ (t : Task) (room : Room) (rows twins effects : ℕ) (allows : Allows (length t.initial) room rows twins effects) (fit : Fits (finished t) room) where
   pub building-within : (s : St) → Grows s (built t).st → WithinRoom rows twins s
   unfolding finished
   building-within s g =
-      let f = grows-fewer g in
+      let f = grows_fewer g in
       let width = finished-variables t in
       let all : length (built t).st.rows ≤ rows =
-      allows.rows-allowed (length (built t).st.rows) fit.limits.formulas fit.tables.formulas
+      allows.rows_allowed (length (built t).st.rows) fit.limits.formulas fit.tables.formulas
       in
       let each : length (built t).st.twins ≤ twins =
-      allows.twins-allowed (length (built t).st.twins) (omega (arith, fit.limits.variables))
+      allows.twins_allowed (length (built t).st.twins) (omega (arith, fit.limits.variables))
       (omega (arith, fit.tables.initial)) fit.tables.twins
       in
-      record { rows-within = omega (arith, f.rows); twins-within = omega (arith, f.twins) }
+      record { rows_within = omega (arith, f.rows); twins_within = omega (arith, f.twins) }

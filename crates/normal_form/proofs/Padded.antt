@@ -8,37 +8,37 @@ use lib.Seq.{length-take-le, get_or-drop, ext_get_or}
 use Rattle.task.specs.Bounded.{upto}
 use Rattle.task.specs.Table.{row_at}
 use Rattle.task.specs.Words.{joined, row_words, words_of, padded}
-use Rattle.task.proofs.Fronts.{rows-front}
+use Rattle.task.proofs.Fronts.{rows_front}
 use Rattle.normal_form.specs.Assembly.{unassembled}
 
 -- nothing held
-pub padded-none : (n : ℕ) → padded n [] ≡ replicate n 0
+pub padded_none : (n : ℕ) → padded n [] ≡ replicate n 0
 unfolding padded
-padded-none n =
+padded_none n =
     let e : n - 0 ≡ n = omega arith in
     rw e
 
 -- words at the front of a table that was cleared
-drop-zeros : (k n : ℕ) → ◌≡◌ {A = List ℕ} (drop k (replicate n 0)) (replicate (n - k) 0)
-drop-zeros zero n =
+drop_zeros : (k n : ℕ) → ◌≡◌ {A = List ℕ} (drop k (replicate n 0)) (replicate (n - k) 0)
+drop_zeros zero n =
     let e : n - 0 ≡ n = omega arith in
     rw e
-drop-zeros (suc k) zero =
+drop_zeros (suc k) zero =
     let e : 0 - suc k ≡ 0 = omega arith in
     rw e
-drop-zeros (suc k) (suc n) =
+drop_zeros (suc k) (suc n) =
     let e : suc n - suc k ≡ n - k = omega arith in
-    rw e (drop-zeros k n)
+    rw e (drop_zeros k n)
 
-pub padded-over :
+pub padded_over :
     (n : ℕ) (words : List ℕ) (k : ℕ) → length words ≡ k → words ++ drop k (replicate n 0) ≡ padded n words
 unfolding padded
-padded-over n words k e = rw e (ap (λ (l : List ℕ). words ++ l) (drop-zeros k n))
+padded_over n words k e = rw e (ap (λ (l : List ℕ). words ++ l) (drop_zeros k n))
 
 -- a cleared table holds the empty effect, row 0
-pub padded-empty : (n : ℕ) → 3 ≤ n → replicate n 0 ≡ padded n (words_of unassembled.effects)
+pub padded_empty : (n : ℕ) → 3 ≤ n → replicate n 0 ≡ padded n (words_of unassembled.effects)
 unfolding padded unassembled words_of joined row_words
-padded-empty n h =
+padded_empty n h =
     let e : n ≡ suc (suc (suc (n - 3))) = omega arith in
     ap (λ (k : ℕ). replicate {A = ℕ} k 0) e
 
@@ -60,10 +60,10 @@ module _ (t : List ℕ) (k : ℕ) (within : k ≤ length t) (past : (j : ℕ) �
       rw (length-take-le k t within) (sym (take-append-drop k t) ∙ ap (λ (l : List ℕ). take k t ++ l) zero-tail)
 
 -- a table of n rows that is 0 past them
-pub padded-rows :
+pub padded_rows :
     (t : List ℕ) (n : ℕ)
     → 3 * n ≤ length t
     → ((j : ℕ) → 3 * n ≤ j → get_or t j 0 ≡ 0)
     → t ≡ padded (length t) (words_of (upto n (row_at t)))
-padded-rows t n h past =
-    padded-front t (3 * n) h past ∙ ap (padded (length t)) (rows-front t n h)
+padded_rows t n h past =
+    padded-front t (3 * n) h past ∙ ap (padded (length t)) (rows_front t n h)

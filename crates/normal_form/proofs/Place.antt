@@ -115,9 +115,9 @@ place_here l j h = go (placed eqb (get_or l j 0) l)
     go (found b k) = b
     go (added b k f) = absurd (false≢true (sym (f 0 j h) ∙ eq-eqb (get_or l j 0) (get_or l j 0) refl))
 
-pub same-row-alike : (r q : Row) → same_row r q ≡ true → r ≡ q
+pub same_row_alike : (r q : Row) → same_row r q ≡ true → r ≡ q
 unfolding same_row
-same-row-alike r q e =
+same_row_alike r q e =
     let rest : Bool = eqb r.a q.a && eqb r.b q.b in
     let k : r.kind ≡ q.kind = eqb-true r.kind q.kind (and_left (eqb r.kind q.kind) rest e) in
     let m = and_right (eqb r.kind q.kind) rest e in

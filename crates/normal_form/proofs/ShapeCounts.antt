@@ -13,37 +13,37 @@ use Rattle.task.specs.Table.{Row}
 use Rattle.task.specs.Semantics.{Atom, sets, clears}
 use Rattle.normal_form.specs.Builder.{place}
 use Rattle.normal_form.specs.Operators.{Changes, Built}
-use Rattle.normal_form.specs.Assembly.{Rule, rule, with-twin, rules-of, rules, Written, rule-rows, write-rule, write-rules, Assembled, assemble-operator, assemble}
-use Rattle.normal_form.proofs.ShapeRule.{write-stands}
+use Rattle.normal_form.specs.Assembly.{Rule, rule, with_twin, rules_of, rules, Written, rule_rows, write_rule, write_rules, Assembled, assemble_operator, assemble}
+use Rattle.normal_form.proofs.ShapeRule.{write_stands}
 use Rattle.normal_form.proofs.ShapeRules.{All, none, also}
 use Rattle.normal_form.proofs.ShapeEach.{Upwards, start, next}
 use Rattle.normal_form.proofs.ShapeAssembled.{unwritten}
 
 module _ (w : Written) (r : Rule) where
-  pub first-length : w.stands ≡ 0 → length (write-rule w r).rows ≡ length w.rows + 2
-  unfolding write-rule rule-rows
-  first-length e = rw (eq-eqb w.stands 0 e) (length-append w.rows (rule-rows (length w.rows) r))
+  pub first-length : w.stands ≡ 0 → length (write_rule w r).rows ≡ length w.rows + 2
+  unfolding write_rule rule_rows
+  first-length e = rw (eq-eqb w.stands 0 e) (length-append w.rows (rule_rows (length w.rows) r))
 
-  pub next-length : (w.stands ≡ 0 → ⊥) → length (write-rule w r).rows ≡ length w.rows + 3
-  unfolding write-rule rule-rows
+  pub next-length : (w.stands ≡ 0 → ⊥) → length (write_rule w r).rows ≡ length w.rows + 3
+  unfolding write_rule rule_rows
   next-length n =
       rw (ne_eqb w.stands 0 n)
       (length-append w.rows
-      (rule-rows (length w.rows) r ++ (record { kind = 3; a = w.stands; b = length w.rows + 1 } ∷ [])))
+      (rule_rows (length w.rows) r ++ (record { kind = 3; a = w.stands; b = length w.rows + 1 } ∷ [])))
 
   -- what stands is the last row
-  pub last-stands : (write-rule w r).stands + 1 ≡ length (write-rule w r).rows
-  unfolding write-rule rule-rows
+  pub last-stands : (write_rule w r).stands + 1 ≡ length (write_rule w r).rows
+  unfolding write_rule rule_rows
   last-stands = go (eqb w.stands 0)
     where
       i : ℕ
       i = length w.rows
 
       two : List Row
-      two = rule-rows i r
+      two = rule_rows i r
 
       three : List Row
-      three = rule-rows i r ++ (record { kind = 3; a = w.stands; b = i + 1 } ∷ [])
+      three = rule_rows i r ++ (record { kind = 3; a = w.stands; b = i + 1 } ∷ [])
 
       go :
           (b : Bool)
@@ -55,50 +55,50 @@ module _ (w : Written) (r : Rule) where
       go false = omega (arith, length-append w.rows three)
 
 -- what k rules of an operator add
-unfoldable pub rows-of-rules : ℕ → ℕ
-rows-of-rules zero = 0
-rows-of-rules (suc k) = 3 * k + 2
+unfoldable pub rows_of_rules : ℕ → ℕ
+rows_of_rules zero = 0
+rows_of_rules (suc k) = 3 * k + 2
 
 pub chain_length :
     (w : Written) (rs : List Rule)
     → (w.stands ≡ 0 → ⊥)
-    → length (write-rules w rs).rows ≡ length w.rows + 3 * length rs
-unfolding write-rules
+    → length (write_rules w rs).rows ≡ length w.rows + 3 * length rs
+unfolding write_rules
 chain_length w [] n = omega arith
 chain_length w (r ∷ rs) n =
-    omega (arith, chain_length (write-rule w r) rs (write-stands w r), next-length w r n)
+    omega (arith, chain_length (write_rule w r) rs (write_stands w r), next-length w r n)
 
-pub written-length :
+pub written_length :
     (rows : List Row) (rs : List Rule)
-    → length (write-rules (unwritten rows) rs).rows ≡ length rows + rows-of-rules (length rs)
-unfolding write-rules rows-of-rules
-written-length rows [] = omega arith
-written-length rows (r ∷ rs) =
+    → length (write_rules (unwritten rows) rs).rows ≡ length rows + rows_of_rules (length rs)
+unfolding write_rules rows_of_rules
+written_length rows [] = omega arith
+written_length rows (r ∷ rs) =
     omega (
       arith,
-      chain_length (write-rule (unwritten rows) r) rs (write-stands (unwritten rows) r),
+      chain_length (write_rule (unwritten rows) r) rs (write_stands (unwritten rows) r),
       first-length (unwritten rows) r refl,
     )
 
 -- after a rule, what stands is the last row
-pub rules-stand :
+pub rules_stand :
     (w : Written) (rs : List Rule)
     → w.stands + 1 ≡ length w.rows
-    → (write-rules w rs).stands + 1 ≡ length (write-rules w rs).rows
-unfolding write-rules
-rules-stand w [] e = e
-rules-stand w (r ∷ rs) e = rules-stand (write-rule w r) rs (last-stands w r)
+    → (write_rules w rs).stands + 1 ≡ length (write_rules w rs).rows
+unfolding write_rules
+rules_stand w [] e = e
+rules_stand w (r ∷ rs) e = rules_stand (write_rule w r) rs (last-stands w r)
 
 -- rules one after another
-pub rules-split :
-    (w : Written) (rs qs : List Rule) → write-rules w (rs ++ qs) ≡ write-rules (write-rules w rs) qs
-unfolding write-rules
-rules-split w rs qs = foldl-append write-rule w rs qs
+pub rules_split :
+    (w : Written) (rs qs : List Rule) → write_rules w (rs ++ qs) ≡ write_rules (write_rules w rs) qs
+unfolding write_rules
+rules_split w rs qs = foldl-append write_rule w rs qs
 
 -- how many rules
-rule-few : (c : ℕ) (l : Atom) → length (rule c l) ≤ 1
+rule_few : (c : ℕ) (l : Atom) → length (rule c l) ≤ 1
 unfolding rule
-rule-few c l = go (eqb c 0)
+rule_few c l = go (eqb c 0)
   where
     go : (b : Bool) → length {A = Rule} (cond b [] (record { condition = c; atom = l } ∷ [])) ≤ 1
     go true = omega arith
@@ -106,52 +106,52 @@ rule-few c l = go (eqb c 0)
 
 module _ (n : ℕ) (twins : List ℕ) where
   twin-few :
-      (v : ℕ) (make : ℕ → List Rule) → ((w : ℕ) → length (make w) ≤ 1) → length (with-twin n twins v make) ≤ 1
-  unfolding with-twin
+      (v : ℕ) (make : ℕ → List Rule) → ((w : ℕ) → length (make w) ≤ 1) → length (with_twin n twins v make) ≤ 1
+  unfolding with_twin
   twin-few v make h = go (ltb (place eqb v twins) (length twins))
     where
       go : (b : Bool) → length (cond b (make (n + place eqb v twins)) []) ≤ 1
       go true = h (n + place eqb v twins)
       go false = omega arith
 
-  pub rules-of-few : (c : Changes) → length (rules-of n twins c) ≤ 4
-  unfolding rules-of
+  pub rules-of-few : (c : Changes) → length (rules_of n twins c) ≤ 4
+  unfolding rules_of
   rules-of-few c =
       let v = c.variable in
       simp length-append
       (omega (
         arith,
-        rule-few c.adds (sets v),
-        rule-few c.deletes (clears v),
-        twin-few v (λ w. rule c.adds (clears w)) (λ w. rule-few c.adds (clears w)),
-        twin-few v (λ w. rule c.deletes (sets w)) (λ w. rule-few c.deletes (sets w)),
+        rule_few c.adds (sets v),
+        rule_few c.deletes (clears v),
+        twin-few v (λ w. rule c.adds (clears w)) (λ w. rule_few c.adds (clears w)),
+        twin-few v (λ w. rule c.deletes (sets w)) (λ w. rule_few c.deletes (sets w)),
       ))
 
   pub rules-few : (cs : List Changes) → length (rules n twins cs) ≤ 4 * length cs
   unfolding rules
   rules-few [] = omega arith
   rules-few (c ∷ cs) =
-      omega (arith, length-append (rules-of n twins c) (rules n twins cs), rules-of-few c, rules-few cs)
+      omega (arith, length-append (rules_of n twins c) (rules n twins cs), rules-of-few c, rules-few cs)
 
   -- operators one after another
   pub assemble-split :
       (w : Assembled) (os ps : List Built)
       → assemble n twins w (os ++ ps) ≡ assemble n twins (assemble n twins w os) ps
   unfolding assemble
-  assemble-split w os ps = foldl-append (assemble-operator n twins) w os ps
+  assemble-split w os ps = foldl-append (assemble_operator n twins) w os ps
 
-  rows_few : (k : ℕ) → rows-of-rules k ≤ 3 * k
-  unfolding rows-of-rules
+  rows_few : (k : ℕ) → rows_of_rules k ≤ 3 * k
+  unfolding rows_of_rules
   rows_few zero = omega arith
   rows_few (suc k) = omega arith
 
   operator-few :
       (w : Assembled) (b : Built)
-      → length (assemble-operator n twins w b).effects ≤ length w.effects + 12 * length b.changes
-  unfolding assemble-operator
+      → length (assemble_operator n twins w b).effects ≤ length w.effects + 12 * length b.changes
+  unfolding assemble_operator
   operator-few w b =
       let rs = rules n twins b.changes in
-      omega (arith, written-length w.effects rs, rows_few (length rs), rules-few b.changes)
+      omega (arith, written_length w.effects rs, rows_few (length rs), rules-few b.changes)
 
   -- twelve rows for each variable of each operator at most
   pub assemble-few :
@@ -162,8 +162,8 @@ module _ (n : ℕ) (twins : List ℕ) where
   assemble-few m w [] none = omega arith
   assemble-few m w (b ∷ bs) (also p ps) =
       omega
-      (arith, assemble-few m (assemble-operator n twins w b) bs ps, operator-few w b, mul-suc (12 * m) (length bs))
+      (arith, assemble-few m (assemble_operator n twins w b) bs ps, operator-few w b, mul-suc (12 * m) (length bs))
 
-upwards-length : {m : ℕ} {cs : List Changes} → Upwards m cs → length cs ≡ m
-upwards-length start = refl
-upwards-length (next {cs = cs} c e u) = omega (arith, length-append cs (c ∷ []), upwards-length u)
+upwards_length : {m : ℕ} {cs : List Changes} → Upwards m cs → length cs ≡ m
+upwards_length start = refl
+upwards_length (next {cs = cs} c e u) = omega (arith, length-append cs (c ∷ []), upwards_length u)

@@ -9,29 +9,29 @@ use lib.ListN.{length, get_or, length-append}
 use Rattle.task.specs.Semantics.{Effect}
 use Rattle.normal_form.specs.Builder.{St, Build, give, bind, each}
 use Rattle.normal_form.specs.Conditions.{Becoming}
-use Rattle.normal_form.specs.Operators.{Changes, changes-of}
+use Rattle.normal_form.specs.Operators.{Changes, changes_of}
 use Rattle.normal_form.proofs.Place.{one_more}
 
-pub each-length : {A : Type 0} (n : ℕ) (f : ℕ → Build A) (s : St) → length (each n f s).value ≡ n
+pub each_length : {A : Type 0} (n : ℕ) (f : ℕ → Build A) (s : St) → length (each n f s).value ≡ n
 unfolding each bind give
-each-length zero f s = refl
-each-length (suc n) f s =
-    length-append (each n f s).value ((f n (each n f s).st).value ∷ []) ∙ rw (each-length n f s) (add-one n)
+each_length zero f s = refl
+each_length (suc n) f s =
+    length-append (each n f s).value ((f n (each n f s).st).value ∷ []) ∙ rw (each_length n f s) (add-one n)
 
 -- what every value of number k keeps, whatever the state
-pub each-values :
+pub each_values :
     {A : Type 0} (P : ℕ → A → Type 0) (d : A) (f : ℕ → Build A)
     → ((k : ℕ) (s : St) → P k (f k s).value)
     → (n : ℕ) (s : St) (k : ℕ)
     → k < n
     → P k (get_or (each n f s).value k d)
 unfolding each bind give
-each-values P d f h zero s k b = absurd (not-suc-le-zero b)
-each-values P d f h (suc n) s k b =
+each_values P d f h zero s k b = absurd (not-suc-le-zero b)
+each_values P d f h (suc n) s k b =
     let l = (each n f s).value in
     let x = (f n (each n f s).st).value in
-    let e = each-length n f s in
-    one_more P d l x (λ i c. each-values P d f h n s i (omega arith)) (rw e (h n (each n f s).st)) k
+    let e = each_length n f s in
+    one_more P d l x (λ i c. each_values P d f h n s i (omega arith)) (rw e (h n (each n f s).st)) k
     (omega (arith, length-append l (x ∷ [])))
 
 -- Changes of the variables below a bound, upwards.
@@ -39,9 +39,9 @@ pub data Upwards : ℕ → List Changes → Type 0 where
   start : Upwards 0 []
   next : {m : ℕ} {cs : List Changes} (c : Changes) → c.variable ≡ m → Upwards m cs → Upwards (suc m) (cs ++ (c ∷ []))
 
-pub changes-upwards :
-    (becomes : Becoming) (m : ℕ) (e : Effect) (s : St) → Upwards m (each m (changes-of becomes e) s).value
-unfolding each bind give changes-of
-changes-upwards becomes zero e s = start
-changes-upwards becomes (suc m) e s =
-    next (changes-of becomes e m (each m (changes-of becomes e) s).st).value refl (changes-upwards becomes m e s)
+pub changes_upwards :
+    (becomes : Becoming) (m : ℕ) (e : Effect) (s : St) → Upwards m (each m (changes_of becomes e) s).value
+unfolding each bind give changes_of
+changes_upwards becomes zero e s = start
+changes_upwards becomes (suc m) e s =
+    next (changes_of becomes e m (each m (changes_of becomes e) s).st).value refl (changes_upwards becomes m e s)

@@ -4,17 +4,17 @@ use native.Mathlib.Omega.{arith}
 use mathlib.Core.List.{List, [], ◌∷◌}
 use lib.ListN.{length, get_or}
 use Rattle.normal_form.specs.Operators.{Changes, Built}
-use Rattle.normal_form.specs.Assembly.{Rule, rules-of, rules, Written, write-rule, write-rules, Assembled, assemble-operator, assemble}
+use Rattle.normal_form.specs.Assembly.{Rule, rules_of, rules, Written, write_rule, write_rules, Assembled, assemble_operator, assemble}
 use Rattle.normal_form.proofs.Growth.{prefix-below}
-use Rattle.normal_form.proofs.ShapeRule.{atom-variable, Fits, Sound, write-sound}
-use Rattle.normal_form.proofs.ShapeWritten.{rules-prefix}
+use Rattle.normal_form.proofs.ShapeRule.{atom_variable, Fits, Sound, write-sound}
+use Rattle.normal_form.proofs.ShapeWritten.{rules_prefix}
 use Rattle.normal_form.proofs.ShapeAssembled.{unwritten}
 use Rattle.normal_form.proofs.ShapeRules.{All, none, also, all_map, rules-of-all, rules-all}
 
 -- the same by places
-pub all-at : {A : Type 0} (P : A → Type 0) (d : A) (l : List A) → ((k : ℕ) → k < length l → P (get_or l k d)) → All P l
-all-at P d [] h = none
-all-at P d (x ∷ xs) h = also (h 0 (omega arith)) (all-at P d xs (λ k b. h (suc k) (omega arith)))
+pub all_at : {A : Type 0} (P : A → Type 0) (d : A) (l : List A) → ((k : ℕ) → k < length l → P (get_or l k d)) → All P l
+all_at P d [] h = none
+all_at P d (x ∷ xs) h = also (h 0 (omega arith)) (all_at P d xs (λ k b. h (suc k) (omega arith)))
 
 -- Changes of one of n source variables, under rows below f.
 pub record ChangesFit (n f : ℕ) (c : Changes) : Type 0 where
@@ -22,39 +22,39 @@ pub record ChangesFit (n f : ℕ) (c : Changes) : Type 0 where
   pub adds : c.adds < f
   pub deletes : c.deletes < f
 
-pub rules-fit :
+pub rules_fit :
     (n f : ℕ) (twins : List ℕ) (cs : List Changes)
     → All (ChangesFit n f) cs
     → All (Fits (n + length twins) f) (rules n twins cs)
-rules-fit n f twins cs h = rules-all (Fits (n + length twins) f) n twins cs (all_map one h)
+rules_fit n f twins cs h = rules-all (Fits (n + length twins) f) n twins cs (all_map one h)
   where
-    one : (c : Changes) → ChangesFit n f c → All (Fits (n + length twins) f) (rules-of n twins c)
+    one : (c : Changes) → ChangesFit n f c → All (Fits (n + length twins) f) (rules_of n twins c)
     one c h =
         rules-of-all (Fits (n + length twins) f) n twins c
-        (record { atom = unfold atom-variable in omega arith; condition = h.adds })
-        (record { atom = unfold atom-variable in omega arith; condition = h.deletes })
+        (record { atom = unfold atom_variable in omega arith; condition = h.adds })
+        (record { atom = unfold atom_variable in omega arith; condition = h.deletes })
         (λ b. (
-          record { atom = unfold atom-variable in omega arith; condition = h.adds },
-          record { atom = unfold atom-variable in omega arith; condition = h.deletes },
+          record { atom = unfold atom_variable in omega arith; condition = h.adds },
+          record { atom = unfold atom_variable in omega arith; condition = h.deletes },
         ))
 
 module _ (v f : ℕ) where
-  pub rules-sound : (w : Written) (rs : List Rule) → All (Fits v f) rs → Sound v f w → Sound v f (write-rules w rs)
-  unfolding write-rules
+  pub rules-sound : (w : Written) (rs : List Rule) → All (Fits v f) rs → Sound v f w → Sound v f (write_rules w rs)
+  unfolding write_rules
   rules-sound w [] none s = s
-  rules-sound w (r ∷ rs) (also p ps) s = rules-sound (write-rule w r) rs ps (write-sound v f w r p s)
+  rules-sound w (r ∷ rs) (also p ps) s = rules-sound (write_rule w r) rs ps (write-sound v f w r p s)
 
   pub assemble-sound :
       (n : ℕ) (twins : List ℕ) (w : Assembled) (os : List Built)
       → All (λ b. All (Fits v f) (rules n twins b.changes)) os
       → Sound v f (unwritten w.effects)
       → Sound v f (unwritten (assemble n twins w os).effects)
-  unfolding assemble assemble-operator
+  unfolding assemble assemble_operator
   assemble-sound n twins w [] none s = s
   assemble-sound n twins w (b ∷ bs) (also p ps) s =
       let rs = rules n twins b.changes in
-      assemble-sound n twins (assemble-operator n twins w b) bs ps
+      assemble-sound n twins (assemble_operator n twins w b) bs ps
       (record {
         down = (rules-sound (unwritten w.effects) rs p s).down;
-        there = prefix-below (rules-prefix (unwritten w.effects) rs) 0 s.there;
+        there = prefix-below (rules_prefix (unwritten w.effects) rs) 0 s.there;
       })

@@ -5,37 +5,37 @@ use native.Mathlib.Decide.{dec_lt}
 use mathlib.Core.Path.{◌≡◌, ◌∙◌}
 use mathlib.Core.List.{[]}
 use lib.ListN.{length, get_or, get_or-eq_default}
-use Rattle.task.specs.Table.{Task, effect-kind}
-use Rattle.task.specs.Rules.{no-operator}
+use Rattle.task.specs.Table.{Task, effect_kind}
+use Rattle.task.specs.Rules.{no_operator}
 use Rattle.task.specs.Semantics.{empty}
-use Rattle.task.specs.Tree.{effect-node, effect-within, effect_of}
-use Rattle.task.specs.Run.{operator-of, effect-of-operator}
+use Rattle.task.specs.Tree.{effect_node, effect_within, effect_of}
+use Rattle.task.specs.Run.{operator_of, effect_of_operator}
 use Rattle.normal_form.specs.Builder.{give, bind, start}
 use Rattle.normal_form.specs.Image.{image}
-use Rattle.normal_form.specs.Operators.{Changes, Built, built-operator, parts}
+use Rattle.normal_form.specs.Operators.{Changes, Built, built_operator, parts}
 use Rattle.normal_form.specs.Assembly.{rules, unassembled}
 use Rattle.normal_form.specs.Finished.{built, assembled, finished}
 use Rattle.normal_form.specs.Flat.{Flat, nothing}
 use Rattle.normal_form.proofs.ShapeWritten.{chain}
-use Rattle.normal_form.proofs.ShapeAssembled.{ground-unassembled, assemble-ground, assemble-length, Operated, operated-all}
-use Rattle.normal_form.proofs.ShapeEach.{each-length, each-values, Upwards, changes-upwards}
+use Rattle.normal_form.proofs.ShapeAssembled.{ground_unassembled, assemble-ground, assemble-length, Operated, operated-all}
+use Rattle.normal_form.proofs.ShapeEach.{each_length, each_values, Upwards, changes_upwards}
 use Rattle.normal_form.proofs.ShapeFlat.{rules-distinct, flat-chain}
 
 -- What stands past the end of what is built.
-abbrev pub no-changes : Changes
-no-changes = record { variable = 0; adds = 0; deletes = 0 }
+abbrev pub no_changes : Changes
+no_changes = record { variable = 0; adds = 0; deletes = 0 }
 
-abbrev pub no-built : Built
-no-built = record { precondition = 0; changes = []; source = no-operator }
+abbrev pub no_built : Built
+no_built = record { precondition = 0; changes = []; source = no_operator }
 
 -- what was built for operator o
-abbrev pub built-at : Task → ℕ → Built
-built-at t o = get_or (built t).value.operators o no-built
+abbrev pub built_at : Task → ℕ → Built
+built_at t o = get_or (built t).value.operators o no_built
 
 module _ (t : Task) where
   pub built-operators : length (built t).value.operators ≡ length t.operators
   unfolding built parts bind give
-  built-operators = each-length (length t.operators) (built-operator t) start
+  built-operators = each_length (length t.operators) (built_operator t) start
 
   pub finished-operators : length (finished t).operators ≡ length t.operators
   unfolding finished assembled unassembled
@@ -47,45 +47,45 @@ module _ (t : Task) where
   pub finished-operator :
       (o : ℕ)
       → o < length t.operators
-      → Operated (length t.initial) (finished t).originals (finished t).formulas (assembled t) o (built-at t o)
+      → Operated (length t.initial) (finished t).originals (finished t).formulas (assembled t) o (built_at t o)
   unfolding finished assembled
   finished-operator o h =
-      operated-all (length t.initial) (built t).st.twins (built t).st.rows (built t).value.operators o no-built
+      operated-all (length t.initial) (built t).st.twins (built t).st.rows (built t).value.operators o no_built
       (rw built-operators h)
 
   pub operator-chain :
       (o : ℕ)
       → o < length t.operators
-      → effect-of-operator (finished t) o
-      ≡ chain (finished t).formulas (rules (length t.initial) (finished t).originals (built-at t o).changes)
-  unfolding finished effect-of-operator operator-of
+      → effect_of_operator (finished t) o
+      ≡ chain (finished t).formulas (rules (length t.initial) (finished t).originals (built_at t o).changes)
+  unfolding finished effect_of_operator operator_of
   operator-chain o h = (finished-operator o h).tree
 
   -- a number that is no operator's has the empty effect
-  pub operator-past : (o : ℕ) → length t.operators ≤ o → effect-of-operator (finished t) o ≡ empty
-  unfolding finished effect-of-operator operator-of effect_of effect-within effect-node effect-kind assembled
+  pub operator-past : (o : ℕ) → length t.operators ≤ o → effect_of_operator (finished t) o ≡ empty
+  unfolding finished effect_of_operator operator_of effect_of effect_within effect_node effect_kind assembled
   operator-past o h =
       rw (
-        get_or-eq_default (finished t).operators no-operator {n = o} (omega (arith, finished-operators)),
-        (assemble-ground (length t.initial) (built t).st.twins unassembled (built t).value.operators ground-unassembled
-            ).empty-row,
+        get_or-eq_default (finished t).operators no_operator {n = o} (omega (arith, finished-operators)),
+        (assemble-ground (length t.initial) (built t).st.twins unassembled (built t).value.operators ground_unassembled
+            ).empty_row,
       )
 
   -- the changes that were built are those of the source variables, upwards
-  pub built-upwards : (o : ℕ) → o < length t.operators → Upwards (length t.initial) (built-at t o).changes
-  unfolding built parts built-operator bind give
+  pub built-upwards : (o : ℕ) → o < length t.operators → Upwards (length t.initial) (built_at t o).changes
+  unfolding built parts built_operator bind give
   built-upwards o h =
-      each-values (λ k b. Upwards (length t.initial) b.changes) no-built (built-operator t)
-      (λ k s. changes-upwards (image (length t.initial)) (length t.initial) (effect-of-operator t k) _)
+      each_values (λ k b. Upwards (length t.initial) b.changes) no_built (built_operator t)
+      (λ k s. changes_upwards (image (length t.initial)) (length t.initial) (effect_of_operator t k) _)
       (length t.operators) start o h
 
-  pub flat : (o : ℕ) → Flat (effect-of-operator (finished t) o)
+  pub flat : (o : ℕ) → Flat (effect_of_operator (finished t) o)
   flat o = go (dec_lt o (length t.operators))
     where
-      go : Dec (o < length t.operators) → Flat (effect-of-operator (finished t) o)
+      go : Dec (o < length t.operators) → Flat (effect_of_operator (finished t) o)
       go (yes h) =
           rw (operator-chain o h)
           (flat-chain (finished t).formulas
-          (rules (length t.initial) (finished t).originals (built-at t o).changes)
+          (rules (length t.initial) (finished t).originals (built_at t o).changes)
           (rules-distinct (length t.initial) (finished t).originals (built-upwards o h) (omega arith)))
       go (no h) = rw (operator-past o (omega arith)) nothing

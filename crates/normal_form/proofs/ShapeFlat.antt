@@ -9,16 +9,16 @@ use lib.Dec.{eqb, ltb}
 use borrow.Author.Tests.{lt-ltb, le-ltb}
 use Rattle.task.specs.Table.{Row}
 use Rattle.task.specs.Semantics.{Formula, Atom, sets, clears, Effect, atomic, both, under}
-use Rattle.task.specs.Tree.{formula-of}
+use Rattle.task.specs.Tree.{formula_of}
 use Rattle.normal_form.specs.Builder.{place}
 use Rattle.normal_form.specs.Operators.{Changes}
-use Rattle.normal_form.specs.Assembly.{Rule, rule, with-twin, rules-of, rules}
+use Rattle.normal_form.specs.Assembly.{Rule, rule, with_twin, rules_of, rules}
 use Rattle.normal_form.specs.Flat.{Conjuncts, one, more, Absent, Distinct, Flat, nothing, conjunctive}
 use Rattle.normal_form.proofs.Place.{place_found}
-use Rattle.normal_form.proofs.ShapeRule.{conjunct, atom-variable}
-use Rattle.normal_form.proofs.ShapeWritten.{chain-on, chain}
+use Rattle.normal_form.proofs.ShapeRule.{conjunct, atom_variable}
+use Rattle.normal_form.proofs.ShapeWritten.{chain_on, chain}
 use Rattle.normal_form.proofs.ShapeEach.{Upwards, start, next}
-use Rattle.normal_form.proofs.ShapeRules.{All, none, also, all_append, all_map, rules-of-all, rules-snoc}
+use Rattle.normal_form.proofs.ShapeRules.{All, none, also, all_append, all_map, rules-of-all, rules_snoc}
 
 -- the atoms of rules, in their order
 abbrev pub atoms : List Rule → List Atom
@@ -29,38 +29,38 @@ module _ (formulas : List Row) where
   conjuncts-on :
       (e : Effect) (ls : List Atom) (rs : List Rule)
       → Conjuncts e ls
-      → Conjuncts (chain-on formulas e rs) (ls ++ atoms rs)
-  unfolding chain-on conjunct
+      → Conjuncts (chain_on formulas e rs) (ls ++ atoms rs)
+  unfolding chain_on conjunct
   conjuncts-on e ls [] c = rw append-nil c
   conjuncts-on e ls (r ∷ rs) c =
       rw append_assoc at
       (conjuncts-on (both e (conjunct formulas r)) (ls ++ (r.atom ∷ [])) rs
-      (more c (one (formula-of formulas r.condition) r.atom)))
+      (more c (one (formula_of formulas r.condition) r.atom)))
 
   pub flat-chain : (rs : List Rule) → Distinct (atoms rs) → Flat (chain formulas rs)
   unfolding chain conjunct
   flat-chain [] d = nothing
   flat-chain (r ∷ rs) d =
       conjunctive
-      (conjuncts-on (conjunct formulas r) (r.atom ∷ []) rs (one (formula-of formulas r.condition) r.atom)) d
+      (conjuncts-on (conjunct formulas r) (r.atom ∷ []) rs (one (formula_of formulas r.condition) r.atom)) d
 
-set-not-clear : (v w : ℕ) → sets v ≡ clears w → ⊥
-set-not-clear v w e =
+set_not_clear : (v w : ℕ) → sets v ≡ clears w → ⊥
+set_not_clear v w e =
     let z : ◌≡◌ {A = ℕ} 0 1 = cc in
     omega arith
 
-clear-not-set : (v w : ℕ) → clears v ≡ sets w → ⊥
-clear-not-set v w e = set-not-clear w v (sym e)
+clear_not_set : (v w : ℕ) → clears v ≡ sets w → ⊥
+clear_not_set v w e = set_not_clear w v (sym e)
 
-sets-differ : (v w : ℕ) → (v ≡ w → ⊥) → sets v ≡ sets w → ⊥
-sets-differ v w n e = n (cc)
+sets_differ : (v w : ℕ) → (v ≡ w → ⊥) → sets v ≡ sets w → ⊥
+sets_differ v w n e = n (cc)
 
-clears-differ : (v w : ℕ) → (v ≡ w → ⊥) → clears v ≡ clears w → ⊥
-clears-differ v w n e = n (cc)
+clears_differ : (v w : ℕ) → (v ≡ w → ⊥) → clears v ≡ clears w → ⊥
+clears_differ v w n e = n (cc)
 
-absent-append : (l : Atom) (rs qs : List Rule) → Absent l (atoms rs) → Absent l (atoms qs) → Absent l (atoms (rs ++ qs))
-absent-append l [] qs p q = q
-absent-append l (r ∷ rs) qs p q = (p.0, absent-append l rs qs p.1 q)
+absent_append : (l : Atom) (rs qs : List Rule) → Absent l (atoms rs) → Absent l (atoms qs) → Absent l (atoms (rs ++ qs))
+absent_append l [] qs p q = q
+absent_append l (r ∷ rs) qs p q = (p.0, absent_append l rs qs p.1 q)
 
 module _ (n : ℕ) (twins : List ℕ) where
   -- the source variable that variable x is or is the twin of
@@ -79,24 +79,24 @@ module _ (n : ℕ) (twins : List ℕ) where
       rw (le-ltb (n + k) n (omega arith), e) (place_found v twins h)
 
   abbrev owner_of : Rule → ℕ
-  owner_of r = owner (atom-variable r.atom)
+  owner_of r = owner (atom_variable r.atom)
 
   -- the rules of one variable are its own
-  rules-of-owned : (c : Changes) → c.variable < n → All (λ r. owner_of r ≡ c.variable) (rules-of n twins c)
-  unfolding atom-variable
+  rules-of-owned : (c : Changes) → c.variable < n → All (λ r. owner_of r ≡ c.variable) (rules_of n twins c)
+  unfolding atom_variable
   rules-of-owned c h =
       rules-of-all (λ r. owner_of r ≡ c.variable) n twins c (owner-own c.variable h) (owner-own c.variable h)
       (λ b. (owner-twin c.variable b, owner-twin c.variable b))
 
   absent-owned :
       (l : Atom) (m : ℕ) {rs : List Rule}
-      → owner (atom-variable l) < m
+      → owner (atom_variable l) < m
       → All (λ r. owner_of r ≡ m) rs
       → Absent l (atoms rs)
   absent-owned l m h none = tt
   absent-owned l m h (also {x = r} p ps) = (
     λ e.
-        let q : owner (atom-variable l) ≡ owner_of r = ap (λ (a : Atom). owner (atom-variable a)) e in
+        let q : owner (atom_variable l) ≡ owner_of r = ap (λ (a : Atom). owner (atom_variable a)) e in
         omega arith,
     absent-owned l m h ps,
   )
@@ -110,11 +110,11 @@ module _ (n : ℕ) (twins : List ℕ) where
       → Distinct (atoms (rs ++ qs))
   distinct_append m [] qs none q d e = e
   distinct_append m (r ∷ rs) qs (also p ps) q d e =
-      (absent-append r.atom rs qs d.0 (absent-owned r.atom m p q), distinct_append m rs qs ps q d.1 e)
+      (absent_append r.atom rs qs d.0 (absent-owned r.atom m p q), distinct_append m rs qs ps q d.1 e)
 
   -- a variable's rules: set it, clear its twin, clear it, set its twin, each at most once
-  rules-of-distinct : (c : Changes) → c.variable < n → Distinct (atoms (rules-of n twins c))
-  unfolding rules-of rule with-twin
+  rules-of-distinct : (c : Changes) → c.variable < n → Distinct (atoms (rules_of n twins c))
+  unfolding rules_of rule with_twin
   rules-of-distinct c h = go (eqb c.adds 0) (eqb c.deletes 0) (ltb (place eqb c.variable twins) (length twins))
     where
       v : ℕ
@@ -136,15 +136,15 @@ module _ (n : ℕ) (twins : List ℕ) where
           ++ cond t (cond d [] (record { condition = c.deletes; atom = sets w } ∷ [])) []))))
       go true true true = tt
       go true true false = tt
-      go true false true = ((clear-not-set v w, tt), (tt, tt))
+      go true false true = ((clear_not_set v w, tt), (tt, tt))
       go true false false = (tt, tt)
-      go false true true = ((set-not-clear v w, tt), (tt, tt))
+      go false true true = ((set_not_clear v w, tt), (tt, tt))
       go false true false = (tt, tt)
       go false false true = (
-        (set-not-clear v w, (set-not-clear v v, (sets-differ v w other, tt))),
-        ((clears-differ w v (λ e. other (sym e)), (clear-not-set w w, tt)), ((clear-not-set v w, tt), (tt, tt))),
+        (set_not_clear v w, (set_not_clear v v, (sets_differ v w other, tt))),
+        ((clears_differ w v (λ e. other (sym e)), (clear_not_set w w, tt)), ((clear_not_set v w, tt), (tt, tt))),
       )
-      go false false false = ((set-not-clear v v, tt), (tt, tt))
+      go false false false = ((set_not_clear v v, tt), (tt, tt))
 
   -- all rules of the variables below m: none is of m
   record Apart (m : ℕ) (rs : List Rule) : Type 0 where
@@ -156,15 +156,15 @@ module _ (n : ℕ) (twins : List ℕ) where
       → c.variable ≡ m
       → m < n
       → Apart m (rules n twins cs)
-      → Apart (suc m) (rules n twins cs ++ rules-of n twins c)
+      → Apart (suc m) (rules n twins cs ++ rules_of n twins c)
   apart_next m cs c e h a =
-      let own : All (λ r. owner_of r ≡ m) (rules-of n twins c) =
+      let own : All (λ r. owner_of r ≡ m) (rules_of n twins c) =
       all_map (λ r q. q ∙ e) (rules-of-owned c (omega arith))
       in
       record {
         below = all_append (all_map (λ r q. omega arith) a.below) (all_map (λ r q. omega arith) own);
         once =
-            distinct_append m (rules n twins cs) (rules-of n twins c) a.below own a.once
+            distinct_append m (rules n twins cs) (rules_of n twins c) a.below own a.once
             (rules-of-distinct c (omega arith));
       }
 
@@ -172,7 +172,7 @@ module _ (n : ℕ) (twins : List ℕ) where
   unfolding rules
   rules-apart start h = record { below = none; once = tt }
   rules-apart (next {m = m} {cs = cs} c e u) h =
-      rw (rules-snoc n twins cs c) (apart_next m cs c e (omega arith) (rules-apart u (omega arith)))
+      rw (rules_snoc n twins cs c) (apart_next m cs c e (omega arith) (rules-apart u (omega arith)))
 
   pub rules-distinct : {m : ℕ} {cs : List Changes} → Upwards m cs → m ≤ n → Distinct (atoms (rules n twins cs))
   rules-distinct u h = (rules-apart u h).once

@@ -21,72 +21,72 @@ sum zero f = 0
 sum (suc n) f = sum n f + f n
 
 -- how often v stands in a list
-one-if : ℕ → ℕ → ℕ
-one-if x v = cond (eqb x v) 1 0
+one_if : ℕ → ℕ → ℕ
+one_if x v = cond (eqb x v) 1 0
 
-one-other : (x v : ℕ) → (x ≡ v → ⊥) → one-if x v ≡ 0
-unfolding one-if
-one-other x v n = rw (ne_eqb x v n)
+one_other : (x v : ℕ) → (x ≡ v → ⊥) → one_if x v ≡ 0
+unfolding one_if
+one_other x v n = rw (ne_eqb x v n)
 
-one_same : (x v : ℕ) → x ≡ v → one-if x v ≡ 1
-unfolding one-if
+one_same : (x v : ℕ) → x ≡ v → one_if x v ≡ 1
+unfolding one_if
 one_same x v e = rw (eq-eqb x v e)
 
 count : ℕ → List ℕ → ℕ
 count v [] = 0
-count v (x ∷ xs) = one-if x v + count v xs
+count v (x ∷ xs) = one_if x v + count v xs
 
-sum-none : (n : ℕ) → sum n (λ v. 0) ≡ 0
+sum_none : (n : ℕ) → sum n (λ v. 0) ≡ 0
 unfolding sum
-sum-none zero = refl
-sum-none (suc n) = omega (arith, sum-none n)
+sum_none zero = refl
+sum_none (suc n) = omega (arith, sum_none n)
 
 sum_both : (n : ℕ) (f g : ℕ → ℕ) → sum n (λ v. f v + g v) ≡ sum n f + sum n g
 unfolding sum
 sum_both zero f g = refl
 sum_both (suc n) f g = omega (arith, sum_both n f g)
 
-sum_past : (n x : ℕ) → n ≤ x → sum n (one-if x) ≡ 0
+sum_past : (n x : ℕ) → n ≤ x → sum n (one_if x) ≡ 0
 unfolding sum
 sum_past zero x h = refl
-sum_past (suc n) x h = omega (arith, one-other x n (λ e. omega arith), sum_past n x (omega arith))
+sum_past (suc n) x h = omega (arith, one_other x n (λ e. omega arith), sum_past n x (omega arith))
 
-sum_one : (n x : ℕ) → x < n → sum n (one-if x) ≡ 1
+sum_one : (n x : ℕ) → x < n → sum n (one_if x) ≡ 1
 unfolding sum
 sum_one zero x h = absurd (not-suc-le-zero h)
 sum_one (suc n) x h = go (dec_lt x n) (sum_one n x)
   where
-    go : Dec (x < n) → (x < n → sum n (one-if x) ≡ 1) → sum n (one-if x) + one-if x n ≡ 1
-    go (yes l) more = omega (arith, one-other x n (λ e. omega arith), more l)
+    go : Dec (x < n) → (x < n → sum n (one_if x) ≡ 1) → sum n (one_if x) + one_if x n ≡ 1
+    go (yes l) more = omega (arith, one_other x n (λ e. omega arith), more l)
     go (no l) more = omega (arith, one_same x n (omega arith), sum_past n x (omega arith))
 
 -- each number of a list is counted once
-sum-counts : (n : ℕ) (l : List ℕ) → ((k : ℕ) → k < length l → get_or l k 0 < n) → sum n (λ v. count v l) ≡ length l
+sum_counts : (n : ℕ) (l : List ℕ) → ((k : ℕ) → k < length l → get_or l k 0 < n) → sum n (λ v. count v l) ≡ length l
 unfolding count
-sum-counts n [] h = sum-none n
-sum-counts n (x ∷ xs) h =
-    sum_both n (one-if x) (λ v. count v xs)
-    ∙ omega (arith, sum_one n x (h 0 (omega arith)), sum-counts n xs (λ k b. h (suc k) (omega arith)))
+sum_counts n [] h = sum_none n
+sum_counts n (x ∷ xs) h =
+    sum_both n (one_if x) (λ v. count v xs)
+    ∙ omega (arith, sum_one n x (h 0 (omega arith)), sum_counts n xs (λ k b. h (suc k) (omega arith)))
 
-sum-few : (n : ℕ) (f : ℕ → ℕ) → ((v : ℕ) → f v ≤ 1) → sum n f ≤ n
+sum_few : (n : ℕ) (f : ℕ → ℕ) → ((v : ℕ) → f v ≤ 1) → sum n f ≤ n
 unfolding sum
-sum-few zero f h = omega arith
-sum-few (suc n) f h = omega (arith, sum-few n f h, h n)
+sum_few zero f h = omega arith
+sum_few (suc n) f h = omega (arith, sum_few n f h, h n)
 
 count_none : (v : ℕ) (l : List ℕ) → ((k : ℕ) → k < length l → get_or l k 0 ≡ v → ⊥) → count v l ≡ 0
 unfolding count
 count_none v [] h = refl
 count_none v (x ∷ xs) h =
-    omega (arith, one-other x v (h 0 (omega arith)), count_none v xs (λ k b. h (suc k) (omega arith)))
+    omega (arith, one_other x v (h 0 (omega arith)), count_none v xs (λ k b. h (suc k) (omega arith)))
 
 -- each of a list at one place only
 abbrev pub Once : List ℕ → Type 0
 Once l = (j k : ℕ) → j < k → k < length l → get_or l j 0 ≡ get_or l k 0 → ⊥
 
-count-once : (v : ℕ) (l : List ℕ) → Once l → count v l ≤ 1
-unfolding count one-if
-count-once v [] once = omega arith
-count-once v (x ∷ xs) once = go (eqb x v) refl (count-once v xs (λ j k l b. once (suc j) (suc k) (omega arith) (omega arith)))
+count_once : (v : ℕ) (l : List ℕ) → Once l → count v l ≤ 1
+unfolding count one_if
+count_once v [] once = omega arith
+count_once v (x ∷ xs) once = go (eqb x v) refl (count_once v xs (λ j k l b. once (suc j) (suc k) (omega arith) (omega arith)))
   where
     go : (b : Bool) → eqb x v ≡ b → count v xs ≤ 1 → cond b 1 0 + count v xs ≤ 1
     go true e h =
@@ -97,32 +97,32 @@ count-once v (x ∷ xs) once = go (eqb x v) refl (count-once v xs (λ j k l b. o
     go false e h = omega arith
 
 -- numbers below n, each once, are at most n
-pub once-few : (n : ℕ) (l : List ℕ) → ((k : ℕ) → k < length l → get_or l k 0 < n) → Once l → length l ≤ n
-once-few n l below once =
-    rw (sum-counts n l below) at (sum-few n (λ v. count v l) (λ v. count-once v l once))
+pub once_few : (n : ℕ) (l : List ℕ) → ((k : ℕ) → k < length l → get_or l k 0 < n) → Once l → length l ≤ n
+once_few n l below once =
+    rw (sum_counts n l below) at (sum_few n (λ v. count v l) (λ v. count_once v l once))
 
-pub twins-few : (t : Task) → Checked t → length (finished t).originals ≤ length t.initial
+pub twins_few : (t : Task) → Checked t → length (finished t).originals ≤ length t.initial
 unfolding finished
-twins-few t source =
+twins_few t source =
     let f = finished-fine t source in
-    once-few (length t.initial) (built t).st.twins f.twin-below f.twin-once
+    once_few (length t.initial) (built t).st.twins f.twin_below f.twin_once
 
-pub finished-limits :
+pub finished_limits :
     (t : Task)
     → Checked t
     → length t.initial + length (finished t).originals ≤ 512
     → length (finished t).formulas ≤ 4096
     → length (finished t).effects ≤ 4096
     → Limits (finished t)
-finished-limits t source v f e =
+finished_limits t source v f e =
     record {
       variables = omega (arith, finished-variables t);
-      twins = omega (arith, finished-variables t, twins-few t source);
-      one-formula = two-rows;
+      twins = omega (arith, finished-variables t, twins_few t source);
+      one_formula = two_rows;
       formulas = f;
       effects = e;
       operators = omega (arith, finished-operators t, source.limits.operators);
     }
   where
-    two-rows : 1 ≤ length (finished t).formulas
-    two-rows = unfold finished in omega (arith, (finished-fine t source).two)
+    two_rows : 1 ≤ length (finished t).formulas
+    two_rows = unfold finished in omega (arith, (finished-fine t source).two)

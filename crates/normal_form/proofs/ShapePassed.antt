@@ -6,57 +6,57 @@ use mathlib.Core.Path.{◌≡◌, refl, ap, ◌∙◌}
 use mathlib.Core.List.{List, [], ◌∷◌, ◌++◌}
 use lib.ListN.{length, get_or, length-append, get_or-append}
 use lib.Seq.{get_or-append-add}
-use Rattle.task.specs.Table.{Operator, Task, effect-kind}
+use Rattle.task.specs.Table.{Operator, Task, effect_kind}
 use Rattle.task.specs.Check.{refusal}
-use Rattle.task.specs.Rules.{no-operator, OperatorRule, Limits, Checked}
+use Rattle.task.specs.Rules.{no_operator, OperatorRule, Limits, Checked}
 use Rattle.task.specs.Words.{lent_of}
-use Rattle.task.proofs.Down.{effects-none, effects-more}
+use Rattle.task.proofs.Down.{effects_none, effects_more}
 use Rattle.task.specs.Inner.Rows.{EffectsDown}
-use Rattle.task.specs.Run.{operator-of}
-use Rattle.task.proofs.Words.{lent-kept}
+use Rattle.task.specs.Run.{operator_of}
+use Rattle.task.proofs.Words.{lent_kept}
 use Rattle.normal_form.specs.Assembly.{rules, unassembled}
-use Rattle.normal_form.specs.Finished.{built, assembled, twin-values, finished}
+use Rattle.normal_form.specs.Finished.{built, assembled, twin_values, finished}
 use Rattle.normal_form.specs.Positive.{Positive, PositiveTask}
 use Rattle.normal_form.proofs.Fine.{PositiveKind, Fine}
 use Rattle.normal_form.proofs.MeaningParts.{good-parts}
 use Rattle.normal_form.proofs.ShapeRule.{Fits}
 use Rattle.normal_form.proofs.ShapeRules.{All}
-use Rattle.normal_form.proofs.ShapeEffects.{all-at, ChangesFit, rules-fit, assemble-sound}
+use Rattle.normal_form.proofs.ShapeEffects.{all_at, ChangesFit, rules_fit, assemble-sound}
 use Rattle.normal_form.proofs.ShapePositive.{positive-task}
-use Rattle.normal_form.proofs.ShapeFinished.{no-changes, no-built, built-at, built-operators, finished-operators, finished-operator}
+use Rattle.normal_form.proofs.ShapeFinished.{no_changes, no_built, built_at, built-operators, finished-operators, finished-operator}
 
 -- a twin's value is 0 or 1
-twin-bit : (initial twins : List ℕ) (k : ℕ) → get_or (twin-values initial twins) k 0 ≤ 1
-unfolding twin-values
-twin-bit initial [] k = omega arith
-twin-bit initial (v ∷ twins) zero = omega arith
-twin-bit initial (v ∷ twins) (suc k) = twin-bit initial twins k
+twin_bit : (initial twins : List ℕ) (k : ℕ) → get_or (twin_values initial twins) k 0 ≤ 1
+unfolding twin_values
+twin_bit initial [] k = omega arith
+twin_bit initial (v ∷ twins) zero = omega arith
+twin_bit initial (v ∷ twins) (suc k) = twin_bit initial twins k
 
-twins-length : (initial twins : List ℕ) → length (twin-values initial twins) ≡ length twins
-unfolding twin-values
-twins-length initial [] = refl
-twins-length initial (v ∷ twins) = ap suc (twins-length initial twins)
+twins_length : (initial twins : List ℕ) → length (twin_values initial twins) ≡ length twins
+unfolding twin_values
+twins_length initial [] = refl
+twins_length initial (v ∷ twins) = ap suc (twins_length initial twins)
 
 bits :
     (initial twins : List ℕ)
     → ((v : ℕ) → v < length initial → get_or initial v 0 ≤ 1)
     → (v : ℕ)
-    → get_or (initial ++ twin-values initial twins) v 0 ≤ 1
+    → get_or (initial ++ twin_values initial twins) v 0 ≤ 1
 bits initial twins h v = go (dec_lt v (length initial))
   where
-    go : Dec (v < length initial) → get_or (initial ++ twin-values initial twins) v 0 ≤ 1
-    go (yes b) = rw (get_or-append initial (twin-values initial twins) 0 v b) (h v b)
+    go : Dec (v < length initial) → get_or (initial ++ twin_values initial twins) v 0 ≤ 1
+    go (yes b) = rw (get_or-append initial (twin_values initial twins) 0 v b) (h v b)
     go (no b) =
         let k = v - length initial in
         let e : v ≡ length initial + k = omega arith in
-        rw (e, get_or-append-add initial (twin-values initial twins) k 0) (twin-bit initial twins k)
+        rw (e, get_or-append-add initial (twin_values initial twins) k 0) (twin_bit initial twins k)
 
 module _ (t : Task) where
   pub finished-variables : length (finished t).initial ≡ length t.initial + length (finished t).originals
   unfolding finished
   finished-variables =
-      length-append t.initial (twin-values t.initial (built t).st.twins)
-      ∙ ap (λ (k : ℕ). length t.initial + k) (twins-length t.initial (built t).st.twins)
+      length-append t.initial (twin_values t.initial (built t).st.twins)
+      ∙ ap (λ (k : ℕ). length t.initial + k) (twins_length t.initial (built t).st.twins)
 
 module _ (t : Task) (source : Checked t) where
   abbrev n : ℕ
@@ -69,31 +69,31 @@ module _ (t : Task) (source : Checked t) where
   built-fit :
       All (λ b. All (Fits (n + length (built t).st.twins) (length (built t).st.rows)) (rules n (built t).st.twins b.changes))
       (built t).value.operators
-  built-fit = all-at _ no-built (built t).value.operators each-operator
+  built-fit = all_at _ no_built (built t).value.operators each-operator
     where
       each-operator :
           (o : ℕ)
           → o < length (built t).value.operators
           → All (Fits (n + length (built t).st.twins) (length (built t).st.rows))
-          (rules n (built t).st.twins (built-at t o).changes)
+          (rules n (built t).st.twins (built_at t o).changes)
       each-operator o h =
-          let b = (good-parts t source).value.operators.at no-built o (rw (built-operators t) at h) in
-          rules-fit n (length (built t).st.rows) (built t).st.twins (built-at t o).changes
-          (all-at (ChangesFit n (length (built t).st.rows)) no-changes (built-at t o).changes
+          let b = (good-parts t source).value.operators.at no_built o (rw (built-operators t) at h) in
+          rules_fit n (length (built t).st.rows) (built t).st.twins (built_at t o).changes
+          (all_at (ChangesFit n (length (built t).st.rows)) no_changes (built_at t o).changes
           (λ v l.
           let below : v < n = omega (arith, b.changes.count) in
-          let c = b.changes.at no-changes v below in
+          let c = b.changes.at no_changes v below in
           record { variable = rw c.variable below; adds = c.adds.below; deletes = c.deletes.below }))
 
   finished-effects : EffectsDown (n + length (built t).st.twins) (length (built t).st.rows) (assembled t).effects
-  unfolding assembled unassembled effect-kind
+  unfolding assembled unassembled effect_kind
   finished-effects =
       (assemble-sound (n + length (built t).st.twins) (length (built t).st.rows) n (built t).st.twins unassembled
       (built t).value.operators built-fit
       (record {
         down =
-            effects-more (n + length (built t).st.twins) (length (built t).st.rows) []
-            (record { kind = 0; a = 0; b = 0 }) (effects-none (n + length (built t).st.twins) (length (built t).st.rows))
+            effects_more (n + length (built t).st.twins) (length (built t).st.rows) []
+            (record { kind = 0; a = 0; b = 0 }) (effects_none (n + length (built t).st.twins) (length (built t).st.rows))
             (refl, refl);
         there = omega arith;
       })
@@ -109,16 +109,16 @@ module _ (t : Task) (source : Checked t) where
   finished-operator-rule :
       (o : ℕ)
       → o < length (assembled t).operators
-      → OperatorRule (length (built t).st.rows) (length (assembled t).effects) (get_or (assembled t).operators o no-operator)
-  unfolding finished operator-of
+      → OperatorRule (length (built t).st.rows) (length (assembled t).effects) (get_or (assembled t).operators o no_operator)
+  unfolding finished operator_of
   finished-operator-rule o h =
       let b : o < length t.operators = rw (finished-operators t) at h in
       let w = finished-operator t o b in
       record {
-        formula = rw w.precondition ((good-parts t source).value.operators.at no-built o b).precondition.below;
+        formula = rw w.precondition ((good-parts t source).value.operators.at no_built o b).precondition.below;
         changes = w.there;
         percent =
-            rw (w.percent ∙ ap (λ (x : Operator). x.percent) ((good-parts t source).value.operators.at no-built o b).source)
+            rw (w.percent ∙ ap (λ (x : Operator). x.percent) ((good-parts t source).value.operators.at no_built o b).source)
             (source.operator o b).percent;
       }
 
@@ -130,14 +130,14 @@ module _ (t : Task) (source : Checked t) where
       let width = finished-variables t in
       record {
         limits = limits;
-        goal-is-formula = parts.goal.below;
-        initial-bits = λ v h. bits t.initial (built t).st.twins source.initial-bits v;
+        goal_is_formula = parts.goal.below;
+        initial_bits = λ v h. bits t.initial (built t).st.twins source.initial_bits v;
         twin =
-            λ k h. record { below = omega (arith, fine.twin-below k h); once = λ j lower. fine.twin-once j k lower h };
+            λ k h. record { below = omega (arith, fine.twin_below k h); once = λ j lower. fine.twin_once j k lower h };
         formula = λ i h. rw width (fine.down.row i h);
         effect = λ i h. rw width (finished-effects.row i h);
         operator = finished-operator-rule;
       }
 
   pub finished-passes : Limits (finished t) → refusal (lent_of (finished t)) ≡ 0
-  finished-passes limits = lent-kept (finished t) (finished-rules limits)
+  finished-passes limits = lent_kept (finished t) (finished-rules limits)

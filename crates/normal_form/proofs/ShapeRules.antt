@@ -9,7 +9,7 @@ use borrow.Author.Tests.{ltb-true}
 use Rattle.task.specs.Semantics.{Atom, sets, clears}
 use Rattle.normal_form.specs.Builder.{place}
 use Rattle.normal_form.specs.Operators.{Changes}
-use Rattle.normal_form.specs.Assembly.{Rule, rule, with-twin, rules-of, rules}
+use Rattle.normal_form.specs.Assembly.{Rule, rule, with_twin, rules_of, rules}
 
 -- each of a list
 pub data All {A : Type 0} (P : A → Type 0) : List A → Type 0 where
@@ -36,8 +36,8 @@ module _ (P : Rule → Type 0) where
   twin-all :
       (n : ℕ) (twins : List ℕ) (v : ℕ) (make : ℕ → List Rule)
       → (place eqb v twins < length twins → All P (make (n + place eqb v twins)))
-      → All P (with-twin n twins v make)
-  unfolding with-twin
+      → All P (with_twin n twins v make)
+  unfolding with_twin
   twin-all n twins v make p = go (ltb (place eqb v twins) (length twins)) refl
     where
       go :
@@ -55,8 +55,8 @@ module _ (P : Rule → Type 0) where
       k < length twins
       → P (record { condition = c.adds; atom = clears (n + k) })
       × P (record { condition = c.deletes; atom = sets (n + k) }))
-      → All P (rules-of n twins c)
-  unfolding rules-of
+      → All P (rules_of n twins c)
+  unfolding rules_of
   rules-of-all n twins c p q t =
       let w = n + place eqb c.variable twins in
       all_append (rule-all c.adds (sets c.variable) p)
@@ -66,16 +66,16 @@ module _ (P : Rule → Type 0) where
 
   pub rules-all :
       (n : ℕ) (twins : List ℕ) (cs : List Changes)
-      → All (λ c. All P (rules-of n twins c)) cs
+      → All (λ c. All P (rules_of n twins c)) cs
       → All P (rules n twins cs)
   unfolding rules
   rules-all n twins [] none = none
   rules-all n twins (c ∷ cs) (also p ps) = all_append p (rules-all n twins cs ps)
 
 -- the rules of one more variable
-pub rules-snoc :
+pub rules_snoc :
     (n : ℕ) (twins : List ℕ) (cs : List Changes) (c : Changes)
-    → rules n twins (cs ++ (c ∷ [])) ≡ rules n twins cs ++ rules-of n twins c
+    → rules n twins (cs ++ (c ∷ [])) ≡ rules n twins cs ++ rules_of n twins c
 unfolding rules
-rules-snoc n twins [] c = append-nil (rules-of n twins c)
-rules-snoc n twins (d ∷ cs) c = rw (rules-snoc n twins cs c, append_assoc)
+rules_snoc n twins [] c = append-nil (rules_of n twins c)
+rules_snoc n twins (d ∷ cs) c = rw (rules_snoc n twins cs c, append_assoc)

@@ -7,112 +7,112 @@ use mathlib.Core.Path.{◌≡◌}
 use lib.ListN.{length}
 use Rattle.task.specs.Table.{Task}
 use Rattle.task.specs.Semantics.{Formula, Effect, sets, clears}
-use Rattle.task.specs.Tree.{formula-of}
-use Rattle.task.specs.Run.{operator-of, effect-of-operator}
+use Rattle.task.specs.Tree.{formula_of}
+use Rattle.task.specs.Run.{operator_of, effect_of_operator}
 use Rattle.normal_form.specs.Builder.{St, Build, give, bind, each, start, Polarity, plain}
 use Rattle.normal_form.specs.Growth.{Grows, Steady}
 use Rattle.normal_form.specs.Image.{image}
 use Rattle.normal_form.specs.Conditions.{Becoming, condition}
-use Rattle.normal_form.specs.Operators.{Changes, changes-of, built-operator, parts}
+use Rattle.normal_form.specs.Operators.{Changes, changes_of, built_operator, parts}
 use Rattle.normal_form.specs.Finished.{built, finished}
-use Rattle.normal_form.proofs.Growth.{longer, grows-refl, grows-trans, steady-give, steady-bind}
-use Rattle.normal_form.proofs.Steady.{steady-image, steady-condition, steady-deletes, steady-changes, steady-operator}
+use Rattle.normal_form.proofs.Growth.{longer, grows_refl, grows_trans, steady_give, steady_bind}
+use Rattle.normal_form.proofs.Steady.{steady_image, steady-condition, steady-deletes, steady-changes, steady_operator}
 
 -- No more rows and no more twins.
 pub record Fewer (s t : St) : Type 0 where
   pub rows : length s.rows ≤ length t.rows
   pub twins : length s.twins ≤ length t.twins
 
-pub grows-fewer : {s t : St} → Grows s t → Fewer s t
-grows-fewer {s} {t} g = record { rows = longer s.rows t.rows g.rows; twins = longer s.twins t.twins g.twins }
+pub grows_fewer : {s t : St} → Grows s t → Fewer s t
+grows_fewer {s} {t} g = record { rows = longer s.rows t.rows g.rows; twins = longer s.twins t.twins g.twins }
 
 -- after the first of two steps
-pub bind-grows :
+pub bind_grows :
     {A B : Type 0} (m : Build A) (f : A → Build B) (s : St)
     → ((x : A) → Steady (f x))
     → Grows (m s).st (bind m f s).st
 unfolding bind
-bind-grows m f s h = (h (m s).value).grow (m s).st
+bind_grows m f s h = (h (m s).value).grow (m s).st
 
 -- before number k of n
-pub each-grows :
+pub each_grows :
     {A : Type 0} (f : ℕ → Build A) (s : St)
     → ((k : ℕ) → Steady (f k))
     → (k n : ℕ)
     → k ≤ n
     → Grows (each k f s).st (each n f s).st
 unfolding each bind give
-each-grows f s h k zero b =
+each_grows f s h k zero b =
     let e : k ≡ 0 = omega arith in
-    rw e (grows-refl s)
-each-grows f s h k (suc n) b = go (dec_le k n) (each-grows f s h k n)
+    rw e (grows_refl s)
+each_grows f s h k (suc n) b = go (dec_le k n) (each_grows f s h k n)
   where
     go : Dec (k ≤ n) → (k ≤ n → Grows (each k f s).st (each n f s).st) → Grows (each k f s).st (f n (each n f s).st).st
-    go (yes c) more = grows-trans (more c) ((h n).grow (each n f s).st)
+    go (yes c) more = grows_trans (more c) ((h n).grow (each n f s).st)
     go (no c) more =
         let e : k ≡ suc n = omega arith in
-        rw e (grows-refl (f n (each n f s).st).st)
+        rw e (grows_refl (f n (each n f s).st).st)
 
 -- The moments of building one variable's changes, an operator, and the task.
 module _ (becomes : Becoming) (steady : (p : Polarity) (f : Formula) → Steady (becomes p f)) (e : Effect) (v : ℕ) (s : St) where
   -- after A
-  pub adds-grows : Grows (condition becomes plain (sets v) e s).st (changes-of becomes e v s).st
-  unfolding changes-of
+  pub adds-grows : Grows (condition becomes plain (sets v) e s).st (changes_of becomes e v s).st
+  unfolding changes_of
   adds-grows =
-      bind-grows (condition becomes plain (sets v) e) _ s
+      bind_grows (condition becomes plain (sets v) e) _ s
       (λ a.
-      steady-bind (steady-condition becomes steady plain (clears v) e)
-      (λ d. steady-bind (steady-deletes becomes steady e v a d) (λ k. steady-give _)))
+      steady_bind (steady-condition becomes steady plain (clears v) e)
+      (λ d. steady_bind (steady-deletes becomes steady e v a d) (λ k. steady_give _)))
 
   -- after D, before it is freed of A
   pub deletes-grows :
-      Grows (condition becomes plain (clears v) e (condition becomes plain (sets v) e s).st).st (changes-of becomes e v s).st
-  unfolding changes-of bind
+      Grows (condition becomes plain (clears v) e (condition becomes plain (sets v) e s).st).st (changes_of becomes e v s).st
+  unfolding changes_of bind
   deletes-grows =
       let a = condition becomes plain (sets v) e s in
-      bind-grows (condition becomes plain (clears v) e) _ a.st
+      bind_grows (condition becomes plain (clears v) e) _ a.st
       (λ d.
-      steady-bind (steady-deletes becomes steady e v a.value d)
-      (λ k. steady-give (record { variable = v; adds = a.value; deletes = k })))
+      steady_bind (steady-deletes becomes steady e v a.value d)
+      (λ k. steady_give (record { variable = v; adds = a.value; deletes = k })))
 
 module _ (t : Task) where
   abbrev variables : ℕ
   variables = length t.initial
 
-  abbrev precondition-of : ℕ → Build ℕ
-  precondition-of o = image (length t.initial) plain (formula-of t.formulas (operator-of t o).precondition)
+  abbrev precondition_of : ℕ → Build ℕ
+  precondition_of o = image (length t.initial) plain (formula_of t.formulas (operator_of t o).precondition)
 
-  abbrev changes-at : ℕ → ℕ → Build Changes
-  changes-at o = changes-of (image (length t.initial)) (effect-of-operator t o)
+  abbrev changes_at : ℕ → ℕ → Build Changes
+  changes_at o = changes_of (image (length t.initial)) (effect_of_operator t o)
 
   -- in operator o, before variable v; before variable 0 stands the precondition
   pub variable-grows :
       (o v : ℕ) (s : St)
       → v ≤ length t.initial
-      → Grows (each v (changes-at o) (precondition-of o s).st).st (built-operator t o s).st
-  unfolding built-operator bind give
+      → Grows (each v (changes_at o) (precondition_of o s).st).st (built_operator t o s).st
+  unfolding built_operator bind give
   variable-grows o v s h =
-      each-grows (changes-at o) (precondition-of o s).st (steady-changes (image variables) (steady-image variables) (effect-of-operator t o)) v variables h
+      each_grows (changes_at o) (precondition_of o s).st (steady-changes (image variables) (steady_image variables) (effect_of_operator t o)) v variables h
 
   -- before operator o; before the goal, o is their number
   pub operator-grows :
-      (o : ℕ) → o ≤ length t.operators → Grows (each o (built-operator t) start).st (built t).st
+      (o : ℕ) → o ≤ length t.operators → Grows (each o (built_operator t) start).st (built t).st
   unfolding built parts
   operator-grows o h =
-      grows-trans (each-grows (built-operator t) start (steady-operator t) o (length t.operators) h)
-      (bind-grows (each (length t.operators) (built-operator t)) _ start
-      (λ b. steady-bind (steady-image variables plain _) (λ g. steady-give _)))
+      grows_trans (each_grows (built_operator t) start (steady_operator t) o (length t.operators) h)
+      (bind_grows (each (length t.operators) (built_operator t)) _ start
+      (λ b. steady_bind (steady_image variables plain _) (λ g. steady_give _)))
 
   -- in operator o of the task, before variable v
   pub moment-grows :
       (o v : ℕ)
       → o < length t.operators
       → v ≤ length t.initial
-      → Grows (each v (changes-at o) (precondition-of o (each o (built-operator t) start).st).st).st (built t).st
+      → Grows (each v (changes_at o) (precondition_of o (each o (built_operator t) start).st).st).st (built t).st
   moment-grows o v h l =
-      grows-trans (variable-grows o v (each o (built-operator t) start).st l) (next (operator-grows (suc o) h))
+      grows_trans (variable-grows o v (each o (built_operator t) start).st l) (next (operator-grows (suc o) h))
     where
       next :
-          Grows (each (suc o) (built-operator t) start).st (built t).st
-          → Grows (built-operator t o (each o (built-operator t) start).st).st (built t).st
+          Grows (each (suc o) (built_operator t) start).st (built t).st
+          → Grows (built_operator t o (each o (built_operator t) start).st).st (built t).st
       next g = unfold each bind give in g

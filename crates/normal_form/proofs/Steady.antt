@@ -4,93 +4,93 @@ use lib.ListN.{length}
 use lib.Dec.{eqb}
 use Rattle.task.specs.Table.{Task}
 use Rattle.task.specs.Semantics.{Formula, falsum, verum, variable, negation, conjunction, disjunction, implication, equivalence, Atom, Effect, empty, atomic, both, under, sets, clears}
-use Rattle.task.specs.Run.{effect-of-operator}
-use Rattle.normal_form.specs.Builder.{Build, Polarity, plain, negated, opposite, image-of-false}
+use Rattle.task.specs.Run.{effect_of_operator}
+use Rattle.normal_form.specs.Builder.{Build, Polarity, plain, negated, opposite, image_of_false}
 use Rattle.normal_form.specs.Growth.{Steady}
 use Rattle.normal_form.specs.Image.{literal, image}
 use Rattle.normal_form.specs.Conditions.{Becoming, guarded, condition}
-use Rattle.normal_form.specs.Copy.{over-two, copy, itself}
-use Rattle.normal_form.specs.Operators.{deletes-of, changes-of, built-operator, parts}
-use Rattle.normal_form.proofs.Growth.{steady-give, steady-bind, steady-row, steady-variable-row, steady-twin-row, steady-join, steady-pair, steady-each, steady-cond}
+use Rattle.normal_form.specs.Copy.{over_two, copy, itself}
+use Rattle.normal_form.specs.Operators.{deletes_of, changes_of, built_operator, parts}
+use Rattle.normal_form.proofs.Growth.{steady_give, steady_bind, steady_row, steady_variable_row, steady_twin_row, steady_join, steady_pair, steady_each, steady_cond}
 
-pub steady-literal : (n : ℕ) (p : Polarity) (v : ℕ) → Steady (literal n p v)
+pub steady_literal : (n : ℕ) (p : Polarity) (v : ℕ) → Steady (literal n p v)
 unfolding literal
-steady-literal n plain v = steady-variable-row v
-steady-literal n negated v = steady-twin-row n v
+steady_literal n plain v = steady_variable_row v
+steady_literal n negated v = steady_twin_row n v
 
-pub steady-image : (n : ℕ) (p : Polarity) (f : Formula) → Steady (image n p f)
+pub steady_image : (n : ℕ) (p : Polarity) (f : Formula) → Steady (image n p f)
 unfolding image
-steady-image n p falsum = steady-give _
-steady-image n p verum = steady-give _
-steady-image n p (variable v) = steady-literal n p v
-steady-image n p (negation f) = steady-image n (opposite p) f
-steady-image n p (conjunction f g) = steady-pair p (steady-image n p f) (steady-image n p g)
-steady-image n p (disjunction f g) = steady-pair (opposite p) (steady-image n p f) (steady-image n p g)
-steady-image n p (implication f g) = steady-pair (opposite p) (steady-image n (opposite p) f) (steady-image n p g)
-steady-image n p (equivalence f g) =
-    steady-pair negated (steady-pair plain (steady-image n plain f) (steady-image n p g))
-    (steady-pair plain (steady-image n negated f) (steady-image n (opposite p) g))
+steady_image n p falsum = steady_give _
+steady_image n p verum = steady_give _
+steady_image n p (variable v) = steady_literal n p v
+steady_image n p (negation f) = steady_image n (opposite p) f
+steady_image n p (conjunction f g) = steady_pair p (steady_image n p f) (steady_image n p g)
+steady_image n p (disjunction f g) = steady_pair (opposite p) (steady_image n p f) (steady_image n p g)
+steady_image n p (implication f g) = steady_pair (opposite p) (steady_image n (opposite p) f) (steady_image n p g)
+steady_image n p (equivalence f g) =
+    steady_pair negated (steady_pair plain (steady_image n plain f) (steady_image n p g))
+    (steady_pair plain (steady_image n negated f) (steady_image n (opposite p) g))
 
 -- Copies of formulas (02, K3).
-pub steady-over-two : (kind : ℕ) {l r : Build ℕ} → Steady l → Steady r → Steady (over-two kind l r)
-unfolding over-two
-steady-over-two kind l r = steady-bind l (λ a. steady-bind r (λ b. steady-row _))
+pub steady_over_two : (kind : ℕ) {l r : Build ℕ} → Steady l → Steady r → Steady (over_two kind l r)
+unfolding over_two
+steady_over_two kind l r = steady_bind l (λ a. steady_bind r (λ b. steady_row _))
 
-pub steady-copy : (f : Formula) → Steady (copy f)
+pub steady_copy : (f : Formula) → Steady (copy f)
 unfolding copy
-steady-copy falsum = steady-give _
-steady-copy verum = steady-give _
-steady-copy (variable v) = steady-variable-row v
-steady-copy (negation f) = steady-bind (steady-copy f) (λ a. steady-row _)
-steady-copy (conjunction f g) = steady-over-two 4 (steady-copy f) (steady-copy g)
-steady-copy (disjunction f g) = steady-over-two 5 (steady-copy f) (steady-copy g)
-steady-copy (implication f g) = steady-over-two 6 (steady-copy f) (steady-copy g)
-steady-copy (equivalence f g) = steady-over-two 7 (steady-copy f) (steady-copy g)
+steady_copy falsum = steady_give _
+steady_copy verum = steady_give _
+steady_copy (variable v) = steady_variable_row v
+steady_copy (negation f) = steady_bind (steady_copy f) (λ a. steady_row _)
+steady_copy (conjunction f g) = steady_over_two 4 (steady_copy f) (steady_copy g)
+steady_copy (disjunction f g) = steady_over_two 5 (steady_copy f) (steady_copy g)
+steady_copy (implication f g) = steady_over_two 6 (steady_copy f) (steady_copy g)
+steady_copy (equivalence f g) = steady_over_two 7 (steady_copy f) (steady_copy g)
 
-pub steady-itself : (p : Polarity) (f : Formula) → Steady (itself p f)
+pub steady_itself : (p : Polarity) (f : Formula) → Steady (itself p f)
 unfolding itself
-steady-itself p f = steady-copy f
+steady_itself p f = steady_copy f
 
 -- Whatever a formula becomes, if that is steady.
 module _ (becomes : Becoming) (steady : (p : Polarity) (f : Formula) → Steady (becomes p f)) where
   pub steady-guarded : (p : Polarity) (f : Formula) (c : ℕ) → Steady (guarded becomes p f c)
   unfolding guarded
   steady-guarded p f c =
-      steady-cond (eqb c (image-of-false p)) (steady-give c) (steady-bind (steady p f) (λ a. steady-join p a c))
+      steady_cond (eqb c (image_of_false p)) (steady_give c) (steady_bind (steady p f) (λ a. steady_join p a c))
 
   pub steady-condition : (p : Polarity) (l : Atom) (e : Effect) → Steady (condition becomes p l e)
   unfolding condition
-  steady-condition p l empty = steady-give _
-  steady-condition p l (atomic m) = steady-give _
-  steady-condition p l (both e f) = steady-pair (opposite p) (steady-condition p l e) (steady-condition p l f)
-  steady-condition p l (under f e) = steady-bind (steady-condition p l e) (λ c. steady-guarded p f c)
+  steady-condition p l empty = steady_give _
+  steady-condition p l (atomic m) = steady_give _
+  steady-condition p l (both e f) = steady_pair (opposite p) (steady-condition p l e) (steady-condition p l f)
+  steady-condition p l (under f e) = steady_bind (steady-condition p l e) (λ c. steady-guarded p f c)
 
-  pub steady-deletes : (e : Effect) (v a d : ℕ) → Steady (deletes-of becomes e v a d)
-  unfolding deletes-of
+  pub steady-deletes : (e : Effect) (v a d : ℕ) → Steady (deletes_of becomes e v a d)
+  unfolding deletes_of
   steady-deletes e v a d =
-      steady-cond (eqb a 0) (steady-give d)
-      (steady-cond (eqb d 0) (steady-give d)
-      (steady-bind (steady-condition negated (sets v) e) (λ c. steady-join plain d c)))
+      steady_cond (eqb a 0) (steady_give d)
+      (steady_cond (eqb d 0) (steady_give d)
+      (steady_bind (steady-condition negated (sets v) e) (λ c. steady_join plain d c)))
 
-  pub steady-changes : (e : Effect) (v : ℕ) → Steady (changes-of becomes e v)
-  unfolding changes-of
+  pub steady-changes : (e : Effect) (v : ℕ) → Steady (changes_of becomes e v)
+  unfolding changes_of
   steady-changes e v =
-      steady-bind (steady-condition plain (sets v) e)
+      steady_bind (steady-condition plain (sets v) e)
       (λ a.
-      steady-bind (steady-condition plain (clears v) e)
-      (λ d. steady-bind (steady-deletes e v a d) (λ k. steady-give _)))
+      steady_bind (steady-condition plain (clears v) e)
+      (λ d. steady_bind (steady-deletes e v a d) (λ k. steady_give _)))
 
-pub steady-operator : (t : Task) (o : ℕ) → Steady (built-operator t o)
-unfolding built-operator
-steady-operator t o =
-    steady-bind (steady-image (length t.initial) plain _)
+pub steady_operator : (t : Task) (o : ℕ) → Steady (built_operator t o)
+unfolding built_operator
+steady_operator t o =
+    steady_bind (steady_image (length t.initial) plain _)
     (λ p.
-    steady-bind
-    (steady-each (length t.initial) (steady-changes (image (length t.initial)) (steady-image (length t.initial)) (effect-of-operator t o)))
-    (λ c. steady-give _))
+    steady_bind
+    (steady_each (length t.initial) (steady-changes (image (length t.initial)) (steady_image (length t.initial)) (effect_of_operator t o)))
+    (λ c. steady_give _))
 
-pub steady-parts : (t : Task) → Steady (parts t)
+pub steady_parts : (t : Task) → Steady (parts t)
 unfolding parts
-steady-parts t =
-    steady-bind (steady-each (length t.operators) (steady-operator t))
-    (λ o. steady-bind (steady-image (length t.initial) plain _) (λ g. steady-give _))
+steady_parts t =
+    steady_bind (steady_each (length t.operators) (steady_operator t))
+    (λ o. steady_bind (steady_image (length t.initial) plain _) (λ g. steady_give _))

@@ -57,12 +57,12 @@ unfoldable pub twin : ℕ → Build ℕ
 twin v s =
     record { value = place eqb v s.twins; st = record { rows = s.rows; twins = including eqb v s.twins } }
 
-unfoldable pub variable-row : ℕ → Build ℕ
-variable-row v = row (record { kind = 2; a = v; b = 0 })
+unfoldable pub variable_row : ℕ → Build ℕ
+variable_row v = row (record { kind = 2; a = v; b = 0 })
 
 -- over n source variables: the twin of place k is variable n + k. Numbered n + v, v1's twin alone would be variable n + 1 of n + 1 variables.
-unfoldable pub twin-row : ℕ → ℕ → Build ℕ
-twin-row n v = bind (twin v) (λ k. variable-row (n + k))
+unfoldable pub twin_row : ℕ → ℕ → Build ℕ
+twin_row n v = bind (twin v) (λ k. variable_row (n + k))
 
 -- the start: row 0 false, row 1 true, no twins
 unfoldable pub start : St
@@ -77,40 +77,40 @@ opposite plain = negated
 opposite negated = plain
 
 -- the row of the image of false, and of true: the negated image of false is true, row 1
-abbrev pub image-of-false : Polarity → ℕ
-image-of-false plain = 0
-image-of-false negated = 1
+abbrev pub image_of_false : Polarity → ℕ
+image_of_false plain = 0
+image_of_false negated = 1
 
-abbrev pub image-of-true : Polarity → ℕ
-image-of-true plain = 1
-image-of-true negated = 0
+abbrev pub image_of_true : Polarity → ℕ
+image_of_true plain = 1
+image_of_true negated = 0
 
 -- "and"; negated, "or"
-abbrev pub join-kind : Polarity → ℕ
-join-kind plain = 4
-join-kind negated = 5
+abbrev pub join_kind : Polarity → ℕ
+join_kind plain = 4
+join_kind negated = 5
 
 -- How a join of rows a and b comes out, whatever the state: absorbed by one of them ("and" by false, "or" by true), a alone, b alone, or a row of its
 -- own.
 pub data Choice : Type 0 where
-  absorbed only-left only-right own_row : Choice
+  absorbed only_left only_right own_row : Choice
 
 -- false and f, f and false give false; true and f, f and true give f; dually for or. Nothing else folds: "v and v" is a row.
 -- Were "true and f" folded to true, it would hold in states where f does not.
 unfoldable pub choice : Polarity → ℕ → ℕ → Choice
 choice p a b =
-    cond (eqb a (image-of-false p)) absorbed
-    (cond (eqb b (image-of-false p)) absorbed (cond (eqb a (image-of-true p)) only-right (cond (eqb b (image-of-true p)) only-left own_row)))
+    cond (eqb a (image_of_false p)) absorbed
+    (cond (eqb b (image_of_false p)) absorbed (cond (eqb a (image_of_true p)) only_right (cond (eqb b (image_of_true p)) only_left own_row)))
 
-unfoldable pub join-as : Polarity → Choice → ℕ → ℕ → Build ℕ
-join-as p absorbed a b = give (image-of-false p)
-join-as p only-left a b = give a
-join-as p only-right a b = give b
-join-as p own_row a b = row (record { kind = join-kind p; a = a; b = b })
+unfoldable pub join_as : Polarity → Choice → ℕ → ℕ → Build ℕ
+join_as p absorbed a b = give (image_of_false p)
+join_as p only_left a b = give a
+join_as p only_right a b = give b
+join_as p own_row a b = row (record { kind = join_kind p; a = a; b = b })
 
 -- a and b; negated, a or b
 unfoldable pub join : Polarity → ℕ → ℕ → Build ℕ
-join p a b = join-as p (choice p a b) a b
+join p a b = join_as p (choice p a b) a b
 
 -- A joined pair is built left, right, then the join. Both sides are built even if the left one folds the join away:
 -- "false and not v0" answers row 0, and v0 has its twin.

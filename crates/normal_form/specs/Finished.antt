@@ -13,13 +13,13 @@ unfoldable pub assembled : Task → Assembled
 assembled t = assemble (length t.initial) (built t).st.twins unassembled (built t).value.operators
 
 -- a twin starts opposite to its original; started at 0, "not v0" would be false though v0 is 0
-unfoldable pub twin-values : List ℕ → List ℕ → List ℕ
-twin-values initial twins = map (λ v. 1 - get_or initial v 0) twins
+unfoldable pub twin_values : List ℕ → List ℕ → List ℕ
+twin_values initial twins = map (λ v. 1 - get_or initial v 0) twins
 
 unfoldable pub finished : Task → Task
 finished t =
     record {
-      initial = t.initial ++ twin-values t.initial (built t).st.twins;
+      initial = t.initial ++ twin_values t.initial (built t).st.twins;
       originals = (built t).st.twins;
       formulas = (built t).st.rows;
       effects = (assembled t).effects;

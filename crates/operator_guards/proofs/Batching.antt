@@ -7,93 +7,93 @@ use mathlib.Core.Bool.{Bool, true, false, true≢false}
 use mathlib.Core.List.{List, [], ◌∷◌, ◌++◌}
 use lib.ListN.{length, get_or, set, take}
 use borrow.Author.Tests.{ne_eqb}
-use Rattle.task.specs.Table.{operator-at}
+use Rattle.task.specs.Table.{operator_at}
 use Rattle.normal_form.specs.Builder.{St, Got, Build, give, bind, each, plain}
 use Rattle.normal_form.specs.Copy.{copy, itself}
 use Rattle.normal_form.specs.Growth.{Grows, Steady}
-use Rattle.normal_form.proofs.Growth.{grows-refl, steady-bind, steady-each}
-use Rattle.normal_form.proofs.Steady.{steady-copy}
-use Rattle.normal_form.proofs.Adds.{AddsNothing, nothing-first, nothing-each}
+use Rattle.normal_form.proofs.Growth.{grows_refl, steady_bind, steady_each}
+use Rattle.normal_form.proofs.Steady.{steady_copy}
+use Rattle.normal_form.proofs.Adds.{AddsNothing, nothing-first, nothing_each}
 use Rattle.formula_builder.specs.declared.Frame.{Frame}
 use Rattle.formula_builder.specs.Inner.Held.{Store, store, held, sized}
 use Rattle.formula_builder.proofs.Stored.{one_more}
-use Rattle.formula_builder.proofs.Steps.{within-before}
-use Rattle.images.specs.Inner.Images.{tree, becoming, image-at, Memo}
-use Rattle.conditions.specs.Inner.Conditions.{condition-at}
-use Rattle.conditions.proofs.Notes.{steady-condition-at}
+use Rattle.formula_builder.proofs.Steps.{within_before}
+use Rattle.images.specs.Inner.Images.{tree, becoming, image_at, Memo}
+use Rattle.conditions.specs.Inner.Conditions.{condition_at}
+use Rattle.conditions.proofs.Notes.{steady_condition_at}
 use Rattle.effect_batches.specs.Inner.Filling.{AllCovered}
 use Rattle.effect_batches.specs.Inner.Next.{NextBatch, BegunBatch}
 use Rattle.operator_guards.specs.declared.Counts.{Counts}
 use Rattle.operator_guards.specs.Inner.Copying.{copies_of}
-use Rattle.operator_guards.specs.Inner.Guarding.{set-of, conditions-of, guarded-by, GuardsOperator, Reaches}
-use Rattle.operator_guards.specs.Inner.Whole.{copied-start, operator-guarded, guarded-start, GuardedTo, Misfits, GuardsRange, GuardedRange, TakesBatch, TookBatch, GuardsAll}
+use Rattle.operator_guards.specs.Inner.Guarding.{set_of, conditions_of, guarded_by, GuardsOperator, Reaches}
+use Rattle.operator_guards.specs.Inner.Whole.{copied_start, operator_guarded, guarded_start, GuardedTo, Misfits, GuardsRange, GuardedRange, TakesBatch, TookBatch, GuardsAll}
 use Rattle.operator_guards.proofs.Stepping.{steady-pairs-by}
-use Rattle.operator_guards.proofs.Eaching.{each-grows, each-value}
+use Rattle.operator_guards.proofs.Eaching.{each_grows, each_value}
 
-pub steady-conditions : (frame : Frame) (formulas effects : List ℕ) (e n : ℕ) → Steady (conditions-of frame formulas effects e n)
-unfolding conditions-of
-steady-conditions frame formulas effects e n = steady-each n (λ x. steady-condition-at frame formulas effects (set-of x) e)
+pub steady_conditions : (frame : Frame) (formulas effects : List ℕ) (e n : ℕ) → Steady (conditions_of frame formulas effects e n)
+unfolding conditions_of
+steady_conditions frame formulas effects e n = steady_each n (λ x. steady_condition_at frame formulas effects (set_of x) e)
 
-pub steady-guarded-by : (frame : Frame) (formulas effects firsts : List ℕ) (v e p : ℕ) → Steady (guarded-by frame formulas effects firsts v e p)
-unfolding guarded-by
-steady-guarded-by frame formulas effects firsts v e p =
-    steady-bind (steady-conditions frame formulas effects e frame.variables) (λ found. steady-pairs-by found firsts v p)
+pub steady_guarded_by : (frame : Frame) (formulas effects firsts : List ℕ) (v e p : ℕ) → Steady (guarded_by frame formulas effects firsts v e p)
+unfolding guarded_by
+steady_guarded_by frame formulas effects firsts v e p =
+    steady_bind (steady_conditions frame formulas effects e frame.variables) (λ found. steady-pairs-by found firsts v p)
 
 module _ (c : Counts) (formulas effects operators firsts : List ℕ) where
-  steady-operator : (at : List ℕ) (o : ℕ) → Steady (operator-guarded c formulas effects operators firsts at o)
-  unfolding operator-guarded
-  steady-operator at o =
-      steady-guarded-by c.frame formulas effects firsts c.variables (operator-at operators o).effect
-      (get_or at (operator-at operators o).precondition 0)
+  steady_operator : (at : List ℕ) (o : ℕ) → Steady (operator_guarded c formulas effects operators firsts at o)
+  unfolding operator_guarded
+  steady_operator at o =
+      steady_guarded_by c.frame formulas effects firsts c.variables (operator_at operators o).effect
+      (get_or at (operator_at operators o).precondition 0)
 
   -- more operators only add
   pub operators-grow :
       (k n : ℕ)
       → k ≤ n
-      → Grows (guarded-start c formulas effects operators firsts k).st (guarded-start c formulas effects operators firsts n).st
-  unfolding guarded-start
+      → Grows (guarded_start c formulas effects operators firsts k).st (guarded_start c formulas effects operators firsts n).st
+  unfolding guarded_start
   operators-grow k n h =
-      let copied = copied-start c.frame formulas in
-      each-grows (steady-operator copied.value) copied.st k n h
+      let copied = copied_start c.frame formulas in
+      each_grows (steady_operator copied.value) copied.st k n h
 
   -- and so do those before any
-  pub formulas-grow : (n : ℕ) → Grows (copied-start c.frame formulas).st (guarded-start c formulas effects operators firsts n).st
-  unfolding guarded-start
+  pub formulas-grow : (n : ℕ) → Grows (copied_start c.frame formulas).st (guarded_start c formulas effects operators firsts n).st
+  unfolding guarded_start
   formulas-grow n =
-      let copied = copied-start c.frame formulas in
-      (steady-each n (steady-operator copied.value)).grow copied.st
+      let copied = copied_start c.frame formulas in
+      (steady_each n (steady_operator copied.value)).grow copied.st
 
   -- What the first n operators came to is covered.
-  module _ (sets-only :
+  module _ (sets_only :
       (v e : ℕ)
       → e < c.frame.effects
-      → condition-at c.frame formulas effects (record { variable = v; clear = true; negated = false }) e ≡ give 0)
-      (n : ℕ) (s : St) (g : Grows (guarded-start c formulas effects operators firsts n).st s) where
+      → condition_at c.frame formulas effects (record { variable = v; clear = true; negated = false }) e ≡ give 0)
+      (n : ℕ) (s : St) (g : Grows (guarded_start c formulas effects operators firsts n).st s) where
     set-again :
         (k v : ℕ)
         → k < n
         → v < c.frame.variables
-        → AddsNothing (condition-at c.frame formulas effects (set-of v) (operator-at operators k).effect) s
-    unfolding guarded-start operator-guarded guarded-by conditions-of
+        → AddsNothing (condition_at c.frame formulas effects (set_of v) (operator_at operators k).effect) s
+    unfolding guarded_start operator_guarded guarded_by conditions_of
     set-again k v h low =
-        let copied = copied-start c.frame formulas in
-        let e = (operator-at operators k).effect in
-        let p = get_or copied.value (operator-at operators k).precondition 0 in
-        let whole : AddsNothing (guarded-by c.frame formulas effects firsts c.variables e p) s =
-        nothing-each n (steady-operator copied.value) copied.st h g in
-        let all : AddsNothing (conditions-of c.frame formulas effects e c.frame.variables) s =
-        nothing-first (steady-conditions c.frame formulas effects e c.frame.variables) (λ found. steady-pairs-by found firsts c.variables p) whole in
-        nothing-each c.frame.variables (λ x. steady-condition-at c.frame formulas effects (set-of x) e) s low (rw all (grows-refl s))
+        let copied = copied_start c.frame formulas in
+        let e = (operator_at operators k).effect in
+        let p = get_or copied.value (operator_at operators k).precondition 0 in
+        let whole : AddsNothing (guarded_by c.frame formulas effects firsts c.variables e p) s =
+        nothing_each n (steady_operator copied.value) copied.st h g in
+        let all : AddsNothing (conditions_of c.frame formulas effects e c.frame.variables) s =
+        nothing-first (steady_conditions c.frame formulas effects e c.frame.variables) (λ found. steady-pairs-by found firsts c.variables p) whole in
+        nothing_each c.frame.variables (λ x. steady_condition_at c.frame formulas effects (set_of x) e) s low (rw all (grows_refl s))
 
-    clear-again :
+    clear_again :
         (v e : ℕ)
         → e < c.frame.effects
-        → AddsNothing (condition-at c.frame formulas effects (record { variable = v; clear = true; negated = false }) e) s
+        → AddsNothing (condition_at c.frame formulas effects (record { variable = v; clear = true; negated = false }) e) s
     unfolding give
-    clear-again v e h = ap (λ (m : Build ℕ). (m s).st) (sets-only v e h)
+    clear_again v e h = ap (λ (m : Build ℕ). (m s).st) (sets_only v e h)
 
     pub covered-guarded :
-        ((k : ℕ) → k < n → (operator-at operators k).effect < c.frame.effects)
+        ((k : ℕ) → k < n → (operator_at operators k).effect < c.frame.effects)
         → AllCovered c.frame formulas effects operators n s
     covered-guarded roots =
         record {
@@ -108,28 +108,28 @@ module _ (c : Counts) (formulas effects operators firsts : List ℕ) where
             → k < n
             → v < c.frame.variables
             → AddsNothing
-            (condition-at c.frame formulas effects (record { variable = v; clear = clear; negated = negated }) (operator-at operators k).effect) s
+            (condition_at c.frame formulas effects (record { variable = v; clear = clear; negated = negated }) (operator_at operators k).effect) s
         go v false negated p k h low = rw p (set-again k v h low)
-        go v true negated p k h low = rw p (clear-again v (operator-at operators k).effect (roots k h))
+        go v true negated p k h low = rw p (clear_again v (operator_at operators k).effect (roots k h))
 
 -- The row of a formula, as the memo has it, is the one that copying gave.
-pub formula-row :
+pub formula_row :
     (frame : Frame) (formulas scratch : List ℕ) (s : St) (p : ℕ)
     → frame.copied ≡ 1
     → p < frame.formulas
     → Memo frame formulas scratch s
-    → Grows (copied-start frame formulas).st s
-    → get_or scratch p 0 ≡ get_or (copied-start frame formulas).value p 0 + 1
-unfolding copied-start copies_of image-at becoming itself
-formula-row frame formulas scratch s p copied h memo g = go (get_or scratch p 0) refl
+    → Grows (copied_start frame formulas).st s
+    → get_or scratch p 0 ≡ get_or (copied_start frame formulas).value p 0 + 1
+unfolding copied_start copies_of image_at becoming itself
+formula_row frame formulas scratch s p copied h memo g = go (get_or scratch p 0) refl
   where
-    go : (w : ℕ) → get_or scratch p 0 ≡ w → w ≡ get_or (copied-start frame formulas).value p 0 + 1
+    go : (w : ℕ) → get_or scratch p 0 ≡ w → w ≡ get_or (copied_start frame formulas).value p 0 + 1
     go zero q = absurd (memo.full (λ z. omega (arith, z, copied)) plain p h q)
     go (suc r) q =
         let known = memo.known plain p r h (q ∙ omega arith) in
         let again : copy (tree frame formulas p) s ≡ record { value = r; st = s } =
         rw (ne_eqb frame.copied 0 (λ z. omega (arith, z, copied))) at known.again in
-        let value = each-value (λ i. copy (tree frame formulas i)) (λ i. steady-copy (tree frame formulas i)) _ s frame.formulas p h g in
+        let value = each_value (λ i. copy (tree frame formulas i)) (λ i. steady_copy (tree frame formulas i)) _ s frame.formulas p h g in
         omega (arith, value, ap (λ (x : Got ℕ). x.value) again)
 
 -- Operators in order.
@@ -138,57 +138,57 @@ module _ {c : Counts} {formulas effects operators firsts : List ℕ} {from end :
   -- The first o operators are guarded, and there is a next one.
   module _ {o : ℕ} (low : o < c.operators) {notes' : List ℕ} {n' : ℕ} {table' originals' scratch' kept : List ℕ}
       (g : GuardedTo c formulas effects operators firsts notes' n' (store table' originals') scratch' kept o) where
-    pub asks-operator :
+    pub asks_operator :
         {found' : List ℕ}
         → length found' ≡ length found
         → GuardsOperator c.frame formulas effects notes' operators o firsts c.variables found' n' (store table' originals') scratch'
-    asks-operator wide =
+    asks_operator wide =
         record {
           stands = g.stands;
-          no-twins = b.rules.no-twins;
+          no_twins = b.rules.no_twins;
           copied = b.rules.copied;
           words = omega (arith, b.rules.roots.words);
           limit = omega (arith, b.rules.roots.limit);
           precondition = b.rules.precondition o low;
           effect = b.rules.roots.effect o low;
-          firsts-kept = b.rules.firsts-kept;
+          firsts_kept = b.rules.firsts_kept;
           room = omega (arith, b.room, wide);
         }
 
     abbrev word : ℕ
-    word = get_or scratch' (operator-at operators o).precondition 0 - 1
+    word = get_or scratch' (operator_at operators o).precondition 0 - 1
 
     here : Build ℕ
-    here = guarded-by c.frame formulas effects firsts c.variables (operator-at operators o).effect word
+    here = guarded_by c.frame formulas effects firsts c.variables (operator_at operators o).effect word
 
-    its-row : word ≡ get_or (copied-start c.frame formulas).value (operator-at operators o).precondition 0
+    its-row : word ≡ get_or (copied_start c.frame formulas).value (operator_at operators o).precondition 0
     its-row =
         omega (
           arith,
-          formula-row c.frame formulas scratch' (held (sized n' 0) (store table' originals')) (operator-at operators o).precondition
+          formula_row c.frame formulas scratch' (held (sized n' 0) (store table' originals')) (operator_at operators o).precondition
               b.rules.copied (b.rules.precondition o low) g.stands.memo
               (rw g.state at (formulas-grow c formulas effects operators firsts o)),
         )
 
     next-state :
-        (guarded-start c formulas effects operators firsts (o + 1)).st ≡ (here (held (sized n' 0) (store table' originals'))).st
-    unfolding guarded-start operator-guarded each bind give here
+        (guarded_start c formulas effects operators firsts (o + 1)).st ≡ (here (held (sized n' 0) (store table' originals'))).st
+    unfolding guarded_start operator_guarded each bind give here
     next-state =
         rw (add-one o, its-row)
-        (ap (λ (s : St). (operator-guarded c formulas effects operators firsts (copied-start c.frame formulas).value o s).st) g.state)
+        (ap (λ (s : St). (operator_guarded c formulas effects operators firsts (copied_start c.frame formulas).value o s).st) g.state)
 
     next-value :
-        (guarded-start c formulas effects operators firsts (o + 1)).value
+        (guarded_start c formulas effects operators firsts (o + 1)).value
         ≡ take o kept ++ ((here (held (sized n' 0) (store table' originals'))).value ∷ [])
-    unfolding guarded-start operator-guarded each bind give here
+    unfolding guarded_start operator_guarded each bind give here
     next-value =
         rw (add-one o, its-row)
         (ap₂
-        (λ (l : List ℕ) (s : St). l ++ ((operator-guarded c formulas effects operators firsts (copied-start c.frame formulas).value o s).value ∷ []))
+        (λ (l : List ℕ) (s : St). l ++ ((operator_guarded c formulas effects operators firsts (copied_start c.frame formulas).value o s).value ∷ []))
         g.value g.state)
 
     module _ {notes'' : List ℕ} {n'' : ℕ} {s'' : Store} {scratch'' : List ℕ} {k : ℕ}
-        (x : Reaches (guarded-by c.frame formulas effects firsts c.variables (operator-at operators o).effect word) c.frame formulas effects notes'' n'
+        (x : Reaches (guarded_by c.frame formulas effects firsts c.variables (operator_at operators o).effect word) c.frame formulas effects notes'' n'
         (store table' originals') n'' s'' scratch'' k) where
       reaches : Reaches here c.frame formulas effects notes'' n' (store table' originals') n'' s'' scratch'' k
       unfolding here
@@ -209,7 +209,7 @@ module _ {c : Counts} {formulas effects operators firsts : List ℕ} {from end :
           record {
             over = λ w.
                 reaches.over q
-                (rw next-state at (within-before (operators-grow c formulas effects operators firsts (o + 1) c.operators (omega arith)) w));
+                (rw next-state at (within_before (operators-grow c formulas effects operators firsts (o + 1) c.operators (omega arith)) w));
           }
 
 -- the ways out
@@ -231,7 +231,7 @@ module _ {c : Counts} {formulas effects operators first firsts : List ℕ} {from
       NextBatch c.frame formulas effects operators from c.operators first notes (sized n 0) (store table originals) scratch
   batch-asks =
       let stands = b.so_far.stands in
-      let rules = stands.effect-source in
+      let rules = stands.effect_source in
       record {
         sizes =
             record {
@@ -244,16 +244,16 @@ module _ {c : Counts} {formulas effects operators first firsts : List ℕ} {from
                           variables = omega (arith, stands.ready.variables);
                           down = rules.down;
                         };
-                    words = b.first-kept.words;
-                    behind = b.notes-space;
+                    words = b.first_kept.words;
+                    behind = b.notes_space;
                   };
               roots = b.rules.roots;
               next = b.next;
             };
-        comes = b.first-kept.comes;
+        comes = b.first_kept.comes;
         covered =
-            covered-guarded c formulas effects operators firsts b.rules.sets-only from (held (sized n 0) (store table originals))
-            (rw b.so_far.state (grows-refl _)) (λ k h. b.rules.roots.effect k (omega (arith, h, b.next)));
+            covered-guarded c formulas effects operators firsts b.rules.sets_only from (held (sized n 0) (store table originals))
+            (rw b.so_far.state (grows_refl _)) (λ k h. b.rules.roots.effect k (omega (arith, h, b.next)));
         stands = stands;
         blank = b.blank;
       }
@@ -305,11 +305,11 @@ module _ {c : Counts} {formulas effects operators first firsts found notes : Lis
   next-batch-asks low broad long wide same g =
       record {
         rules = a.rules;
-        first-kept = a.first-kept;
+        first_kept = a.first_kept;
         next = low;
         so_far = g;
         room = omega (arith, a.room, broad);
-        notes-space = omega (arith, a.notes-space, long);
+        notes_space = omega (arith, a.notes_space, long);
         blank = λ z j h. same z j ∙ a.blank j h;
         space = omega (arith, a.space, wide);
       }

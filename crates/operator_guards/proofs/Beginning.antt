@@ -8,17 +8,17 @@ use Rattle.normal_form.specs.Builder.{St, place, start, each, give}
 use Rattle.normal_form.specs.Growth.{Grows}
 use Rattle.formula_builder.specs.declared.Frame.{Frame}
 use Rattle.formula_builder.specs.Inner.Index.{Empty, FirstTwo}
-use Rattle.formula_builder.specs.Inner.Held.{store, held, sized, framed, twin-word}
-use Rattle.formula_builder.proofs.Steps.{within-before}
+use Rattle.formula_builder.specs.Inner.Held.{store, held, sized, framed, twin_word}
+use Rattle.formula_builder.proofs.Steps.{within_before}
 use Rattle.operator_guards.specs.Inner.Steps.{TableReady}
 use Rattle.operator_guards.specs.Inner.Copying.{copies_of, Copies, CopiedAll}
-use Rattle.operator_guards.specs.Inner.Whole.{copied-start, Begins, Begun}
-use Rattle.operator_guards.proofs.Copying.{more-copies}
+use Rattle.operator_guards.specs.Inner.Whole.{copied_start, Begins, Begun}
+use Rattle.operator_guards.proofs.Copying.{more_copies}
 
 -- copying only adds to the start
-pub copies-grow : (frame : Frame) (formulas : List ℕ) → Grows start (copied-start frame formulas).st
-unfolding copied-start
-copies-grow frame formulas = rw (none frame formulas) at (more-copies frame formulas 0 frame.formulas (omega arith) start)
+pub copies_grow : (frame : Frame) (formulas : List ℕ) → Grows start (copied_start frame formulas).st
+unfolding copied_start
+copies_grow frame formulas = rw (none frame formulas) at (more_copies frame formulas 0 frame.formulas (omega arith) start)
   where
     none : (frame : Frame) (formulas : List ℕ) → (copies_of frame formulas 0 start).st ≡ start
     none frame formulas = unfold copies_of each give in refl
@@ -30,7 +30,7 @@ module _ {frame : Frame} {formulas table scratch : List ℕ} (b : Begins frame f
   begin-none h =
       record {
         done = λ f. absurd (true≢false (sym f));
-        over = λ _ w. omega (arith, h, (within-before (copies-grow frame formulas) w).rows);
+        over = λ _ w. omega (arith, h, (within_before (copies_grow frame formulas) w).rows);
       }
 
   module _ (two : 2 ≤ frame.rows) where
@@ -56,13 +56,13 @@ module _ {frame : Frame} {formulas table scratch : List ℕ} (b : Begins frame f
                 };
             two = omega arith;
             twins = omega arith;
-            originals = omega (arith, b.no-twins);
-            variables = omega (arith, b.no-twins, b.variables);
-            past-twins = λ j h. refl;
+            originals = omega (arith, b.no_twins);
+            variables = omega (arith, b.no_twins, b.variables);
+            past_twins = λ j h. refl;
             named =
                 record {
                   room = omega (arith, b.fresh.room, f.long);
-                  stands = λ v r h e. absurd (omega (arith, e, f.past (twin-word frame v) (omega arith)));
+                  stands = λ v r h e. absurd (omega (arith, e, f.past (twin_word frame v) (omega arith)));
                   missing = λ v h e. unfold place in refl;
                 };
           }
@@ -91,5 +91,5 @@ module _ {frame : Frame} {formulas table scratch : List ℕ} (b : Begins frame f
                   over = λ e w. y.over e (rw from_start at w);
                 }
               where
-                from_start : (copied-start frame formulas).st ≡ (copies_of frame formulas frame.formulas (held (sized 2 0) (store table' []))).st
-                from_start = unfold copied-start in (ap (λ (s : St). (copies_of frame formulas frame.formulas s).st) stand)
+                from_start : (copied_start frame formulas).st ≡ (copies_of frame formulas frame.formulas (held (sized 2 0) (store table' []))).st
+                from_start = unfold copied_start in (ap (λ (s : St). (copies_of frame formulas frame.formulas s).st) stand)

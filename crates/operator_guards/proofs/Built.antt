@@ -6,124 +6,124 @@ use mathlib.Core.Path.{◌≡◌, refl, sym, ap, ◌∙◌}
 use mathlib.Core.Bool.{Bool, true, false}
 use mathlib.Core.List.{List}
 use lib.ListN.{length, get_or, replicate, length-replicate}
-use Rattle.task.specs.Table.{Operator, row_at, operator-at}
+use Rattle.task.specs.Table.{Operator, row_at, operator_at}
 use Rattle.task.specs.Semantics.{clears}
 use Rattle.task.specs.Inner.Rows.{FormulasDown, EffectsDown}
-use Rattle.normal_form.specs.Builder.{St, Got, give, bind, each, plain, join, choice, join-as, pair, start}
+use Rattle.normal_form.specs.Builder.{St, Got, give, bind, each, plain, join, choice, join_as, pair, start}
 use Rattle.normal_form.specs.Conditions.{Becoming, guarded, condition}
-use Rattle.normal_form.proofs.Growth.{grows-refl}
+use Rattle.normal_form.proofs.Growth.{grows_refl}
 use Rattle.formula_builder.specs.Inner.Held.{Store, store, held, sized, Within}
-use Rattle.formula_builder.proofs.Steps.{within-before}
+use Rattle.formula_builder.proofs.Steps.{within_before}
 use Rattle.atom_sets.specs.Inner.Sets.{sets_end}
 use Rattle.atom_sets.specs.Inner.Finds.{FindsSets, FoundSets}
-use Rattle.images.specs.Inner.Images.{source-rows, becoming, Source}
-use Rattle.conditions.specs.Inner.Conditions.{effect-rows, condition-at, column, EffectSource, Columns, Noted}
-use Rattle.conditions.proofs.Rows.{both-lower, under-lower, known-kind}
-use Rattle.conditions.proofs.Alone.{atom-within, sets-right}
-use Rattle.conditions.proofs.Notes.{noted-blank}
-use Rattle.conditions.proofs.Memos.{effect-memo-blank, effect-memo-grows}
+use Rattle.images.specs.Inner.Images.{source_rows, becoming, Source}
+use Rattle.conditions.specs.Inner.Conditions.{effect_rows, condition_at, column, EffectSource, Columns, Noted}
+use Rattle.conditions.proofs.Rows.{both-lower, under-lower, known_kind}
+use Rattle.conditions.proofs.Alone.{atom_within, sets-right}
+use Rattle.conditions.proofs.Notes.{noted_blank}
+use Rattle.conditions.proofs.Memos.{effect_memo_blank, effect_memo_grows}
 use Rattle.effect_batches.specs.Inner.Firsts.{First, FindsFirst}
 use Rattle.finite_domain.specs.Table.{FiniteTask}
-use Rattle.finite_domain.specs.Meaning.{FiniteEffect, finite-empty, becomes, finite-both, finite-under}
-use Rattle.finite_domain.specs.Tree.{finite-effect-of}
-use Rattle.finite_domain.specs.Run.{finite-operator-of}
-use Rattle.translation.specs.Flags.{flagged-effect}
+use Rattle.finite_domain.specs.Meaning.{FiniteEffect, finite_empty, becomes, finite_both, finite_under}
+use Rattle.finite_domain.specs.Tree.{finite_effect_of}
+use Rattle.finite_domain.specs.Run.{finite_operator_of}
+use Rattle.translation.specs.Flags.{flagged_effect}
 use Rattle.translation.specs.Pairs.{Guards, guards}
 use Rattle.translation.proofs.FlaggedRows.{flagged-formulas-down, flagged-effects-down}
-use Rattle.translation.proofs.Flags.{first-flag-within}
-use Rattle.translation.proofs.NoTwins.{no-twins}
+use Rattle.translation.proofs.Flags.{first_flag_within}
+use Rattle.translation.proofs.NoTwins.{no_twins}
 use Rattle.operator_guards.specs.declared.Counts.{Counts}
 use Rattle.operator_guards.specs.Inner.Guarding.{Firsts}
-use Rattle.operator_guards.specs.Inner.Whole.{guarded-start, Begins, BegunAt, Begun, Rules, GuardedTo, GuardsRange, GuardedRange, GuardsAll, Sourced, BuildsGuards, BuiltGuards}
-use Rattle.operator_guards.proofs.Guarding.{held_plain, ready-beside}
-use Rattle.operator_guards.proofs.Batching.{formulas-grow, formula-row}
-use Rattle.operator_guards.proofs.Alike.{formula-count, effect-count, operator-count, its-operator, its-effect, guards-same}
+use Rattle.operator_guards.specs.Inner.Whole.{guarded_start, Begins, BegunAt, Begun, Rules, GuardedTo, GuardsRange, GuardedRange, GuardsAll, Sourced, BuildsGuards, BuiltGuards}
+use Rattle.operator_guards.proofs.Guarding.{held_plain, ready_beside}
+use Rattle.operator_guards.proofs.Batching.{formulas-grow, formula_row}
+use Rattle.operator_guards.proofs.Alike.{formula_count, effect_count, operator_count, its-operator, its-effect, guards-same}
 
 -- every word of a table that is all 0
-zero-at : (n j : ℕ) → ◌≡◌ {A = ℕ} (get_or (replicate n 0) j 0) 0
-zero-at zero j = refl
-zero-at (suc n) zero = refl
-zero-at (suc n) (suc j) = zero-at n j
+zero_at : (n j : ℕ) → ◌≡◌ {A = ℕ} (get_or (replicate n 0) j 0) 0
+zero_at zero j = refl
+zero_at (suc n) zero = refl
+zero_at (suc n) (suc j) = zero_at n j
 
 -- An effect over flags clears none: the condition of a clear is false, and nothing is built.
-no-clear : (b : Becoming) (counts : List ℕ) (v : ℕ) (e : FiniteEffect) → condition b plain (clears v) (flagged-effect counts e) ≡ give 0
-unfolding condition flagged-effect pair bind give join choice join-as guarded
-no-clear b counts v finite-empty = refl
-no-clear b counts v (becomes a d) = refl
-no-clear b counts v (finite-both e f) = rw (no-clear b counts v e, no-clear b counts v f) refl
-no-clear b counts v (finite-under p e) = rw (no-clear b counts v e) refl
+no_clear : (b : Becoming) (counts : List ℕ) (v : ℕ) (e : FiniteEffect) → condition b plain (clears v) (flagged_effect counts e) ≡ give 0
+unfolding condition flagged_effect pair bind give join choice join_as guarded
+no_clear b counts v finite_empty = refl
+no_clear b counts v (becomes a d) = refl
+no_clear b counts v (finite_both e f) = rw (no_clear b counts v e, no_clear b counts v f) refl
+no_clear b counts v (finite_under p e) = rw (no_clear b counts v e) refl
 
 -- What the tables of such a task keep.
 module _ {t : FiniteTask} {c : Counts} {formulas effects operators firsts : List ℕ} (s : Sourced t c formulas effects operators firsts) where
-  pub effect-low : (o : ℕ) → o < c.operators → (operator-at operators o).effect < c.frame.effects
-  unfolding finite-operator-of
+  pub effect-low : (o : ℕ) → o < c.operators → (operator_at operators o).effect < c.frame.effects
+  unfolding finite_operator_of
   effect-low o h =
-      let rule = s.rules.operator o (omega (arith, h, operator-count s)) in
-      omega (arith, rule.changes, ap (λ (x : Operator). x.effect) (its-operator s o h), effect-count s)
+      let rule = s.rules.operator o (omega (arith, h, operator_count s)) in
+      omega (arith, rule.changes, ap (λ (x : Operator). x.effect) (its-operator s o h), effect_count s)
 
-  precondition-low : (o : ℕ) → o < c.operators → (operator-at operators o).precondition < c.frame.formulas
-  unfolding finite-operator-of
+  precondition-low : (o : ℕ) → o < c.operators → (operator_at operators o).precondition < c.frame.formulas
+  unfolding finite_operator_of
   precondition-low o h =
-      let rule = s.rules.operator o (omega (arith, h, operator-count s)) in
-      omega (arith, rule.formula, ap (λ (x : Operator). x.precondition) (its-operator s o h), formula-count s)
+      let rule = s.rules.operator o (omega (arith, h, operator_count s)) in
+      omega (arith, rule.formula, ap (λ (x : Operator). x.precondition) (its-operator s o h), formula_count s)
 
-  sets-only :
+  sets_only :
       (v e : ℕ)
       → e < c.frame.effects
-      → condition-at c.frame formulas effects (record { variable = v; clear = true; negated = false }) e ≡ give 0
-  unfolding condition-at
-  sets-only v e h =
-      rw (its-effect s e h) (no-clear (becoming c.frame) t.counts v (finite-effect-of t.formulas t.effects e))
+      → condition_at c.frame formulas effects (record { variable = v; clear = true; negated = false }) e ≡ give 0
+  unfolding condition_at
+  sets_only v e h =
+      rw (its-effect s e h) (no_clear (becoming c.frame) t.counts v (finite_effect_of t.formulas t.effects e))
 
-  firsts-kept : Firsts c.frame firsts c.variables
-  firsts-kept =
+  firsts_kept : Firsts c.frame firsts c.variables
+  firsts_kept =
       record {
-        words = s.firsts-words;
+        words = s.firsts_words;
         few = omega (arith, s.variables, s.rules.limits.variables);
         ends = λ a h.
             let low : a ≤ length t.counts = omega (arith, h, s.variables) in
-            omega (arith, s.firsts_at a low, first-flag-within t.counts a low, s.flags);
+            omega (arith, s.firsts_at a low, first_flag_within t.counts a low, s.flags);
       }
 
   module _ {scratch : List ℕ} (room : 2 * c.frame.formulas + 2 * c.frame.effects ≤ length scratch) where
     source : Source c.frame formulas scratch
     source =
         record {
-          words = s.formula-words;
+          words = s.formula_words;
           memo = omega (arith, room);
-          limit = omega (arith, formula-count s, s.rules.limits.formulas);
+          limit = omega (arith, formula_count s, s.rules.limits.formulas);
           down = down;
         }
       where
-        down : FormulasDown c.frame.variables (source-rows c.frame formulas)
-        down = unfold source-rows in (rw (s.flags, s.formula-rows) (flagged-formulas-down t s.rules))
+        down : FormulasDown c.frame.variables (source_rows c.frame formulas)
+        down = unfold source_rows in (rw (s.flags, s.formula_rows) (flagged-formulas-down t s.rules))
 
-    effect-source : EffectSource c.frame effects scratch
-    effect-source =
+    effect_source : EffectSource c.frame effects scratch
+    effect_source =
         record {
           words = s.effect_words;
           memo = room;
-          limit = omega (arith, effect-count s, s.rules.limits.effects);
+          limit = omega (arith, effect_count s, s.rules.limits.effects);
           down = down;
         }
       where
-        down : EffectsDown c.frame.variables c.frame.formulas (effect-rows c.frame effects)
-        down = unfold effect-rows in (rw (s.flags, s.effect-rows, formula-count s) (flagged-effects-down t s.rules))
+        down : EffectsDown c.frame.variables c.frame.formulas (effect_rows c.frame effects)
+        down = unfold effect_rows in (rw (s.flags, s.effect_rows, formula_count s) (flagged-effects-down t s.rules))
 
 module _ {c : Counts} {formulas effects operators firsts notes table originals scratch preconditions : List ℕ}
     (b : BuildsGuards c formulas effects operators firsts notes table originals scratch preconditions) where
   rows : EffectSource c.frame effects scratch
-  rows = effect-source b.sourced b.scratch-space
+  rows = effect_source b.sourced b.scratch_space
 
   flags-most : c.frame.variables ≤ 512
-  flags-most = omega (arith, b.sourced.flags, b.sourced.few-flags)
+  flags-most = omega (arith, b.sourced.flags, b.sourced.few_flags)
 
-  kind-most : (i : ℕ) → i < c.frame.effects → (row_at effects i).kind ≤ 4
-  kind-most i h = go (ℕ_discrete (row_at effects i).kind 4)
+  kind_most : (i : ℕ) → i < c.frame.effects → (row_at effects i).kind ≤ 4
+  kind_most i h = go (ℕ_discrete (row_at effects i).kind 4)
     where
       go : Dec ((row_at effects i).kind ≡ 4) → (row_at effects i).kind ≤ 4
       go (yes k) = omega (arith, k)
-      go (no k) = omega (arith, known-kind c.frame formulas effects scratch rows i h k)
+      go (no k) = omega (arith, known_kind c.frame formulas effects scratch rows i h k)
 
   pub finds-sets : FindsSets c.frame effects notes
   finds-sets =
@@ -131,14 +131,14 @@ module _ {c : Counts} {formulas effects operators firsts notes table originals s
         words = rows.words;
         limit = rows.limit;
         variables = flags-most;
-        room = b.notes-space;
+        room = b.notes_space;
         both = λ i h k. both-lower c.frame formulas effects scratch rows i h k;
         under = λ i h k. (under-lower c.frame formulas effects scratch rows i h k).1;
         atom = λ i h some low.
-            atom-within c.frame effects scratch rows i h
+            atom_within c.frame effects scratch rows i h
             (record { kind = (row_at effects i).kind; a = (row_at effects i).a; b = (row_at effects i).b }) refl some
             (λ z. omega (arith, z, low)) (λ z. omega (arith, z, low));
-        known = kind-most;
+        known = kind_most;
       }
 
   pub finds-first : FindsFirst c.frame effects operators c.operators (replicate 4096 0)
@@ -147,20 +147,20 @@ module _ {c : Counts} {formulas effects operators firsts notes table originals s
         rows = record { words = rows.words; limit = rows.limit; variables = flags-most; down = rows.down };
         roots =
             record {
-              limit = omega (arith, operator-count b.sourced, b.sourced.rules.limits.operators);
-              words = b.sourced.operator-words;
+              limit = omega (arith, operator_count b.sourced, b.sourced.rules.limits.operators);
+              words = b.sourced.operator_words;
               effect = effect-low b.sourced;
             };
         words = omega (arith, rows.limit, length-replicate {A = ℕ} 4096 0);
-        blank = zero-at 4096;
+        blank = zero_at 4096;
       }
 
   pub begins : Begins c.frame formulas table scratch
   begins =
       record {
-        source = source b.sourced b.scratch-space;
+        source = source b.sourced b.scratch_space;
         fresh = b.fresh;
-        no-twins = b.sourced.no-twins;
+        no_twins = b.sourced.no_twins;
         copied = b.sourced.copied;
         variables = flags-most;
       }
@@ -169,50 +169,50 @@ module _ {c : Counts} {formulas effects operators firsts notes table originals s
   module _ {notes' : List ℕ} (sets : FoundSets c.frame effects notes notes') (long : length notes' ≡ length notes)
       {n : ℕ} {table' scratch' : List ℕ} (g : BegunAt c.frame formulas scratch n table' scratch') (same : length scratch' ≡ length scratch) where
     none_kept : (j : ℕ) → sets_end c.frame ≤ j → get_or notes' j 0 ≡ 0
-    none_kept j h = sets.behind j h ∙ b.blank-notes j
+    none_kept j h = sets.behind j h ∙ b.blank_notes j
 
     notes-room : sets_end c.frame ≤ length notes'
-    notes-room = omega (arith, b.notes-space, long)
+    notes-room = omega (arith, b.notes_space, long)
 
     no-columns : Columns c.frame notes'
     unfolding column
     no-columns =
         record {
           words = notes-room;
-          apart = λ d e _ h some _. absurd (omega (arith, some, sets.ahead e (omega (arith, h)) ∙ b.blank-notes e));
+          apart = λ d e _ h some _. absurd (omega (arith, some, sets.ahead e (omega (arith, h)) ∙ b.blank_notes e));
         }
 
     noted : (t : St) → Noted c.frame formulas effects notes' t
     noted t =
-        noted-blank formulas t (sets-right c.frame effects scratch notes' rows sets.sets) no-columns
-        (λ j _ h. sets.ahead j h ∙ b.blank-notes j) none_kept
+        noted_blank formulas t (sets-right c.frame effects scratch notes' rows sets.sets) no-columns
+        (λ j _ h. sets.ahead j h ∙ b.blank_notes j) none_kept
 
     rules : Rules c formulas effects operators firsts
     rules =
         record {
-          no-twins = b.sourced.no-twins;
+          no_twins = b.sourced.no_twins;
           copied = b.sourced.copied;
           roots = finds-first.roots;
           precondition = precondition-low b.sourced;
-          firsts-kept = firsts-kept b.sourced;
-          sets-only = sets-only b.sourced;
+          firsts_kept = firsts_kept b.sourced;
+          sets_only = sets_only b.sourced;
         }
 
     so_far : GuardedTo c formulas effects operators firsts notes' n (store table' originals) scratch' preconditions 0
-    unfolding guarded-start each give
+    unfolding guarded_start each give
     so_far =
         let s = held (sized n 0) (store table' originals) in
         let plain-state = held_plain n table' originals in
         record {
           stands =
               record {
-                source = source b.sourced (omega (arith, b.scratch-space, same));
-                effect-source = effect-source b.sourced (omega (arith, b.scratch-space, same));
-                ready = ready-beside b.sourced.no-twins b.blank-originals g.ready;
+                source = source b.sourced (omega (arith, b.scratch_space, same));
+                effect_source = effect_source b.sourced (omega (arith, b.scratch_space, same));
+                ready = ready_beside b.sourced.no_twins b.blank_originals g.ready;
                 noted = noted s;
                 memo = rw plain-state g.memo;
-                effect-memo =
-                    effect-memo-grows (grows-refl s) g.rest (effect-memo-blank c.frame formulas effects scratch s b.blank-scratch);
+                effect_memo =
+                    effect_memo_grows (grows_refl s) g.rest (effect_memo_blank c.frame formulas effects scratch s b.blank_scratch);
               };
           state = g.state ∙ sym plain-state;
           value = refl;
@@ -241,10 +241,10 @@ module _ {c : Counts} {formulas effects operators firsts notes table originals s
     guards-asks comes wide =
         record {
           rules = rules;
-          first-kept = record { words = omega (arith, rows.limit, wide, length-replicate {A = ℕ} 4096 0); comes = comes };
+          first_kept = record { words = omega (arith, rows.limit, wide, length-replicate {A = ℕ} 4096 0); comes = comes };
           so_far = so_far;
           room = omega (arith, flags-most, length-replicate {A = ℕ} 512 0);
-          notes-space = notes-room;
+          notes_space = notes-room;
           blank = none_kept;
           space = b.space;
         }
@@ -252,7 +252,7 @@ module _ {c : Counts} {formulas effects operators firsts notes table originals s
 -- The ways out, for any task whose tables these are.
 module _ {t : FiniteTask} {c : Counts} {formulas effects operators firsts : List ℕ} (s : Sourced t c formulas effects operators firsts) where
   abbrev whole : Got (List ℕ)
-  whole = guarded-start c formulas effects operators firsts c.operators
+  whole = guarded_start c formulas effects operators firsts c.operators
 
   state-same : (guards t start).st ≡ whole.st
   state-same = ap (λ (g : Got Guards). g.st) (guards-same s (effect-low s))
@@ -261,7 +261,7 @@ module _ {t : FiniteTask} {c : Counts} {formulas effects operators firsts : List
   misfit over = go (dec_lt c.frame.rows (length (guards t start).st.rows))
     where
       few : length (guards t start).st.twins ≡ 0
-      few = ap length (no-twins t)
+      few = ap length (no_twins t)
 
       go : Dec (c.frame.rows < length (guards t start).st.rows) → c.frame.rows < length (guards t start).st.rows
       go (yes h) = h
@@ -279,7 +279,7 @@ module _ {t : FiniteTask} {c : Counts} {formulas effects operators firsts : List
       → Begun c.frame formulas scratch n table' scratch' room
       → room ≡ false
       → BuiltGuards t c table₁ scratch₁ preconditions₁ 0
-  begin-over g q = nothing (λ w. g.over q (within-before (formulas-grow c formulas effects operators firsts c.operators) w))
+  begin-over g q = nothing (λ w. g.over q (within_before (formulas-grow c formulas effects operators firsts c.operators) w))
 
   -- none for the guards
   pub guards-over :
@@ -303,11 +303,11 @@ module _ {t : FiniteTask} {c : Counts} {formulas effects operators firsts : List
             record {
               within = d.stands.ready.rows.within;
               rows = sym (ap (λ (x : St). x.rows) (state-same ∙ d.state));
-              preconditions-kept = sym (ap (λ (x : Guards). x.preconditions) value ∙ d.value);
-              formulas-at = λ i h.
-                  formula-row c.frame formulas scratch (held (sized n 0) (store table originals)) i s.copied h d.stands.memo
+              preconditions_kept = sym (ap (λ (x : Guards). x.preconditions) value ∙ d.value);
+              formulas_at = λ i h.
+                  formula_row c.frame formulas scratch (held (sized n 0) (store table originals)) i s.copied h d.stands.memo
                   (rw d.state at (formulas-grow c formulas effects operators firsts c.operators))
-                  ∙ ap (λ (x : Guards). get_or x.formulas-at i 0 + 1) (sym value);
+                  ∙ ap (λ (x : Guards). get_or x.formulas_at i 0 + 1) (sym value);
             };
         over = λ z. absurd (omega (arith, z, d.stands.ready.two));
       }

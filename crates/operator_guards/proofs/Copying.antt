@@ -9,51 +9,51 @@ use mathlib.Core.List.{List, []}
 use lib.ListN.{length, get_or, set, length-set}
 use lib.Seq.{get_or-set_same, get_or-set_other}
 use borrow.Author.Tests.{lt-ltb, le-ltb, eq-eqb, ne_eqb}
-use Rattle.task.specs.Table.{Row, row_at, formula-kind}
+use Rattle.task.specs.Table.{Row, row_at, formula_kind}
 use Rattle.task.specs.Rules.{no_row, FormulaRule}
 use Rattle.task.specs.Semantics.{Formula}
-use Rattle.task.specs.Tree.{formula-node}
+use Rattle.task.specs.Tree.{formula_node}
 use Rattle.task.proofs.Bounded.{length-upto, getD-upto}
 use Rattle.task.proofs.Trees.{formula-unfolds}
-use Rattle.normal_form.specs.Builder.{St, Got, give, bind, each, row, variable-row, Polarity, plain, negated}
-use Rattle.normal_form.specs.Copy.{over-two, copy}
+use Rattle.normal_form.specs.Builder.{St, Got, give, bind, each, row, variable_row, Polarity, plain, negated}
+use Rattle.normal_form.specs.Copy.{over_two, copy}
 use Rattle.normal_form.specs.Growth.{Grows}
-use Rattle.normal_form.proofs.Steady.{steady-copy}
+use Rattle.normal_form.proofs.Steady.{steady_copy}
 use Rattle.formula_builder.specs.declared.Frame.{Frame}
 use Rattle.formula_builder.specs.Inner.Held.{store, held, sized}
-use Rattle.formula_builder.proofs.Steps.{builds-from, within-before}
-use Rattle.operator_guards.proofs.Eaching.{each-grows}
-use Rattle.images.specs.Inner.Images.{source-rows, tree, memo-place, Known, Source}
-use Rattle.images.proofs.Memos.{known-grows, done-grows, done-known, memo-copied}
+use Rattle.formula_builder.proofs.Steps.{builds-from, within_before}
+use Rattle.operator_guards.proofs.Eaching.{each_grows}
+use Rattle.images.specs.Inner.Images.{source_rows, tree, memo_place, Known, Source}
+use Rattle.images.proofs.Memos.{known_grows, done_grows, done_known, memo_copied}
 use Rattle.operator_guards.specs.Inner.Steps.{TableBuilds}
-use Rattle.operator_guards.specs.Inner.Copying.{copied-row, copies_of, Held, CopiesRow, Copied, Copies, CopiedTo, CopiedAll}
+use Rattle.operator_guards.specs.Inner.Copying.{copied_row, copies_of, Held, CopiesRow, Copied, Copies, CopiedTo, CopiedAll}
 
 -- More copies only add.
-pub more-copies :
+pub more_copies :
     (frame : Frame) (formulas : List ℕ) (k n : ℕ)
     → k ≤ n
     → (s : St)
     → Grows (copies_of frame formulas k s).st (copies_of frame formulas n s).st
 unfolding copies_of
-more-copies frame formulas k n h s = each-grows (λ i. steady-copy (tree frame formulas i)) s k n h
+more_copies frame formulas k n h s = each_grows (λ i. steady_copy (tree frame formulas i)) s k n h
 
 -- A row by its kind.
 module _ (w : Row) (a b : ℕ) where
-  pub copied-constant : w.kind < 2 → copied-row w a b ≡ give w.kind
-  unfolding copied-row
+  pub copied-constant : w.kind < 2 → copied_row w a b ≡ give w.kind
+  unfolding copied_row
   copied-constant h = rw (lt-ltb w.kind 2 h) refl
 
-  pub copied-variable : w.kind ≡ 2 → copied-row w a b ≡ row (record { kind = 2; a = w.a; b = 0 })
-  unfolding copied-row
+  pub copied-variable : w.kind ≡ 2 → copied_row w a b ≡ row (record { kind = 2; a = w.a; b = 0 })
+  unfolding copied_row
   copied-variable e = rw e refl
 
-  pub copied-not : w.kind ≡ 3 → copied-row w a b ≡ row (record { kind = 3; a = a; b = 0 })
-  unfolding copied-row
+  pub copied-not : w.kind ≡ 3 → copied_row w a b ≡ row (record { kind = 3; a = a; b = 0 })
+  unfolding copied_row
   copied-not e = rw e refl
 
   pub copied-two :
-      2 ≤ w.kind → (w.kind ≡ 2 → ⊥) → (w.kind ≡ 3 → ⊥) → copied-row w a b ≡ row (record { kind = w.kind; a = a; b = b })
-  unfolding copied-row
+      2 ≤ w.kind → (w.kind ≡ 2 → ⊥) → (w.kind ≡ 3 → ⊥) → copied_row w a b ≡ row (record { kind = w.kind; a = a; b = b })
+  unfolding copied_row
   copied-two l h g = rw (le-ltb w.kind 2 l, ne_eqb w.kind 2 h, ne_eqb w.kind 3 g) refl
 
 abbrev words : (k a b : ℕ) → Row
@@ -63,39 +63,39 @@ abbrev got : ℕ → St → Got ℕ
 got x s = record { value = x; st = s }
 
 -- The operands of a row are lower rows.
-left-low : (v i k a b : ℕ) → FormulaRule v i (formula-kind k) a b → 3 ≤ k → a < i
-unfolding formula-kind
-left-low v i zero a b r h = absurd (omega arith)
-left-low v i (suc zero) a b r h = absurd (omega arith)
-left-low v i (suc (suc zero)) a b r h = absurd (omega arith)
-left-low v i (suc (suc (suc zero))) a b r h = r.0
-left-low v i (suc (suc (suc (suc zero)))) a b r h = r.0
-left-low v i (suc (suc (suc (suc (suc zero))))) a b r h = r.0
-left-low v i (suc (suc (suc (suc (suc (suc zero)))))) a b r h = r.0
-left-low v i (suc (suc (suc (suc (suc (suc (suc zero))))))) a b r h = r.0
-left-low v i (suc (suc (suc (suc (suc (suc (suc (suc k)))))))) a b r h = absurd r
+left_low : (v i k a b : ℕ) → FormulaRule v i (formula_kind k) a b → 3 ≤ k → a < i
+unfolding formula_kind
+left_low v i zero a b r h = absurd (omega arith)
+left_low v i (suc zero) a b r h = absurd (omega arith)
+left_low v i (suc (suc zero)) a b r h = absurd (omega arith)
+left_low v i (suc (suc (suc zero))) a b r h = r.0
+left_low v i (suc (suc (suc (suc zero)))) a b r h = r.0
+left_low v i (suc (suc (suc (suc (suc zero))))) a b r h = r.0
+left_low v i (suc (suc (suc (suc (suc (suc zero)))))) a b r h = r.0
+left_low v i (suc (suc (suc (suc (suc (suc (suc zero))))))) a b r h = r.0
+left_low v i (suc (suc (suc (suc (suc (suc (suc (suc k)))))))) a b r h = absurd r
 
-right-low : (v i k a b : ℕ) → FormulaRule v i (formula-kind k) a b → 4 ≤ k → b < i
-unfolding formula-kind
-right-low v i zero a b r h = absurd (omega arith)
-right-low v i (suc zero) a b r h = absurd (omega arith)
-right-low v i (suc (suc zero)) a b r h = absurd (omega arith)
-right-low v i (suc (suc (suc zero))) a b r h = absurd (omega arith)
-right-low v i (suc (suc (suc (suc zero)))) a b r h = r.1
-right-low v i (suc (suc (suc (suc (suc zero))))) a b r h = r.1
-right-low v i (suc (suc (suc (suc (suc (suc zero)))))) a b r h = r.1
-right-low v i (suc (suc (suc (suc (suc (suc (suc zero))))))) a b r h = r.1
-right-low v i (suc (suc (suc (suc (suc (suc (suc (suc k)))))))) a b r h = absurd r
+right_low : (v i k a b : ℕ) → FormulaRule v i (formula_kind k) a b → 4 ≤ k → b < i
+unfolding formula_kind
+right_low v i zero a b r h = absurd (omega arith)
+right_low v i (suc zero) a b r h = absurd (omega arith)
+right_low v i (suc (suc zero)) a b r h = absurd (omega arith)
+right_low v i (suc (suc (suc zero))) a b r h = absurd (omega arith)
+right_low v i (suc (suc (suc (suc zero)))) a b r h = r.1
+right_low v i (suc (suc (suc (suc (suc zero))))) a b r h = r.1
+right_low v i (suc (suc (suc (suc (suc (suc zero)))))) a b r h = r.1
+right_low v i (suc (suc (suc (suc (suc (suc (suc zero))))))) a b r h = r.1
+right_low v i (suc (suc (suc (suc (suc (suc (suc (suc k)))))))) a b r h = absurd r
 
 -- A formula of a kind over two whose copies are rows x and y, in a state that has them.
 module _ (v i a b x y : ℕ) (f g : Formula) (s : St) where
   node-copied :
       (k : ℕ)
-      → FormulaRule v i (formula-kind k) a b
+      → FormulaRule v i (formula_kind k) a b
       → (3 ≤ k → copy f s ≡ got x s)
       → (4 ≤ k → copy g s ≡ got y s)
-      → copy (formula-node (formula-kind k) a f g) s ≡ copied-row (words k a b) x y s
-  unfolding copy formula-node formula-kind copied-row over-two variable-row bind give
+      → copy (formula_node (formula_kind k) a f g) s ≡ copied_row (words k a b) x y s
+  unfolding copy formula_node formula_kind copied_row over_two variable_row bind give
   node-copied zero r p q = refl
   node-copied (suc zero) r p q = refl
   node-copied (suc (suc zero)) r p q = refl
@@ -108,35 +108,35 @@ module _ (v i a b x y : ℕ) (f g : Formula) (s : St) where
 
 -- Row i of the source.
 module _ {frame : Frame} {formulas scratch : List ℕ} (source : Source frame formulas scratch) (i : ℕ) (h : i < frame.formulas) where
-  its-row : get_or (source-rows frame formulas) i no_row ≡ row_at formulas i
-  unfolding source-rows
+  its-row : get_or (source_rows frame formulas) i no_row ≡ row_at formulas i
+  unfolding source_rows
   its-row = getD-upto frame.formulas (row_at formulas) i no_row h
 
-  within : i < length (source-rows frame formulas)
-  unfolding source-rows
+  within : i < length (source_rows frame formulas)
+  unfolding source_rows
   within = omega (arith, length-upto frame.formulas (row_at formulas))
 
-  rule : let w = row_at formulas i in FormulaRule frame.variables i (formula-kind w.kind) w.a w.b
+  rule : let w = row_at formulas i in FormulaRule frame.variables i (formula_kind w.kind) w.a w.b
   rule = rw its-row at (source.down.row i within)
 
   pub left_below : 3 ≤ (row_at formulas i).kind → (row_at formulas i).a < i
-  left_below l = left-low frame.variables i (row_at formulas i).kind (row_at formulas i).a (row_at formulas i).b rule l
+  left_below l = left_low frame.variables i (row_at formulas i).kind (row_at formulas i).a (row_at formulas i).b rule l
 
   pub right-below : 4 ≤ (row_at formulas i).kind → (row_at formulas i).b < i
-  right-below l = right-low frame.variables i (row_at formulas i).kind (row_at formulas i).a (row_at formulas i).b rule l
+  right-below l = right_low frame.variables i (row_at formulas i).kind (row_at formulas i).a (row_at formulas i).b rule l
 
   tree-node :
       let w = row_at formulas i in
-      tree frame formulas i ≡ formula-node (formula-kind w.kind) w.a (tree frame formulas w.a) (tree frame formulas w.b)
+      tree frame formulas i ≡ formula_node (formula_kind w.kind) w.a (tree frame formulas w.a) (tree frame formulas w.b)
   unfolding tree
-  tree-node = rw its-row at (formula-unfolds frame.variables (source-rows frame formulas) source.down i within)
+  tree-node = rw its-row at (formula-unfolds frame.variables (source_rows frame formulas) source.down i within)
 
   pub copy-over :
       (s : St) (x y : ℕ)
       → let w = row_at formulas i in
       (3 ≤ w.kind → Known (copy (tree frame formulas w.a)) s x)
       → (4 ≤ w.kind → Known (copy (tree frame formulas w.b)) s y)
-      → copy (tree frame formulas i) s ≡ copied-row w x y s
+      → copy (tree frame formulas i) s ≡ copied_row w x y s
   copy-over s x y p q =
       let w = row_at formulas i in
       ap (λ (f : Formula). copy f s) tree-node
@@ -184,7 +184,7 @@ module _ {frame : Frame} {formulas : List ℕ} {n : ℕ} {table scratch : List �
 
     -- the next one, as the code builds it
     module _ {w : Row} (e : w ≡ row_at formulas i) {table'' : List ℕ} {n'' k : ℕ}
-        (b : TableBuilds (copied-row w (get_or scratch' w.a 0 - 1) (get_or scratch' w.b 0 - 1)) frame n' table' table'' n'' k) where
+        (b : TableBuilds (copied_row w (get_or scratch' w.a 0 - 1) (get_or scratch' w.b 0 - 1)) frame n' table' table'' n'' k) where
       its-copy : TableBuilds (copy (tree frame formulas i)) frame n' table' table'' n'' k
       its-copy =
           let s = held (sized n' 0) (store table' []) in
@@ -196,7 +196,7 @@ module _ {frame : Frame} {formulas : List ℕ} {n : ℕ} {table scratch : List �
           (λ l.
           let low = right-below a.source i h l in
           rw e (copied-known room (omega (arith, low, h)) (operand (row_at formulas i).b low)))
-          ∙ ap (λ (r : Row). copied-row r (get_or scratch' w.a 0 - 1) (get_or scratch' w.b 0 - 1) s) (sym e))
+          ∙ ap (λ (r : Row). copied_row r (get_or scratch' w.a 0 - 1) (get_or scratch' w.b 0 - 1) s) (sym e))
           (omega arith) b
 
       one_more : (copies_of frame formulas (i + 1) (held (sized n 0) (store table []))).st ≡ (copy (tree frame formulas i) (held (sized n' 0) (store table' []))).st
@@ -211,7 +211,7 @@ module _ {frame : Frame} {formulas : List ℕ} {n : ℕ} {table scratch : List �
             memo = λ f. absurd (true≢false (sym f));
             over = λ _ w.
                 its-copy.over (eq-eqb k 65535 q)
-                (rw one_more at (within-before (more-copies frame formulas (i + 1) frame.formulas (omega arith) (held (sized n 0) (store table []))) w));
+                (rw one_more at (within_before (more_copies frame formulas (i + 1) frame.formulas (omega arith) (held (sized n 0) (store table []))) w));
           }
 
       module _ (f : k ≡ 65535 → ⊥) where
@@ -226,18 +226,18 @@ module _ {frame : Frame} {formulas : List ℕ} {n : ℕ} {table scratch : List �
         pub copied_more : CopiedTo frame formulas n table scratch n'' table'' noted (i + 1)
         copied_more =
             let d = its-copy.done (ne_eqb k 65535 f) in
-            let steady = steady-copy (tree frame formulas i) in
-            let grown = done-grows steady d in
+            let steady = steady_copy (tree frame formulas i) in
+            let grown = done_grows steady d in
             record {
               state = one_more ∙ d.state;
               ready = d.ready;
-              each = λ j l. earlier j l (done-known steady d) grown (dec_lt j i);
+              each = λ j l. earlier j l (done_known steady d) grown (dec_lt j i);
               rest = λ j l.
                   get_or-set_other (set scratch' i (k + 1)) (frame.formulas + i) j (k + 1) 0 (omega arith)
                   ∙ get_or-set_other scratch' i j (k + 1) 0 (omega arith) ∙ c.rest j l;
             }
           where
-            own : (p : Polarity) → get_or noted (memo-place frame p i) 0 ≡ k + 1
+            own : (p : Polarity) → get_or noted (memo_place frame p i) 0 ≡ k + 1
             own plain =
                 get_or-set_other (set scratch' i (k + 1)) (frame.formulas + i) i (k + 1) 0 (omega arith)
                 ∙ get_or-set_same scratch' i (k + 1) 0 (omega (arith, room, h))
@@ -250,7 +250,7 @@ module _ {frame : Frame} {formulas : List ℕ} {n : ℕ} {table scratch : List �
                 → j < i
                 → (old : Copied frame formulas scratch' (held (sized n' 0) (store table' [])) j)
                 → (p : Polarity)
-                → get_or noted (memo-place frame p j) 0 ≡ old.at + 1
+                → get_or noted (memo_place frame p j) 0 ≡ old.at + 1
             stays j low old plain =
                 get_or-set_other (set scratch' i (k + 1)) (frame.formulas + i) j (k + 1) 0 (omega arith)
                 ∙ get_or-set_other scratch' i j (k + 1) 0 (omega arith) ∙ old.words plain
@@ -269,7 +269,7 @@ module _ {frame : Frame} {formulas : List ℕ} {n : ℕ} {table scratch : List �
                 let old = c.each j low in
                 record {
                   at = old.at;
-                  known = known-grows (steady-copy (tree frame formulas j)) grown old.known;
+                  known = known_grows (steady_copy (tree frame formulas j)) grown old.known;
                   words = stays j low old;
                 }
             earlier j l known grown (no high) =
@@ -287,7 +287,7 @@ module _ {frame : Frame} {formulas : List ℕ} {n : ℕ} {table scratch : List �
       record {
         done = λ _. all;
         memo = λ _.
-            memo-copied frame formulas scratch' (held (sized n' 0) (store table' []))
+            memo_copied frame formulas scratch' (held (sized n' 0) (store table' []))
             (λ j. get_or scratch' j 0 - 1) (λ z. omega (arith, z, a.copied))
             (λ j l. known j l (all.each j l)) (λ p j l. words p j (all.each j l));
         over = λ f. absurd (true≢false f);
@@ -303,5 +303,5 @@ module _ {frame : Frame} {formulas : List ℕ} {n : ℕ} {table scratch : List �
       words :
           (p : Polarity) (j : ℕ)
           → Copied frame formulas scratch' (held (sized n' 0) (store table' [])) j
-          → get_or scratch' (memo-place frame p j) 0 ≡ get_or scratch' j 0 - 1 + 1
+          → get_or scratch' (memo_place frame p j) 0 ≡ get_or scratch' j 0 - 1 + 1
       words p j x = omega (arith, x.words plain, x.words p)

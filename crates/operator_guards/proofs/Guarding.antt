@@ -7,20 +7,20 @@ use mathlib.Core.List.{List, []}
 use lib.ListN.{length, get_or, take}
 use lib.Seq.{get_or-take}
 use borrow.Author.Tests.{eq-eqb, ne_eqb}
-use Rattle.task.specs.Table.{row_at, operator-at}
+use Rattle.task.specs.Table.{row_at, operator_at}
 use Rattle.task.proofs.Bounded.{length-upto}
 use Rattle.normal_form.specs.Builder.{St, Got, Build, bind, plain}
 use Rattle.normal_form.specs.Growth.{Grows}
 use Rattle.formula_builder.specs.declared.Frame.{Frame}
 use Rattle.formula_builder.specs.Inner.Held.{Store, store, held, sized, Ready}
-use Rattle.formula_builder.proofs.Steps.{within-before}
-use Rattle.images.proofs.Memos.{memo-grows, done-grows}
-use Rattle.conditions.proofs.Memos.{effect-memo-grows}
-use Rattle.conditions.proofs.Notes.{noted-grows}
-use Rattle.translation.specs.Pairs.{through, unless-never}
+use Rattle.formula_builder.proofs.Steps.{within_before}
+use Rattle.images.proofs.Memos.{memo_grows, done_grows}
+use Rattle.conditions.proofs.Memos.{effect_memo_grows}
+use Rattle.conditions.proofs.Notes.{noted_grows}
+use Rattle.translation.specs.Pairs.{through, unless_never}
 use Rattle.operator_guards.specs.Inner.Steps.{TableReady, TableBuilds}
-use Rattle.operator_guards.specs.Inner.Pairing.{passing, with-flag, above, between, own-pairs, pairs-by, PairsReady}
-use Rattle.operator_guards.specs.Inner.Guarding.{conditions-of, guarded-by, FindsConditions, FoundTo, FoundAll, GuardsOperator, Reaches}
+use Rattle.operator_guards.specs.Inner.Pairing.{passing, with_flag, above, between, own_pairs, pairs_by, PairsReady}
+use Rattle.operator_guards.specs.Inner.Guarding.{conditions_of, guarded_by, FindsConditions, FoundTo, FoundAll, GuardsOperator, Reaches}
 use Rattle.operator_guards.proofs.Stepping.{steady-pairs-by}
 use Rattle.operator_guards.proofs.Finding.{stands_on}
 
@@ -29,33 +29,33 @@ pub held_plain : (n : ℕ) (table o : List ℕ) → held (sized n 0) (store tabl
 unfolding held
 held_plain n table o = refl
 
-pub ready-plain :
+pub ready_plain :
     {frame : Frame} {n : ℕ} {table o : List ℕ} → frame.twins ≡ 0 → Ready frame (sized n 0) (store table o) → TableReady frame n table
-ready-plain none r =
+ready_plain none r =
     record {
       rows = r.rows;
       two = r.two;
       twins = r.twins;
       originals = omega (arith, none);
       variables = r.variables;
-      past-twins = λ j h. refl;
+      past_twins = λ j h. refl;
       named = record { room = r.named.room; stands = r.named.stands; missing = r.named.missing };
     }
 
-pub ready-beside :
+pub ready_beside :
     {frame : Frame} {n : ℕ} {table o : List ℕ}
     → frame.twins ≡ 0
     → ((j : ℕ) → get_or o j 0 ≡ 0)
     → TableReady frame n table
     → Ready frame (sized n 0) (store table o)
-ready-beside none zeros r =
+ready_beside none zeros r =
     record {
       rows = r.rows;
       two = r.two;
       twins = r.twins;
       originals = omega (arith, none);
       variables = r.variables;
-      past-twins = λ j h. zeros j;
+      past_twins = λ j h. zeros j;
       named = record { room = r.named.room; stands = r.named.stands; missing = r.named.missing };
     }
 
@@ -72,20 +72,20 @@ through_same (suc n) f g x same =
 -- Pairs depend on the words of the flags alone.
 module _ (firsts : List ℕ) (v p flags : ℕ) (f g : List ℕ) (same : (i : ℕ) → i < flags → get_or f i 0 ≡ get_or g i 0)
     (ends : (a : ℕ) → a ≤ v → get_or firsts a 0 ≤ flags) where
-  pub pairs-found : pairs-by firsts v f p ≡ pairs-by firsts v g p
-  unfolding pairs-by own-pairs between above passing
+  pub pairs-found : pairs_by firsts v f p ≡ pairs_by firsts v g p
+  unfolding pairs_by own_pairs between above passing
   pairs-found =
-      through_same (v - 0) (λ a q. own-pairs firsts f (0 + a) q) (λ a q. own-pairs firsts g (0 + a) q) p (λ a q h. of-variable (0 + a) q (omega arith))
+      through_same (v - 0) (λ a q. own_pairs firsts f (0 + a) q) (λ a q. own_pairs firsts g (0 + a) q) p (λ a q h. of-variable (0 + a) q (omega arith))
     where
-      of_pair : (x y q : ℕ) → x < flags → y < flags → with-flag f x y q ≡ with-flag g x y q
-      of_pair x y q h k = ap₂ (λ (c c' : ℕ). unless-never c c' q) (same x h) (same y k)
+      of_pair : (x y q : ℕ) → x < flags → y < flags → with_flag f x y q ≡ with_flag g x y q
+      of_pair x y q h k = ap₂ (λ (c c' : ℕ). unless_never c c' q) (same x h) (same y k)
 
       of-flag : (end x q : ℕ) → end ≤ flags → x < end → above f end x q ≡ above g end x q
       of-flag end x q low h =
-          through_same (end - (x + 1)) (λ k r. with-flag f x (x + 1 + k) r) (λ k r. with-flag g x (x + 1 + k) r) q
+          through_same (end - (x + 1)) (λ k r. with_flag f x (x + 1 + k) r) (λ k r. with_flag g x (x + 1 + k) r) q
           (λ k r l. of_pair x (x + 1 + k) r (omega arith) (omega arith))
 
-      of-variable : (a q : ℕ) → a < v → own-pairs firsts f a q ≡ own-pairs firsts g a q
+      of-variable : (a q : ℕ) → a < v → own_pairs firsts f a q ≡ own_pairs firsts g a q
       of-variable a q h =
           let from = get_or firsts a 0 in
           let end = get_or firsts (a + 1) 0 in
@@ -98,25 +98,25 @@ module _ {frame words : Frame} {formulas effects notes operators : List ℕ} {o 
   pub asks-words : GuardsOperator words formulas effects notes operators o firsts v buffer n s scratch
   asks-words = rw same a
 
-  abbrev by-frame : Frame → Build ℕ
-  by-frame f =
-      guarded-by f formulas effects firsts v (operator-at operators o).effect (get_or scratch (operator-at operators o).precondition 0 - 1)
+  abbrev by_frame : Frame → Build ℕ
+  by_frame f =
+      guarded_by f formulas effects firsts v (operator_at operators o).effect (get_or scratch (operator_at operators o).precondition 0 - 1)
 
   pub reaches-words :
       {notes' : List ℕ} {n' : ℕ} {s' : Store} {scratch' : List ℕ} {k : ℕ}
-      → Reaches (by-frame words) words formulas effects notes' n s n' s' scratch' k
-      → Reaches (by-frame frame) frame formulas effects notes' n s n' s' scratch' k
+      → Reaches (by_frame words) words formulas effects notes' n s n' s' scratch' k
+      → Reaches (by_frame frame) frame formulas effects notes' n s n' s' scratch' k
   reaches-words x = rw same at x
 
 module _ {frame : Frame} {formulas effects notes operators : List ℕ} {o : ℕ} {firsts : List ℕ} {v : ℕ} {buffer : List ℕ} {n : ℕ} {table originals scratch : List ℕ}
     (a : GuardsOperator frame formulas effects notes operators o firsts v buffer n (store table originals) scratch) where
   -- The memo has the precondition.
-  module _ (p : ℕ) (its : p ≡ (operator-at operators o).precondition) where
+  module _ (p : ℕ) (its : p ≡ (operator_at operators o).precondition) where
     formula : p < frame.formulas
     formula = omega (arith, its, a.precondition)
 
-    pub word-within : p < length scratch
-    word-within = omega (arith, formula, a.stands.source.memo)
+    pub word_within : p < length scratch
+    word_within = omega (arith, formula, a.stands.source.memo)
 
     pub word_some : 0 < get_or scratch p 0
     word_some = go (get_or scratch p 0) refl
@@ -135,18 +135,18 @@ module _ {frame : Frame} {formulas effects notes operators : List ℕ} {o : ℕ}
 
   pub finds :
       (e : ℕ)
-      → e ≡ (operator-at operators o).effect
+      → e ≡ (operator_at operators o).effect
       → FindsConditions frame formulas effects notes n (store table originals) scratch e buffer
   finds e its =
       record {
         stands = a.stands;
-        no-twins = a.no-twins;
+        no_twins = a.no_twins;
         effect = omega (arith, its, a.effect);
         room = a.room;
       }
 
   -- The conditions are found.
-  module _ {e p : ℕ} (its-effect : e ≡ (operator-at operators o).effect) (its : p ≡ (operator-at operators o).precondition)
+  module _ {e p : ℕ} (its-effect : e ≡ (operator_at operators o).effect) (its : p ≡ (operator_at operators o).precondition)
       {notes' : List ℕ} {n' : ℕ} {table' originals' scratch' found : List ℕ}
       (c : FoundTo frame formulas effects notes' n (store table originals) e n' (store table' originals') scratch' found frame.variables) where
     pub asks-pairs : frame.variables ≤ length found → PairsReady frame n' table' found firsts v (get_or scratch p 0 - 1)
@@ -154,31 +154,31 @@ module _ {frame : Frame} {formulas effects notes operators : List ℕ} {o : ℕ}
         record {
           flags =
               record {
-                ready = ready-plain a.no-twins c.stands.ready;
+                ready = ready_plain a.no_twins c.stands.ready;
                 room = room;
                 limit = omega (arith, c.stands.ready.variables);
                 rows = c.rows;
                 row = omega (arith, word_row p its, c.grew);
               };
-          words = a.firsts-kept.words;
-          few = a.firsts-kept.few;
-          ends = a.firsts-kept.ends;
+          words = a.firsts_kept.words;
+          few = a.firsts_kept.few;
+          ends = a.firsts_kept.ends;
         }
 
-    module _ {table'' : List ℕ} {n'' k : ℕ} (b : TableBuilds (pairs-by firsts v found (get_or scratch p 0 - 1)) frame n' table' table'' n'' k) where
+    module _ {table'' : List ℕ} {n'' k : ℕ} (b : TableBuilds (pairs_by firsts v found (get_or scratch p 0 - 1)) frame n' table' table'' n'' k) where
       abbrev here : Build ℕ
       here =
-          guarded-by frame formulas effects firsts v (operator-at operators o).effect
-          (get_or scratch (operator-at operators o).precondition 0 - 1)
+          guarded_by frame formulas effects firsts v (operator_at operators o).effect
+          (get_or scratch (operator_at operators o).precondition 0 - 1)
 
-      whole : here (held (sized n 0) (store table originals)) ≡ pairs-by firsts v found (get_or scratch p 0 - 1) (held (sized n' 0) (store table' []))
-      unfolding guarded-by bind
+      whole : here (held (sized n 0) (store table originals)) ≡ pairs_by firsts v found (get_or scratch p 0 - 1) (held (sized n' 0) (store table' []))
+      unfolding guarded_by bind
       whole =
           rw (← its, ← its-effect)
-          (ap₂ (λ (l : List ℕ) (t : St). pairs-by firsts v l (get_or scratch p 0 - 1) t) c.value c.state
+          (ap₂ (λ (l : List ℕ) (t : St). pairs_by firsts v l (get_or scratch p 0 - 1) t) c.value c.state
           ∙ ap₂ (λ (m : Build ℕ) (t : St). m t)
           (pairs-found firsts v (get_or scratch p 0 - 1) frame.variables (take frame.variables found) found
-          (λ i h. get_or-take frame.variables found i 0 h) a.firsts-kept.ends)
+          (λ i h. get_or-take frame.variables found i 0 h) a.firsts_kept.ends)
           (held_plain n' table' originals'))
 
       pub guarded :
@@ -190,13 +190,13 @@ module _ {frame : Frame} {formulas effects notes operators : List ℕ} {o : ℕ}
                 let d = b.done (ne_eqb k 65535 f) in
                 let steady = steady-pairs-by found firsts v (get_or scratch p 0 - 1) in
                 let grown : Grows (held (sized n' 0) (store table' originals')) (held (sized n'' 0) (store table'' originals')) =
-                rw (held_plain n' table' originals', held_plain n'' table'' originals') (done-grows steady d) in
+                rw (held_plain n' table' originals', held_plain n'' table'' originals') (done_grows steady d) in
                 let z = c.stands in
                 record {
                   stands =
                       stands_on z refl
-                      (ready-beside a.no-twins (λ j. z.ready.past-twins j (omega arith)) d.ready) (noted-grows grown z.noted)
-                      (memo-grows grown z.memo) (effect-memo-grows grown (λ j h. refl) z.effect-memo);
+                      (ready_beside a.no_twins (λ j. z.ready.past_twins j (omega arith)) d.ready) (noted_grows grown z.noted)
+                      (memo_grows grown z.memo) (effect_memo_grows grown (λ j h. refl) z.effect_memo);
                   state = ap (λ (g : Got ℕ). g.st) whole ∙ d.state ∙ sym (held_plain n'' table'' originals');
                   value = ap (λ (g : Got ℕ). g.value) whole ∙ d.value;
                 };
@@ -206,19 +206,19 @@ module _ {frame : Frame} {formulas effects notes operators : List ℕ} {o : ℕ}
   -- there was no room for them
   pub conditions-full :
       {e : ℕ}
-      → e ≡ (operator-at operators o).effect
+      → e ≡ (operator_at operators o).effect
       → {notes' : List ℕ} {n' : ℕ} {s' : Store} {scratch' found : List ℕ} {room : Bool} {notes₁ scratch₁ : List ℕ} {n₁ : ℕ} {s₁ : Store}
       → room ≡ false
       → FoundAll frame formulas effects notes' n (store table originals) e n' s' scratch' found room
       → Reaches
-      (guarded-by frame formulas effects firsts v (operator-at operators o).effect (get_or scratch (operator-at operators o).precondition 0 - 1)) frame
+      (guarded_by frame formulas effects firsts v (operator_at operators o).effect (get_or scratch (operator_at operators o).precondition 0 - 1)) frame
       formulas effects notes₁ n (store table originals) n₁ s₁ scratch₁ 65535
-  unfolding guarded-by bind
+  unfolding guarded_by bind
   conditions-full its q c =
       record {
         done = λ f. absurd (f refl);
         over = λ _ w.
-            let g = conditions-of frame formulas effects (operator-at operators o).effect frame.variables (held (sized n 0) (store table originals)) in
-            let p = get_or scratch (operator-at operators o).precondition 0 - 1 in
-            (rw its at c).over q (within-before ((steady-pairs-by g.value firsts v p).grow g.st) w);
+            let g = conditions_of frame formulas effects (operator_at operators o).effect frame.variables (held (sized n 0) (store table originals)) in
+            let p = get_or scratch (operator_at operators o).precondition 0 - 1 in
+            (rw its at c).over q (within_before ((steady-pairs-by g.value firsts v p).grow g.st) w);
       }

@@ -10,55 +10,55 @@ use lib.Dec.{eqb}
 use borrow.Author.Tests.{eq-eqb, ne_eqb}
 use Rattle.normal_form.specs.Builder.{St, Got, Build, give, bind, row, join, plain}
 use Rattle.normal_form.specs.Growth.{Grows, Steady}
-use Rattle.normal_form.proofs.Growth.{grows-refl, grows-trans, steady-bind, steady-row, steady-join}
+use Rattle.normal_form.proofs.Growth.{grows_refl, grows_trans, steady_bind, steady_row, steady_join}
 use Rattle.formula_builder.specs.declared.Frame.{Frame}
 use Rattle.formula_builder.specs.declared.Size.{Size}
 use Rattle.formula_builder.specs.declared.Step.{Step}
 use Rattle.formula_builder.specs.Inner.Held.{Store, held, size_of, sized, stepped, JoinReady, Ready, Done, Builds}
-use Rattle.formula_builder.proofs.Steps.{builds-done, builds-over, builds-bind, builds-stop, builds-stands, bind_done, within-before}
-use Rattle.translation.specs.Pairs.{through, without-both, unless-never}
-use Rattle.translation.proofs.GuardSteady.{steady-through, steady-unless-never}
+use Rattle.formula_builder.proofs.Steps.{builds-done, builds-over, builds-bind, builds_stop, builds_stands, bind_done, within_before}
+use Rattle.translation.specs.Pairs.{through, without_both, unless_never}
+use Rattle.translation.proofs.GuardSteady.{steady_through, steady_unless_never}
 use Rattle.operator_guards.specs.Inner.Steps.{TableBuilds}
-use Rattle.operator_guards.specs.Inner.Pairing.{passing, with-flag, above, between, own-pairs, pairs-by, PairReady, FlagsReady}
+use Rattle.operator_guards.specs.Inner.Pairing.{passing, with_flag, above, between, own_pairs, pairs_by, PairReady, FlagsReady}
 
 -- an answer that is a row is not 65535
 pub not_full : {frame : Frame} {n w k : ℕ} {s : Store} → Ready frame (sized n w) s → k < n → eqb k 65535 ≡ false
 not_full {k = k} ready h = ne_eqb k 65535 (λ e. omega (arith, ready.rows.within, ready.rows.limit))
 
-pub done-builds :
+pub done_builds :
     {m : Build ℕ} {frame : Frame} {at : Size} {before after : Store} {n w k : ℕ}
     → Done m frame at before after (stepped n w k)
     → Builds m frame at before after (stepped n w k)
-done-builds d = builds-done (not_full d.ready d.below) d
+done_builds d = builds-done (not_full d.ready d.below) d
 
-pub joins-ready : {frame : Frame} {n w a b : ℕ} {s : Store} → Ready frame (sized n w) s → a < n → b < n → JoinReady frame.rows n s.table a b
-joins-ready ready l r = record { rows = ready.rows; two = ready.two; left = l; right = r }
+pub joins_ready : {frame : Frame} {n w a b : ℕ} {s : Store} → Ready frame (sized n w) s → a < n → b < n → JoinReady frame.rows n s.table a b
+joins_ready ready l r = record { rows = ready.rows; two = ready.two; left = l; right = r }
 
-pub next-ready :
+pub next_ready :
     {m : Build ℕ} {frame : Frame} {at : Size} {before after : Store} {n w k : ℕ}
     → Builds m frame at before after (stepped n w k)
     → (k ≡ 65535 → ⊥)
     → Ready frame (sized n w) after
-next-ready {k = k} b f = (b.done (ne_eqb k 65535 f)).ready
+next_ready {k = k} b f = (b.done (ne_eqb k 65535 f)).ready
 
 -- More steps of a loop only add.
-through-grows :
+through_grows :
     {A : Type 0} {f : ℕ → A → Build A} (x : A) (s : St)
     → ((k : ℕ) (y : A) → Steady (f k y))
     → (k n : ℕ)
     → k ≤ n
     → Grows (through k f x s).st (through n f x s).st
 unfolding through bind
-through-grows {f = f} x s steady k zero h = let e : k ≡ 0 = omega arith in rw e (grows-refl (through 0 f x s).st)
-through-grows {A} {f} x s steady k (suc n) h = go (dec_le k n) (through-grows x s steady k n)
+through_grows {f = f} x s steady k zero h = let e : k ≡ 0 = omega arith in rw e (grows_refl (through 0 f x s).st)
+through_grows {A} {f} x s steady k (suc n) h = go (dec_le k n) (through_grows x s steady k n)
   where
     go : Dec (k ≤ n) → (k ≤ n → Grows (through k f x s).st (through n f x s).st) → Grows (through k f x s).st (through (suc n) f x s).st
-    go (yes l) below = grows-trans (below l) ((steady n (through n f x s).value).grow (through n f x s).st)
-    go (no l) below = let e : k ≡ suc n = omega arith in rw e (grows-refl (through (suc n) f x s).st)
+    go (yes l) below = grows_trans (below l) ((steady n (through n f x s).value).grow (through n f x s).st)
+    go (no l) below = let e : k ≡ suc n = omega arith in rw e (grows_refl (through (suc n) f x s).st)
 
-pub steady-passing : {f : ℕ → ℕ → Build ℕ} (from end x : ℕ) → ((k y : ℕ) → Steady (f k y)) → Steady (passing from end f x)
+pub steady_passing : {f : ℕ → ℕ → Build ℕ} (from end x : ℕ) → ((k y : ℕ) → Steady (f k y)) → Steady (passing from end f x)
 unfolding passing
-steady-passing from end x steady = steady-through (end - from) x (λ k y. steady (from + k) y)
+steady_passing from end x steady = steady_through (end - from) x (λ k y. steady (from + k) y)
 
 module _ (f : ℕ → ℕ → Build ℕ) (from p : ℕ) {frame : Frame} where
   pub passing-none :
@@ -66,7 +66,7 @@ module _ (f : ℕ → ℕ → Build ℕ) (from p : ℕ) {frame : Frame} where
   unfolding passing through
   passing-none ready h =
       let none : from - from ≡ 0 = omega arith in
-      rw none ((builds-stands p ready h).done (not_full ready h))
+      rw none ((builds_stands p ready h).done (not_full ready h))
 
   module _ {at : Size} {before mid : Store} {l : Step} (y : ℕ) (low : from ≤ y) (d : Done (passing from y f p) frame at before mid l)
       {after : Store} {r : Step} (b : Builds (f y l.row) frame (size_of l) mid after r) where
@@ -103,8 +103,8 @@ module _ (f : ℕ → ℕ → Build ℕ) (from p : ℕ) {frame : Frame} where
         builds-over e (one_more.still e)
         (λ w.
         one_more.over e
-        (within-before
-        (through-grows p (held at before) (λ k z. steady (from + k) z) (y + 1 - from) (end - from) (omega arith)) w))
+        (within_before
+        (through_grows p (held at before) (λ k z. steady (from + k) z) (y + 1 - from) (end - from) (omega arith)) w))
 
   pub passing-end :
       {at : Size} {before after : Store} {n w k : ℕ} (y end : ℕ)
@@ -115,70 +115,70 @@ module _ (f : ℕ → ℕ → Build ℕ) (from p : ℕ) {frame : Frame} where
   unfolding passing
   passing-end y end low high d =
       let same : end - from ≡ y - from = omega arith in
-      rw same (done-builds d)
+      rw same (done_builds d)
 
 -- "not (one and other)", joined after the precondition so far.
 module _ (one other p : ℕ) {frame : Frame} {n : ℕ} {table mid : List ℕ} {m k : ℕ} (b : TableBuilds (join plain one other) frame n table mid m k) where
-  pub pair-first : k ≡ 65535 → TableBuilds (without-both one other p) frame n table mid m k
-  unfolding without-both
+  pub pair-first : k ≡ 65535 → TableBuilds (without_both one other p) frame n table mid m k
+  unfolding without_both
   pair-first e =
-      builds-stop (λ k. bind (row (record { kind = 3; a = k; b = 0 })) (λ n. join plain p n))
-      (λ k. steady-bind (steady-row _) (λ n. steady-join plain p n)) b (eq-eqb k 65535 e)
+      builds_stop (λ k. bind (row (record { kind = 3; a = k; b = 0 })) (λ n. join plain p n))
+      (λ k. steady_bind (steady_row _) (λ n. steady_join plain p n)) b (eq-eqb k 65535 e)
 
   module _ (f : k ≡ 65535 → ⊥) {late : List ℕ} {m' k' : ℕ} (c : TableBuilds (row (record { kind = 3; a = k; b = 0 })) frame m mid late m' k') where
-    pub pair-second : k' ≡ 65535 → TableBuilds (without-both one other p) frame n table late m' k'
-    unfolding without-both
+    pub pair-second : k' ≡ 65535 → TableBuilds (without_both one other p) frame n table late m' k'
+    unfolding without_both
     pair-second e =
         builds-bind (λ k. bind (row (record { kind = 3; a = k; b = 0 })) (λ n. join plain p n)) b (ne_eqb k 65535 f)
-        (builds-stop (λ n. join plain p n) (λ n. steady-join plain p n) c (eq-eqb k' 65535 e))
+        (builds_stop (λ n. join plain p n) (λ n. steady_join plain p n) c (eq-eqb k' 65535 e))
 
     -- what the last join asks
     pub pair-asks : (k' ≡ 65535 → ⊥) → p < n → JoinReady frame.rows m' late p k'
     pair-asks g h =
         let x = b.done (ne_eqb k 65535 f) in
         let y = c.done (ne_eqb k' 65535 g) in
-        joins-ready y.ready (omega (arith, h, x.grew, y.grew)) y.below
+        joins_ready y.ready (omega (arith, h, x.grew, y.grew)) y.below
 
     pub pair-whole :
         {last : List ℕ} {m'' k'' : ℕ}
         → (k' ≡ 65535 → ⊥)
         → TableBuilds (join plain p k') frame m' late last m'' k''
-        → TableBuilds (without-both one other p) frame n table last m'' k''
-    unfolding without-both
+        → TableBuilds (without_both one other p) frame n table last m'' k''
+    unfolding without_both
     pair-whole g d =
         builds-bind (λ k. bind (row (record { kind = 3; a = k; b = 0 })) (λ n. join plain p n)) b (ne_eqb k 65535 f)
         (builds-bind (λ n. join plain p n) c (ne_eqb k' 65535 g) d)
 
 -- none where one of the two is false
 module _ (one other p : ℕ) where
-  pub never-left : one ≡ 0 → unless-never one other p ≡ give p
-  unfolding unless-never
-  never-left e = rw e refl
+  pub never_left : one ≡ 0 → unless_never one other p ≡ give p
+  unfolding unless_never
+  never_left e = rw e refl
 
-  pub never-right : (one ≡ 0 → ⊥) → other ≡ 0 → unless-never one other p ≡ give p
-  unfolding unless-never
-  never-right h e = rw (ne_eqb one 0 h, e) refl
+  pub never_right : (one ≡ 0 → ⊥) → other ≡ 0 → unless_never one other p ≡ give p
+  unfolding unless_never
+  never_right h e = rw (ne_eqb one 0 h, e) refl
 
-  pub clash-may-be : (one ≡ 0 → ⊥) → (other ≡ 0 → ⊥) → unless-never one other p ≡ without-both one other p
-  unfolding unless-never
+  pub clash-may-be : (one ≡ 0 → ⊥) → (other ≡ 0 → ⊥) → unless_never one other p ≡ without_both one other p
+  unfolding unless_never
   clash-may-be h g = rw (ne_eqb one 0 h, ne_eqb other 0 g) refl
 
 -- The loops of pairs are steady.
 module _ (found : List ℕ) where
-  pub steady-with : (x y q : ℕ) → Steady (with-flag found x y q)
-  steady-with x y q = steady-unless-never (get_or found x 0) (get_or found y 0) q
+  pub steady-with : (x y q : ℕ) → Steady (with_flag found x y q)
+  steady-with x y q = steady_unless_never (get_or found x 0) (get_or found y 0) q
 
   pub steady-above : (end x q : ℕ) → Steady (above found end x q)
   unfolding above
-  steady-above end x q = steady-passing (x + 1) end q (steady-with x)
+  steady-above end x q = steady_passing (x + 1) end q (steady-with x)
 
-  pub steady-own : (firsts : List ℕ) (a q : ℕ) → Steady (own-pairs firsts found a q)
-  unfolding own-pairs between
-  steady-own firsts a q = steady-passing (get_or firsts a 0) (get_or firsts (a + 1) 0) q (steady-above (get_or firsts (a + 1) 0))
+  pub steady-own : (firsts : List ℕ) (a q : ℕ) → Steady (own_pairs firsts found a q)
+  unfolding own_pairs between
+  steady-own firsts a q = steady_passing (get_or firsts a 0) (get_or firsts (a + 1) 0) q (steady-above (get_or firsts (a + 1) 0))
 
-  pub steady-pairs-by : (firsts : List ℕ) (v q : ℕ) → Steady (pairs-by firsts v found q)
-  unfolding pairs-by
-  steady-pairs-by firsts v q = steady-passing 0 v q (steady-own firsts)
+  pub steady-pairs-by : (firsts : List ℕ) (v q : ℕ) → Steady (pairs_by firsts v found q)
+  unfolding pairs_by
+  steady-pairs-by firsts v q = steady_passing 0 v q (steady-own firsts)
 
 -- The ways out of the three loops.
 module _ (found : List ℕ) (p : ℕ) {frame : Frame} {at : Size} {before : Store} where
@@ -187,12 +187,12 @@ module _ (found : List ℕ) (p : ℕ) {frame : Frame} {at : Size} {before : Stor
         (end x y : ℕ)
         → x + 1 ≤ y
         → y < end
-        → Done (passing (x + 1) y (with-flag found x) p) frame at before mid l
-        → Builds (with-flag found x y l.row) frame (size_of l) mid after r
+        → Done (passing (x + 1) y (with_flag found x) p) frame at before mid l
+        → Builds (with_flag found x y l.row) frame (size_of l) mid after r
         → r.full ≡ true
         → Builds (above found end x p) frame at before after r
     unfolding above
-    above-over end x y low h d b e = passing-over (with-flag found x) (x + 1) p y low d b (steady-with found x) end h e
+    above-over end x y low h d b e = passing-over (with_flag found x) (x + 1) p y low d b (steady-with found x) end h e
 
     pub between-over :
         (from end x : ℕ)
@@ -208,22 +208,22 @@ module _ (found : List ℕ) (p : ℕ) {frame : Frame} {at : Size} {before : Stor
     pub pairs-over :
         (firsts : List ℕ) (v a : ℕ)
         → a < v
-        → Done (passing 0 a (own-pairs firsts found) p) frame at before mid l
-        → Builds (own-pairs firsts found a l.row) frame (size_of l) mid after r
+        → Done (passing 0 a (own_pairs firsts found) p) frame at before mid l
+        → Builds (own_pairs firsts found a l.row) frame (size_of l) mid after r
         → r.full ≡ true
-        → Builds (pairs-by firsts v found p) frame at before after r
-    unfolding pairs-by
-    pairs-over firsts v a h d b e = passing-over (own-pairs firsts found) 0 p a (omega arith) d b (steady-own found firsts) v h e
+        → Builds (pairs_by firsts v found p) frame at before after r
+    unfolding pairs_by
+    pairs-over firsts v a h d b e = passing-over (own_pairs firsts found) 0 p a (omega arith) d b (steady-own found firsts) v h e
 
   module _ {after : Store} {n w k : ℕ} where
     pub above-end :
         (end x y : ℕ)
         → y - (x + 1) ≤ end - (x + 1)
         → end ≤ y
-        → Done (passing (x + 1) y (with-flag found x) p) frame at before after (stepped n w k)
+        → Done (passing (x + 1) y (with_flag found x) p) frame at before after (stepped n w k)
         → Builds (above found end x p) frame at before after (stepped n w k)
     unfolding above
-    above-end end x y low high d = passing-end (with-flag found x) (x + 1) p y end low high d
+    above-end end x y low high d = passing-end (with_flag found x) (x + 1) p y end low high d
 
     pub between-end :
         (from end x : ℕ)
@@ -238,15 +238,15 @@ module _ (found : List ℕ) (p : ℕ) {frame : Frame} {at : Size} {before : Stor
         (firsts : List ℕ) (v a : ℕ)
         → a ≤ v
         → v ≤ a
-        → Done (passing 0 a (own-pairs firsts found) p) frame at before after (stepped n w k)
-        → Builds (pairs-by firsts v found p) frame at before after (stepped n w k)
-    unfolding pairs-by
-    pairs_end firsts v a low high d = passing-end (own-pairs firsts found) 0 p a v (omega arith) high d
+        → Done (passing 0 a (own_pairs firsts found) p) frame at before after (stepped n w k)
+        → Builds (pairs_by firsts v found p) frame at before after (stepped n w k)
+    unfolding pairs_by
+    pairs_end firsts v a low high d = passing-end (own_pairs firsts found) 0 p a v (omega arith) high d
 
 -- a variable's own pairs
 pub own_is :
-    (firsts found : List ℕ) (a q : ℕ) → own-pairs firsts found a q ≡ between found (get_or firsts a 0) (get_or firsts (a + 1) 0) q
-unfolding own-pairs
+    (firsts found : List ℕ) (a q : ℕ) → own_pairs firsts found a q ≡ between found (get_or firsts a 0) (get_or firsts (a + 1) 0) q
+unfolding own_pairs
 own_is firsts found a q = refl
 
 -- What a part of the pairs asks, behind a step.
@@ -267,8 +267,8 @@ module _ {frame : Frame} {n : ℕ} {table found : List ℕ} {end p : ℕ} (a : F
   pub pair-ready : (x y : ℕ) → x < end → y < end → PairReady frame n table (get_or found x 0) (get_or found y 0) p
   pair-ready x y h g = record { ready = a.ready; left = a.rows x h; right = a.rows y g; row = a.row }
 
-  pub flags-below : (end' : ℕ) → end' ≤ end → FlagsReady frame n table found end' p
-  flags-below end' h =
+  pub flags_below : (end' : ℕ) → end' ≤ end → FlagsReady frame n table found end' p
+  flags_below end' h =
       record {
         ready = a.ready;
         room = omega (arith, a.room, h);

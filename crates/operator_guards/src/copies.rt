@@ -2,7 +2,7 @@
 ghost use Rattle.std.specs.Prelude.{◌-◌, get_or};
 ghost use Rattle.formula_builder.specs.Inner.Held.{row_of, framed};
 ghost use Rattle.operator_guards.specs.Inner.Steps.{TableBuilds};
-ghost use Rattle.operator_guards.specs.Inner.Copying.{copied-row, CopiesRow, Copies, CopiedAll};
+ghost use Rattle.operator_guards.specs.Inner.Copying.{copied_row, CopiesRow, Copies, CopiedAll};
 
 use formula_builder::{FORMULAS, NO_ROOM, ROWS, Words, read_row, row};
 
@@ -20,7 +20,7 @@ fn copy_row(
     table: &mut [u16],
 ) -> u16
     requires { CopiesRow (framed frame.now) rows.old table.old scratch.now (row_of w) }
-    ensures { TableBuilds (copied-row (row_of w) (get_or scratch.now w.a 0 - 1) (get_or scratch.now w.b 0 - 1)) (framed frame.now) rows.old table.old table.new rows.new result }
+    ensures { TableBuilds (copied_row (row_of w) (get_or scratch.now w.a 0 - 1) (get_or scratch.now w.b 0 - 1)) (framed frame.now) rows.old table.old table.new rows.new result }
 {
     if w.kind < VARIABLE {
         return w.kind;

@@ -1,8 +1,8 @@
 // One operator.
 ghost use Rattle.std.specs.Prelude.{◌-◌, get_or};
-ghost use Rattle.task.specs.Table.{operator-at};
+ghost use Rattle.task.specs.Table.{operator_at};
 ghost use Rattle.formula_builder.specs.Inner.Held.{store};
-ghost use Rattle.operator_guards.specs.Inner.Guarding.{guarded-by, GuardsOperator, Reaches};
+ghost use Rattle.operator_guards.specs.Inner.Guarding.{guarded_by, GuardsOperator, Reaches};
 
 use crate::Counts;
 use crate::assignments::find_conditions;
@@ -26,7 +26,7 @@ pub fn guard_operator(
     scratch: &mut [u16],
 ) -> u16
     requires { GuardsOperator counts.frame formulas.now effects.now notes.old operators.now o firsts.now counts.variables found.old rows.old (store table.old originals.old) scratch.old }
-    ensures { Reaches (guarded-by counts.frame formulas.now effects.now firsts.now counts.variables (operator-at operators.now o).effect (get_or scratch.old (operator-at operators.now o).precondition 0 - 1)) counts.frame formulas.now effects.now notes.new rows.old (store table.old originals.old) rows.new (store table.new originals.new) scratch.new result }
+    ensures { Reaches (guarded_by counts.frame formulas.now effects.now firsts.now counts.variables (operator_at operators.now o).effect (get_or scratch.old (operator_at operators.now o).precondition 0 - 1)) counts.frame formulas.now effects.now notes.new rows.old (store table.old originals.old) rows.new (store table.new originals.new) scratch.new result }
 {
     let words = words_of(counts.frame);
     let p = precondition_of(operators, o) as usize;

@@ -1,9 +1,9 @@
 // The pairs of values that would clash, taken out of a precondition: variable by variable, by the lower value and then the higher.
 ghost use Rattle.std.specs.Prelude.{◌<◌};
-ghost use Rattle.translation.specs.Pairs.{without-both as without-both-built, unless-never as unless-never-built};
+ghost use Rattle.translation.specs.Pairs.{without_both as without-both-built, unless_never as unless-never-built};
 ghost use Rattle.formula_builder.specs.Inner.Held.{framed};
 ghost use Rattle.operator_guards.specs.Inner.Steps.{TableBuilds};
-ghost use Rattle.operator_guards.specs.Inner.Pairing.{above, between, pairs-by, PairReady, FlagsReady, PairsReady};
+ghost use Rattle.operator_guards.specs.Inner.Pairing.{above, between, pairs_by, PairReady, FlagsReady, PairsReady};
 
 use crate::copies::NOT;
 use formula_builder::{NO_ROOM, ROWS, join, row};
@@ -113,7 +113,7 @@ pub fn pairs(
     table: &mut [u16],
 ) -> u16
     requires { PairsReady (framed frame.now) rows.old table.old found.now firsts.now v p }
-    ensures { TableBuilds (pairs-by firsts.now v found.now p) (framed frame.now) rows.old table.old table.new rows.new result }
+    ensures { TableBuilds (pairs_by firsts.now v found.now p) (framed frame.now) rows.old table.old table.new rows.new result }
 {
     let mut q = p;
     let mut a = 0;

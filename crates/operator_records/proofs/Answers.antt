@@ -8,7 +8,7 @@ use lib.ListN.{length, get_or, set}
 use lib.Dec.{T, leb, ltb, eqb, leb→le, nleb→lt, ltb→lt, nltb→le}
 use Rattle.task.specs.Check.{unless}
 use Rattle.operator_records.specs.declared.OperatorRecord.{OperatorRecord}
-use Rattle.operator_records.specs.Change.{number_of, with-percent, changed, change-by, change, ChangeGives}
+use Rattle.operator_records.specs.Change.{number_of, with_percent, changed, change_by, change, ChangeGives}
 
 by-test : (b : Bool) (number otherwise r : ℕ) → (T (not b) → r ≡ number) → (T b → r ≡ otherwise) → r ≡ unless b number otherwise
 by-test true number otherwise r broken kept = kept tt
@@ -32,27 +32,27 @@ pub within : (count number percent : ℕ) → number_of count number percent ≡
 unfolding number_of
 within count number percent is = ltb→lt number count (kept-at-zero (ltb number count) 16 _ is)
 
-refused-by : (k : ℕ) (rs : List OperatorRecord) (number percent : ℕ) → T (not (eqb k 0)) → ChangeGives (change-by k rs number percent) k rs
-unfolding change-by
-refused-by zero rs number percent not-zero = absurd not-zero
-refused-by (suc k) rs number percent not-zero = record { answer = refl; records = refl }
+refused-by : (k : ℕ) (rs : List OperatorRecord) (number percent : ℕ) → T (not (eqb k 0)) → ChangeGives (change_by k rs number percent) k rs
+unfolding change_by
+refused-by zero rs number percent not_zero = absurd not_zero
+refused-by (suc k) rs number percent not_zero = record { answer = refl; records = refl }
 
-changed-by : (k : ℕ) (rs : List OperatorRecord) (number percent : ℕ) → k ≡ 0 → ChangeGives (change-by k rs number percent) k (changed rs number percent)
-unfolding change-by
-changed-by zero rs number percent is = record { answer = refl; records = refl }
-changed-by (suc k) rs number percent is = absurd (suc-ne-zero k is)
+changed_by : (k : ℕ) (rs : List OperatorRecord) (number percent : ℕ) → k ≡ 0 → ChangeGives (change_by k rs number percent) k (changed rs number percent)
+unfolding change_by
+changed_by zero rs number percent is = record { answer = refl; records = refl }
+changed_by (suc k) rs number percent is = absurd (suc-ne-zero k is)
 
 -- an answer that is not 0 leaves every record as it was
 pub change-refused : (rs : List OperatorRecord) (number percent r : ℕ) → r ≡ number_of (length rs) number percent → T (not (eqb r 0))
     → ChangeGives (change rs number percent) r rs
 unfolding change
-change-refused rs number percent r is not-zero =
-    let by_number = refused-by (number_of (length rs) number percent) rs number percent (subst (λ k. T (not (eqb k 0))) is not-zero) in
+change-refused rs number percent r is not_zero =
+    let by_number = refused-by (number_of (length rs) number percent) rs number percent (subst (λ k. T (not (eqb k 0))) is not_zero) in
     subst (λ k. ChangeGives (change rs number percent) k rs) (sym is) by_number
 
 -- the record with another percent, stored at its number, is the definition's list
 stored_is : (d : OperatorRecord) (rs : List OperatorRecord) (number percent : ℕ)
-    → changed rs number percent ≡ set rs number (with-percent percent (get_or rs number d))
+    → changed rs number percent ≡ set rs number (with_percent percent (get_or rs number d))
 unfolding changed
 stored_is d [] number percent = refl
 stored_is d (r ∷ rs) zero percent = refl
@@ -60,9 +60,9 @@ stored_is d (r ∷ rs) (suc number) percent = ap {B = List OperatorRecord} (λ r
 
 -- an answer of 0 goes with that store
 pub change-made : (d : OperatorRecord) (rs : List OperatorRecord) (number percent r : ℕ) → r ≡ number_of (length rs) number percent → r ≡ 0
-    → ChangeGives (change rs number percent) r (set rs number (with-percent percent (get_or rs number d)))
+    → ChangeGives (change rs number percent) r (set rs number (with_percent percent (get_or rs number d)))
 unfolding change
 change-made d rs number percent r is zeroed =
-    let by_number = changed-by (number_of (length rs) number percent) rs number percent (sym is ∙ zeroed) in
+    let by_number = changed_by (number_of (length rs) number percent) rs number percent (sym is ∙ zeroed) in
     subst (λ after. ChangeGives (change rs number percent) r after) (stored_is d rs number percent)
     (subst (λ k. ChangeGives (change rs number percent) k (changed rs number percent)) (sym is) by_number)

@@ -9,13 +9,13 @@ unfoldable pub number_of : (count number percent : ℕ) → ℕ
 number_of count number percent = unless (ltb number count) 17 (unless (leb percent 200) 24 0)
 
 -- a record with another percent, and the rest of its words as they were
-abbrev pub with-percent : ℕ → OperatorRecord → OperatorRecord
-with-percent percent r = record { precondition = r.precondition; effect = r.effect; cost = r.cost; percent = percent }
+abbrev pub with_percent : ℕ → OperatorRecord → OperatorRecord
+with_percent percent r = record { precondition = r.precondition; effect = r.effect; cost = r.cost; percent = percent }
 
 -- the records with that one percent changed. Of two records and number 1 the first stays as it was.
 unfoldable pub changed : List OperatorRecord → (number percent : ℕ) → List OperatorRecord
 changed [] number percent = []
-changed (r ∷ rs) zero percent = with-percent percent r ∷ rs
+changed (r ∷ rs) zero percent = with_percent percent r ∷ rs
 changed (r ∷ rs) (suc number) percent = r ∷ changed rs number percent
 
 -- What a call of `set_percent` leaves.
@@ -24,12 +24,12 @@ pub record Change : Type 0 where
   pub records : List OperatorRecord
 
 -- the outcome by its number: a refusal changes nothing
-unfoldable pub change-by : ℕ → List OperatorRecord → (number percent : ℕ) → Change
-change-by zero rs number percent = record { answer = 0; records = changed rs number percent }
-change-by (suc refusal) rs number percent = record { answer = suc refusal; records = rs }
+unfoldable pub change_by : ℕ → List OperatorRecord → (number percent : ℕ) → Change
+change_by zero rs number percent = record { answer = 0; records = changed rs number percent }
+change_by (suc refusal) rs number percent = record { answer = suc refusal; records = rs }
 
 unfoldable pub change : List OperatorRecord → (number percent : ℕ) → Change
-change rs number percent = change-by (number_of (length rs) number percent) rs number percent
+change rs number percent = change_by (number_of (length rs) number percent) rs number percent
 
 -- What the contract of `set_percent` says: the answer and the records at exit are the definition's.
 pub record ChangeGives (w : Change) (r : ℕ) (after : List OperatorRecord) : Type 0 where

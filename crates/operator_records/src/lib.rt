@@ -1,11 +1,13 @@
 // Operator records (02, K2): one percent changed in a lent list, and ways between a table's rows and records. The calls are exported under their
 // plain names, so that a caller outside Rattle has them as well.
+#![tactic(auto)]
+
 pub mod change;
 pub mod row_records;
 
 // An operator's row as a record.
 #[repr(C)]
-#[derive(Drop)]
+#[derive(Clone, Copy)]
 pub struct OperatorRecord {
     pub precondition: u16,
     pub effect: u16,

@@ -1,6 +1,6 @@
 // Rows of an operator table as records, and records as rows. Constant time, each.
 ghost use Rattle.std.specs.Prelude.{◌≡◌};
-ghost use Rattle.operator_records.specs.Rows.{row-record, with-record};
+ghost use Rattle.operator_records.specs.Rows.{row_record, with_record};
 
 use crate::OperatorRecord;
 use task::operator_rows::{
@@ -10,7 +10,7 @@ use task::operator_rows::{
 // The record of row `number` of an operator table; all words 0 where the table does not hold that row.
 #[unsafe(no_mangle)]
 pub extern "C" fn record_of(operators: &[u16], number: usize) -> OperatorRecord
-    ensures { result ≡ row-record operators.now number }
+    ensures { result ≡ row_record operators.now number }
 {
     if number < operators.len() / OPERATOR_WORDS {
         OperatorRecord {
@@ -32,7 +32,7 @@ pub extern "C" fn record_of(operators: &[u16], number: usize) -> OperatorRecord
 // Stores a record as row `number` of an operator table; nothing changes where the table does not hold that row.
 #[unsafe(no_mangle)]
 pub extern "C" fn store_record(operators: &mut [u16], number: usize, row: OperatorRecord)
-    ensures { operators.new ≡ with-record operators.old number row }
+    ensures { operators.new ≡ with_record operators.old number row }
 {
     if number < operators.len() / OPERATOR_WORDS {
         store_operator(

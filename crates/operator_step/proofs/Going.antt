@@ -9,7 +9,7 @@ use lib.Dec.{ltb}
 use Rattle.task.specs.declared.Head.{Head}
 use Rattle.task.specs.Table.{Task}
 use Rattle.task.specs.Semantics.{effcond, sets, clears, value_after, apply}
-use Rattle.task.specs.Run.{Progress, stopped, effect-of-operator, applicable, after-step, answer, run_on}
+use Rattle.task.specs.Run.{Progress, stopped, effect_of_operator, applicable, after_step, answer, run_on}
 use Rattle.task.proofs.Bounded.{length-upto, getD-upto}
 use Rattle.operator_step.specs.declared.Taken.{Taken}
 use Rattle.operator_step.specs.Inner.Steps.{StateReady, Took, took_by, took, Takes}
@@ -26,14 +26,14 @@ module _ (t : Task) (p : Progress) (o : ℕ) (rest : List ℕ) where
         cost = p.cost + (took t p.state o).answer.charge;
       })
       rest
-  unfolding run_on took took_by after-step
+  unfolding run_on took took_by after_step
   goes_on = go (ltb o (length t.operators)) (applicable t p.state o)
     where
       go :
           (b c : Bool)
           → let w : Took = took_by b c t p.state o in
           w.answer.stop ≡ 0
-          → cond b (cond c (run_on t (after-step t p o) rest) (answer t p (stopped 18))) (answer t p (stopped 17))
+          → cond b (cond c (run_on t (after_step t p o) rest) (answer t p (stopped 18))) (answer t p (stopped 17))
           ≡ run_on t (record { state = w.state; steps = p.steps + 1; cost = p.cost + w.answer.charge }) rest
       go true true e = refl
       go true false e = absurd (omega arith)
@@ -49,30 +49,30 @@ module _ (t : Task) (p : Progress) (o : ℕ) (rest : List ℕ) where
           (b c : Bool)
           → let w : Took = took_by b c t p.state o in
           (w.answer.stop ≡ 0 → ⊥)
-          → (cond b (cond c (run_on t (after-step t p o) rest) (answer t p (stopped 18))) (answer t p (stopped 17)) ≡ answer t p (stopped w.answer.stop))
+          → (cond b (cond c (run_on t (after_step t p o) rest) (answer t p (stopped 18))) (answer t p (stopped 17)) ≡ answer t p (stopped w.answer.stop))
           × (w.state ≡ p.state)
       go true true e = absurd (e refl)
       go true false e = (refl, refl)
       go false c e = (refl, refl)
 
 -- a step keeps the state's length and its bits
-value-bit : (x y : Bool) (old : ℕ) → old ≤ 1 → cond x 1 (cond y 0 old) ≤ 1
-value-bit true y old h = omega arith
-value-bit false true old h = omega arith
-value-bit false false old h = h
+value_bit : (x y : Bool) (old : ℕ) → old ≤ 1 → cond x 1 (cond y 0 old) ≤ 1
+value_bit true y old h = omega arith
+value_bit false true old h = omega arith
+value_bit false false old h = h
 
 module _ (h : Head) (t : Task) (s : List ℕ) (ready : StateReady h s) (o : ℕ) where
-  applied-ready : StateReady h (apply s (effect-of-operator t o))
+  applied-ready : StateReady h (apply s (effect_of_operator t o))
   unfolding apply value_after
   applied-ready =
-      let e = effect-of-operator t o in
+      let e = effect_of_operator t o in
       record {
         size = length-upto (length s) (value_after s e) ∙ ready.size;
         bits =
             λ v l.
             let b : v < length s = rw (length-upto (length s) (value_after s e)) at l in
             rw (getD-upto (length s) (value_after s e) v 0 b)
-            (value-bit (effcond s (sets v) e) (effcond s (clears v) e) (get_or s v 0) (ready.bits v b));
+            (value_bit (effcond s (sets v) e) (effcond s (clears v) e) (get_or s v 0) (ready.bits v b));
       }
 
   took-ready : StateReady h (took t s o).state
@@ -87,9 +87,9 @@ module _ (h : Head) (t : Task) (s : List ℕ) (ready : StateReady h s) (o : ℕ)
       go true false = ready
       go false c = ready
 
-pub taken-ready :
+pub taken_ready :
     {h : Head} {t : Task} {s : List ℕ} {o : ℕ} {r : Taken} {after : List ℕ}
     → Takes t s o r after
     → StateReady h s
     → StateReady h after
-taken-ready {h} {t} {s} {o} taken ready = rw taken.state (took-ready h t s ready o)
+taken_ready {h} {t} {s} {o} taken ready = rw taken.state (took-ready h t s ready o)

@@ -6,7 +6,7 @@ use mathlib.Core.List.{List}
 use lib.ListN.{length, drop}
 use lib.Seq.{drop-drop}
 use Rattle.task.specs.declared.Head.{Head}
-use Rattle.task.specs.Table.{operator-at}
+use Rattle.task.specs.Table.{operator_at}
 use Rattle.evaluating.specs.Inner.Values.{Valued}
 use Rattle.applying.specs.Inner.Carrying.{Decided}
 use Rattle.operator_step.specs.declared.Taken.{Taken}
@@ -31,7 +31,7 @@ module _ {h : Head} {f e o s : List ℕ} (n : ℕ) {p : ℕ} (same : p ≡ asked
       → r.stop ≡ 0
       → p + 1 ≤ h.formulas
       → length values ≡ length before
-      → Decided f e h.formulas (operator-at o n).effect s values after
+      → Decided f e h.formulas (operator_at o n).effect s values after
       → Scratched h f e o s n r before after
   scratch-done z low long d =
       record {

@@ -10,15 +10,15 @@ use borrow.Author.Tests.{ltb-true, ltb-false}
 use Rattle.task.specs.Bounded.{upto}
 use Rattle.task.specs.Check.{unless}
 use Rattle.task.specs.declared.Head.{Head}
-use Rattle.task.specs.Table.{Task, Operator, row_at, operator-at, task-of}
-use Rattle.task.specs.Rules.{no_row, no-operator}
+use Rattle.task.specs.Table.{Task, Operator, row_at, operator_at, task_of}
+use Rattle.task.specs.Rules.{no_row, no_operator}
 use Rattle.task.specs.Semantics.{holds, apply}
-use Rattle.task.specs.Tree.{formula-of, effect_of}
-use Rattle.task.proofs.Charges.{charge-most}
-use Rattle.task.specs.Run.{operator-of, effect-of-operator, goal-holds, applicable, charge-of, charge}
+use Rattle.task.specs.Tree.{formula_of, effect_of}
+use Rattle.task.proofs.Charges.{charge_most}
+use Rattle.task.specs.Run.{operator_of, effect_of_operator, goal_holds, applicable, charge_of, charge}
 use Rattle.task.proofs.Bounded.{length-upto, getD-upto}
 use Rattle.task.specs.Inner.Rows.{EffectsDown}
-use Rattle.task.proofs.Values.{values-none}
+use Rattle.task.proofs.Values.{values_none}
 use Rattle.task.specs.Inner.Values.{Values}
 use Rattle.evaluating.specs.Inner.Values.{rows_of, Valuable}
 use Rattle.applying.specs.Inner.Marks.{changed, Markable}
@@ -29,13 +29,13 @@ use Rattle.applying.proofs.Applying.{applied}
 
 -- the formula that an operator asks for, by its number
 module _ (o : List ℕ) (m n : ℕ) where
-  pub none-asked : m ≤ n → 0 ≡ (get_or (upto m (operator-at o)) n no-operator).precondition
+  pub none-asked : m ≤ n → 0 ≡ (get_or (upto m (operator_at o)) n no_operator).precondition
   none-asked b =
-      let outside : length (upto m (operator-at o)) ≤ n = rw (length-upto m (operator-at o)) b in
-      ap (λ (r : Operator). r.precondition) (sym (get_or-eq_default (upto m (operator-at o)) no-operator {n = n} outside))
+      let outside : length (upto m (operator_at o)) ≤ n = rw (length-upto m (operator_at o)) b in
+      ap (λ (r : Operator). r.precondition) (sym (get_or-eq_default (upto m (operator_at o)) no_operator {n = n} outside))
 
-  pub one-asked : n < m → (operator-at o n).precondition ≡ (get_or (upto m (operator-at o)) n no-operator).precondition
-  one-asked b = ap (λ (r : Operator). r.precondition) (sym (getD-upto m (operator-at o) n no-operator b))
+  pub one-asked : n < m → (operator_at o n).precondition ≡ (get_or (upto m (operator_at o)) n no_operator).precondition
+  one-asked b = ap (λ (r : Operator). r.precondition) (sym (getD-upto m (operator_at o) n no_operator b))
 
 -- 17 comes before 18, so a number outside need not be asked for its precondition
 by_number : (there holding : Bool) → unless there 17 (unless holding 18 0) ≡ unless there 17 (unless (there && holding) 18 0)
@@ -80,23 +80,23 @@ module _ {h : Head} {f e o s scratch : List ℕ} (ready : Ready h f e o s scratc
   pub valuable : {p : ℕ} → p < h.formulas → Valuable f 0 (p + 1) s scratch
   valuable {p} b =
       record {
-        there = omega (arith, ready.tables.formulas-there);
+        there = omega (arith, ready.tables.formulas_there);
         rule = λ i l. rw ready.state.size (ready.tables.formula i (omega arith));
-        state-bits = ready.state.bits;
+        state_bits = ready.state.bits;
         room = omega (arith, ready.room);
         order = omega arith;
-        below = values-none s (rows_of (p + 1) f) scratch;
+        below = values_none s (rows_of (p + 1) f) scratch;
       }
 
   all-valuable : Valuable f 0 h.formulas s scratch
   all-valuable =
       record {
-        there = ready.tables.formulas-there;
+        there = ready.tables.formulas_there;
         rule = λ i l. rw ready.state.size (ready.tables.formula i l);
-        state-bits = ready.state.bits;
+        state_bits = ready.state.bits;
         room = omega (arith, ready.room);
         order = omega arith;
-        below = values-none s (rows_of h.formulas f) scratch;
+        below = values_none s (rows_of h.formulas f) scratch;
       }
 
   effects-down : EffectsDown (length s) h.formulas (rows_of h.effects e)
@@ -109,23 +109,23 @@ module _ {h : Head} {f e o s scratch : List ℕ} (ready : Ready h f e o s scratc
       }
 
   operators-same : length (running h f e o).operators ≡ h.operators
-  unfolding task-of
-  operators-same = length-upto h.operators (operator-at o)
+  unfolding task_of
+  operators-same = length-upto h.operators (operator_at o)
 
   module _ (n : ℕ) where
-    operator-same : n < h.operators → operator-of (running h f e o) n ≡ operator-at o n
-    unfolding operator-of task-of
-    operator-same there = getD-upto h.operators (operator-at o) n no-operator there
+    operator-same : n < h.operators → operator_of (running h f e o) n ≡ operator_at o n
+    unfolding operator_of task_of
+    operator-same there = getD-upto h.operators (operator_at o) n no_operator there
 
     -- the precondition that is looked at, and what it gives
-    module _ {p : ℕ} (asked : p ≡ (get_or (upto h.operators (operator-at o)) n no-operator).precondition) where
+    module _ {p : ℕ} (asked : p ≡ (get_or (upto h.operators (operator_at o)) n no_operator).precondition) where
       pub asked-below : p < h.formulas
       asked-below = rw asked (go (ltb n h.operators) refl)
         where
           go :
               (b : Bool)
               → ltb n h.operators ≡ b
-              → (get_or (upto h.operators (operator-at o)) n no-operator).precondition < h.formulas
+              → (get_or (upto h.operators (operator_at o)) n no_operator).precondition < h.formulas
           go true q =
               let inside : n < h.operators = ltb-true n h.operators q in
               rw (← one-asked o h.operators n inside) (ready.tables.operator n inside).formula
@@ -134,23 +134,23 @@ module _ {h : Head} {f e o s scratch : List ℕ} (ready : Ready h f e o s scratc
 
       module _
           {holding : Bool} {stop : ℕ}
-          (held : holding ≡ holds s (formula-of (rows_of (p + 1) f) p))
+          (held : holding ≡ holds s (formula_of (rows_of (p + 1) f) p))
           (told : stop ≡ unless (ltb n h.operators) 17 (unless holding 18 0)) where
-        holding-same : holding ≡ holds s (formula-of (rows_of h.formulas f) (operator-of (running h f e o) n).precondition)
-        unfolding operator-of task-of
+        holding-same : holding ≡ holds s (formula_of (rows_of h.formulas f) (operator_of (running h f e o) n).precondition)
+        unfolding operator_of task_of
         holding-same =
             held
             ∙ same-holds all-valuable (p + 1) p (omega (arith, asked-below)) (omega arith)
-            ∙ ap (λ (i : ℕ). holds s (formula-of (rows_of h.formulas f) i)) asked
+            ∙ ap (λ (i : ℕ). holds s (formula_of (rows_of h.formulas f) i)) asked
 
         stop-same :
             stop
             ≡ unless (ltb n (length (running h f e o).operators)) 17 (unless (applicable (running h f e o) s n) 18 0)
-        unfolding applicable task-of
+        unfolding applicable task_of
         stop-same =
             told
             ∙ rw (operators-same, holding-same)
-            (by_number (ltb n h.operators) (holds s (formula-of (rows_of h.formulas f) (operator-of (running h f e o) n).precondition)))
+            (by_number (ltb n h.operators) (holds s (formula_of (rows_of h.formulas f) (operator_of (running h f e o) n).precondition)))
 
         pub stays : (stop ≡ 0 → ⊥) → Takes (running h f e o) s n (record { stop = stop; charge = 0 }) s
         stays d =
@@ -164,11 +164,11 @@ module _ {h : Head} {f e o s scratch : List ℕ} (ready : Ready h f e o s scratc
           markable :
               (values : List ℕ)
               → length values ≡ length scratch
-              → Markable e (length s) h.formulas (operator-at o n).effect values
+              → Markable e (length s) h.formulas (operator_at o n).effect values
           markable values same =
-              let b : (operator-at o n).effect < h.effects = (ready.tables.operator n there).changes in
+              let b : (operator_at o n).effect < h.effects = (ready.tables.operator n there).changes in
               record {
-                rows = omega (arith, ready.tables.effects-there);
+                rows = omega (arith, ready.tables.effects_there);
                 marks = omega (arith, ready.room);
                 rule = λ k l. rw ready.state.size (ready.tables.effect k (omega arith));
               }
@@ -180,7 +180,7 @@ module _ {h : Head} {f e o s scratch : List ℕ} (ready : Ready h f e o s scratc
             known-here : Values s (rows_of h.formulas f) (p + 1) values
             known-here = same-values all-valuable (p + 1) values (omega (arith, asked-below)) known
 
-            pub conditions-ready : ConditionsReady false f e (p + 1) h.formulas (operator-at o n).effect s values
+            pub conditions-ready : ConditionsReady false f e (p + 1) h.formulas (operator_at o n).effect s values
             conditions-ready =
                 record {
                   formulas =
@@ -188,7 +188,7 @@ module _ {h : Head} {f e o s scratch : List ℕ} (ready : Ready h f e o s scratc
                       record {
                         there = all-valuable.there;
                         rule = all-valuable.rule;
-                        state-bits = all-valuable.state-bits;
+                        state_bits = all-valuable.state_bits;
                         room = omega (arith, ready.room, same);
                         order = omega (arith, asked-below);
                         below = known-here;
@@ -198,50 +198,50 @@ module _ {h : Head} {f e o s scratch : List ℕ} (ready : Ready h f e o s scratc
 
             pub carried-out :
                 (marks after : List ℕ)
-                → Carried f e h.formulas (operator-at o n).effect s after values marks
-                → (operator-at o n).cost ≤ 65535
-                → Takes (running h f e o) s n (record { stop = 0; charge = charge-of (operator-at o n) }) after
-            unfolding charge effect-of-operator task-of took_by
+                → Carried f e h.formulas (operator_at o n).effect s after values marks
+                → (operator_at o n).cost ≤ 65535
+                → Takes (running h f e o) s n (record { stop = 0; charge = charge_of (operator_at o n) }) after
+            unfolding charge effect_of_operator task_of took_by
             carried-out marks after passes low =
                 rw (passes.state ∙ law)
-                (takes (running h f e o) s n (by_row (operator-at o n))
+                (takes (running h f e o) s n (by_row (operator_at o n))
                 ((took-done (running h f e o) s n stop stop-same z).1 ∙ ap by_row (operator-same there))
-                (charge-most (operator-at o n) low (ready.tables.operator n there).percent))
+                (charge_most (operator_at o n) low (ready.tables.operator n there).percent))
               where
                 by_row : Operator → Took
                 by_row r =
                     record {
-                      answer = record { stop = 0; charge = charge-of r };
+                      answer = record { stop = 0; charge = charge_of r };
                       state = apply s (effect_of (rows_of h.formulas f) (rows_of h.effects e) r.effect);
                     }
 
                 law :
-                    changed e 1 1 marks h.formulas ((operator-at o n).effect + 1)
-                    (changed e 2 0 marks h.formulas ((operator-at o n).effect + 1) s)
-                    ≡ apply s (effect_of (rows_of h.formulas f) (rows_of h.effects e) (operator-at o n).effect)
+                    changed e 1 1 marks h.formulas ((operator_at o n).effect + 1)
+                    (changed e 2 0 marks h.formulas ((operator_at o n).effect + 1) s)
+                    ≡ apply s (effect_of (rows_of h.formulas f) (rows_of h.effects e) (operator_at o n).effect)
                 law =
                     let d = passes.deciding in
-                    applied e h.effects (length s) h.formulas (operator-at o n).effect s (rows_of h.formulas f)
+                    applied e h.effects (length s) h.formulas (operator_at o n).effect s (rows_of h.formulas f)
                     d.values marks (ready.tables.operator n there).changes effects-down
                     (markable d.values (d.same ∙ same)) d.evaluating.known d.marking
 
 -- the tables stay ready when the state and scratch change
-pub ready-again :
+pub ready_again :
     {h : Head} {f e o s scratch now rest : List ℕ}
     → Ready h f e o s scratch
     → StateReady h now
     → length rest ≡ length scratch
     → Ready h f e o now rest
-ready-again ready state same =
+ready_again ready state same =
     record { tables = ready.tables; state = state; room = omega (arith, ready.room) }
 
 -- the goal of the running task
-pub goal-told :
+pub goal_told :
     {h : Head} {f e o s scratch now : List ℕ}
     → Ready h f e o s scratch
     → StateReady h now
-    → holds now (formula-of (rows_of (h.goal + 1) f) h.goal) ≡ goal-holds (running h f e o) now
-unfolding goal-holds task-of
-goal-told {h} {scratch = scratch} ready state =
-    same-holds (all-valuable (ready-again {rest = scratch} ready state refl)) (h.goal + 1) h.goal
+    → holds now (formula_of (rows_of (h.goal + 1) f) h.goal) ≡ goal_holds (running h f e o) now
+unfolding goal_holds task_of
+goal_told {h} {scratch = scratch} ready state =
+    same-holds (all-valuable (ready_again {rest = scratch} ready state refl)) (h.goal + 1) h.goal
     (omega (arith, ready.tables.goal)) (omega arith)

@@ -2,8 +2,8 @@
 ghost use Rattle.std.specs.Prelude.{◌*◌, ◌≤◌, ◌≡◌, length, get_or};
 ghost use Rattle.task.specs.Bounded.{upto};
 ghost use Rattle.task.specs.Check.{unless};
-ghost use Rattle.task.specs.Rules.{no-operator};
-ghost use Rattle.task.specs.Table.{operator-width, operator-at};
+ghost use Rattle.task.specs.Rules.{no_operator};
+ghost use Rattle.task.specs.Table.{operator_width, operator_at};
 ghost use Rattle.operator_step.specs.Inner.Steps.{running, Ready, Takes, Scratched};
 
 use crate::Taken;
@@ -12,8 +12,8 @@ use task::operator_rows::{charge_of, effect_of, precondition_of};
 
 // The formula that operator `number` asks for, row 0 if it is not there. Constant time.
 fn asked(count: u16, operators: &[u16], number: u16) -> usize
-    requires { operator-width * count ≤ length operators.now }
-    ensures { result ≡ (get_or (upto count (operator-at operators.now)) number no-operator).precondition }
+    requires { operator_width * count ≤ length operators.now }
+    ensures { result ≡ (get_or (upto count (operator_at operators.now)) number no_operator).precondition }
 {
     if count <= number {
         return 0;

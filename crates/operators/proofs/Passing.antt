@@ -8,21 +8,21 @@ use mathlib.Core.List.{List, [], ◌∷◌, ◌++◌, append-nil}
 use Rattle.task.specs.Semantics.{Effect}
 use Rattle.normal_form.specs.Builder.{St, Got, Build, give, bind, each}
 use Rattle.normal_form.specs.Conditions.{Becoming}
-use Rattle.normal_form.specs.Operators.{Changes, deletes-of, changes-of}
+use Rattle.normal_form.specs.Operators.{Changes, deletes_of, changes_of}
 use Rattle.formula_builder.specs.declared.Frame.{Frame}
 use Rattle.formula_builder.specs.declared.Size.{Size}
 use Rattle.formula_builder.specs.Inner.Held.{Store, held}
 use Rattle.images.specs.Inner.Images.{becoming}
-use Rattle.conditions.specs.Inner.Conditions.{effect-tree, condition-at, Unnamed}
+use Rattle.conditions.specs.Inner.Conditions.{effect_tree, condition_at, Unnamed}
 use Rattle.variable_changes.specs.Inner.Stands.{Reaches}
-use Rattle.atom_sets.specs.Inner.Sets.{lacks, set-from}
+use Rattle.atom_sets.specs.Inner.Sets.{lacks, set_from}
 use Rattle.atom_sets.proofs.Places.{none_from, none-lowest, some-lowest}
 use Rattle.change_records.specs.Inner.Recorded.{idle, acting, Recorded}
-use Rattle.change_records.proofs.Keeping.{acting-append}
-use Rattle.operators.specs.Inner.Operator.{all-changes, Passes, NextTouched}
+use Rattle.change_records.proofs.Keeping.{acting_append}
+use Rattle.operators.specs.Inner.Operator.{all_changes, Passes, NextTouched}
 
 -- What is passed over at v, by the word from v on.
-module _ (frame : Frame) (notes : List ℕ) (e v rest : ℕ) (r : rest ≡ set-from frame notes v e) where
+module _ (frame : Frame) (notes : List ℕ) (e v rest : ℕ) (r : rest ≡ set_from frame notes v e) where
   pub passes-rest : rest ≡ 0 → Passes frame notes e v (8 - v % 8)
   passes-rest z =
       record {
@@ -54,15 +54,15 @@ pub record Searching (frame : Frame) (notes : List ℕ) (e from v : ℕ) : Type 
   pub above : from ≤ v
   pub passed : (clear : Bool) (u : ℕ) → from ≤ u → u < v → lacks frame notes clear u e ≡ true
 
-pub searching-none : (frame : Frame) (notes : List ℕ) (e from : ℕ) → Searching frame notes e from from
-searching-none frame notes e from = record { above = omega arith; passed = λ clear u a b. absurd (omega (arith, a, b)) }
+pub searching_none : (frame : Frame) (notes : List ℕ) (e from : ℕ) → Searching frame notes e from from
+searching_none frame notes e from = record { above = omega arith; passed = λ clear u a b. absurd (omega (arith, a, b)) }
 
-pub searching-more :
+pub searching_more :
     {frame : Frame} {notes : List ℕ} {e from v k : ℕ}
     → Searching frame notes e from v
     → Passes frame notes e v k
     → Searching frame notes e from (v + k)
-searching-more {frame} {notes} {e} {from} {v} {k} s p =
+searching_more {frame} {notes} {e} {from} {v} {k} s p =
     record { above = omega (arith, s.above); passed = λ clear u a b. go clear u a b (dec_lt u v) }
   where
     go : (clear : Bool) (u : ℕ) → from ≤ u → u < v + k → Dec (u < v) → lacks frame notes clear u e ≡ true
@@ -79,13 +79,13 @@ pub searched :
 searched s h p z =
     record { above = s.above; below = omega (arith, h); passed = s.passed; stopped = λ _ all. p.stopped z all }
 
-pub searched-all :
+pub searched_all :
     {frame : Frame} {notes : List ℕ} {e from v : ℕ}
     → from ≤ frame.variables
     → Searching frame notes e from v
     → frame.variables ≤ v
     → NextTouched frame notes e from frame.variables
-searched-all f s h =
+searched_all f s h =
     record {
       above = f;
       below = omega arith;
@@ -96,25 +96,25 @@ searched-all f s h =
 folded :
     (becomes : Becoming) (v : ℕ) (tree : Effect)
     → bind (give 0)
-    (λ a. bind (give 0) (λ d. bind (deletes-of becomes tree v a d) (λ k. give {A = Changes} (record { variable = v; adds = a; deletes = k }))))
+    (λ a. bind (give 0) (λ d. bind (deletes_of becomes tree v a d) (λ k. give {A = Changes} (record { variable = v; adds = a; deletes = k }))))
     ≡ give {A = Changes} (record { variable = v; adds = 0; deletes = 0 })
-unfolding bind give deletes-of
+unfolding bind give deletes_of
 folded becomes v tree = refl
 
 -- a variable of which no atom is named changes nothing
-unnamed-changes :
+unnamed_changes :
     (frame : Frame) (formulas effects : List ℕ) (v e : ℕ)
     → ((clear : Bool) → Unnamed frame formulas effects clear v e)
-    → changes-of (becoming frame) (effect-tree frame formulas effects e) v ≡ give (record { variable = v; adds = 0; deletes = 0 })
-unfolding changes-of condition-at
-unnamed-changes frame formulas effects v e u =
+    → changes_of (becoming frame) (effect_tree frame formulas effects e) v ≡ give (record { variable = v; adds = 0; deletes = 0 })
+unfolding changes_of condition_at
+unnamed_changes frame formulas effects v e u =
     let becomes = becoming frame in
-    let tree = effect-tree frame formulas effects e in
+    let tree = effect_tree frame formulas effects e in
     let set-idle = (u false).idle (record { clear = false; variable = v; negated = false }) refl refl in
     let clear-idle = (u true).idle (record { clear = true; variable = v; negated = false }) refl refl in
     ap₂
     (λ (a d : Build ℕ).
-    bind a (λ a. bind d (λ d. bind (deletes-of becomes tree v a d) (λ k. give {A = Changes} (record { variable = v; adds = a; deletes = k })))))
+    bind a (λ a. bind d (λ d. bind (deletes_of becomes tree v a d) (λ k. give {A = Changes} (record { variable = v; adds = a; deletes = k })))))
     set-idle clear-idle
     ∙ folded becomes v tree
 
@@ -126,23 +126,23 @@ pub record Alike (m m' : Build (List Changes)) : Type 0 where
 alike_refl : (m : Build (List Changes)) → Alike m m
 alike_refl m = record { state = λ t. refl; rules = λ t. refl }
 
-alike-trans : {m m' m'' : Build (List Changes)} → Alike m m' → Alike m' m'' → Alike m m''
-alike-trans x y = record { state = λ t. x.state t ∙ y.state t; rules = λ t. x.rules t ∙ y.rules t }
+alike_trans : {m m' m'' : Build (List Changes)} → Alike m m' → Alike m' m'' → Alike m m''
+alike_trans x y = record { state = λ t. x.state t ∙ y.state t; rules = λ t. x.rules t ∙ y.rules t }
 
 module _ (frame : Frame) (formulas effects : List ℕ) (e : ℕ) where
   one-passed :
       (v : ℕ)
       → ((clear : Bool) → Unnamed frame formulas effects clear v e)
-      → Alike (all-changes frame formulas effects e (suc v)) (all-changes frame formulas effects e v)
-  unfolding all-changes each bind give acting idle
+      → Alike (all_changes frame formulas effects e (suc v)) (all_changes frame formulas effects e v)
+  unfolding all_changes each bind give acting idle
   one-passed v u =
-      let all : St → Got (List Changes) = each v (changes-of (becoming frame) (effect-tree frame formulas effects e)) in
-      let same = unnamed-changes frame formulas effects v e u in
+      let all : St → Got (List Changes) = each v (changes_of (becoming frame) (effect_tree frame formulas effects e)) in
+      let same = unnamed_changes frame formulas effects v e u in
       record {
         state = λ t. ap (λ (m : Build Changes). (m (all t).st).st) same;
         rules = λ t.
             ap (λ (m : Build Changes). acting ((all t).value ++ ((m (all t).st).value ∷ []))) same
-            ∙ acting-append (all t).value (record { variable = v; adds = 0; deletes = 0 } ∷ [])
+            ∙ acting_append (all t).value (record { variable = v; adds = 0; deletes = 0 } ∷ [])
             ∙ append-nil (acting (all t).value);
       }
 
@@ -151,20 +151,20 @@ module _ (frame : Frame) (formulas effects : List ℕ) (e : ℕ) where
       (v n : ℕ)
       → v ≤ n
       → ((j : ℕ) → v ≤ j → j < n → (clear : Bool) → Unnamed frame formulas effects clear j e)
-      → Alike (all-changes frame formulas effects e n) (all-changes frame formulas effects e v)
+      → Alike (all_changes frame formulas effects e n) (all_changes frame formulas effects e v)
   stretch-passed v zero h u =
       let same : v ≡ 0 = omega arith in
-      rw same (alike_refl (all-changes frame formulas effects e 0))
+      rw same (alike_refl (all_changes frame formulas effects e 0))
   stretch-passed v (suc n) h u = go (dec_le v n) (λ b. stretch-passed v n b (λ j p q. u j p (omega arith)))
     where
       go :
           Dec (v ≤ n)
-          → (v ≤ n → Alike (all-changes frame formulas effects e n) (all-changes frame formulas effects e v))
-          → Alike (all-changes frame formulas effects e (suc n)) (all-changes frame formulas effects e v)
-      go (yes b) more = alike-trans (one-passed n (u n b (omega arith))) (more b)
+          → (v ≤ n → Alike (all_changes frame formulas effects e n) (all_changes frame formulas effects e v))
+          → Alike (all_changes frame formulas effects e (suc n)) (all_changes frame formulas effects e v)
+      go (yes b) more = alike_trans (one-passed n (u n b (omega arith))) (more b)
       go (no b) more =
           let same : v ≡ suc n = omega arith in
-          rw same (alike_refl (all-changes frame formulas effects e (suc n)))
+          rw same (alike_refl (all_changes frame formulas effects e (suc n)))
 
 -- What is reached and recorded after one of them is so after the other.
 module _ {m m' : Build (List Changes)} (a : Alike m m') where
@@ -177,7 +177,7 @@ module _ {m m' : Build (List Changes)} (a : Alike m m') where
       record {
         done = λ q.
             let d = x.done q in
-            record { state = same ∙ d.state; ready = d.ready; memo = d.memo; effect-memo = d.effect-memo };
+            record { state = same ∙ d.state; ready = d.ready; memo = d.memo; effect_memo = d.effect_memo };
         over = λ q w. x.over q (rw same at w);
       }
 

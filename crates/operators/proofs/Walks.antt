@@ -7,27 +7,27 @@ use mathlib.Core.Bool.{Bool, true, false, true≢false}
 use mathlib.Core.List.{List, [], ◌∷◌, ◌++◌}
 use lib.ListN.{length}
 use Rattle.normal_form.specs.Builder.{St, give, bind, each, plain}
-use Rattle.normal_form.proofs.ShapeSizes.{each-grows}
-use Rattle.normal_form.specs.Operators.{Changes, changes-of}
-use Rattle.normal_form.proofs.Growth.{steady-each}
+use Rattle.normal_form.proofs.ShapeSizes.{each_grows}
+use Rattle.normal_form.specs.Operators.{Changes, changes_of}
+use Rattle.normal_form.proofs.Growth.{steady_each}
 use Rattle.normal_form.proofs.Steady.{steady-changes}
 use Rattle.formula_builder.specs.declared.Frame.{Frame}
 use Rattle.formula_builder.specs.declared.Size.{Size}
 use Rattle.formula_builder.specs.declared.Step.{Step}
 use Rattle.formula_builder.specs.Inner.Held.{Store, held, size_of}
-use Rattle.formula_builder.proofs.Steps.{within-before}
-use Rattle.images.specs.Inner.Images.{becoming, image-at, Images}
-use Rattle.images.proofs.Memos.{steady-becoming, steady-image-at}
-use Rattle.conditions.specs.Inner.Conditions.{effect-tree, Noted}
+use Rattle.formula_builder.proofs.Steps.{within_before}
+use Rattle.images.specs.Inner.Images.{becoming, image_at, Images}
+use Rattle.images.proofs.Memos.{steady_becoming, steady_image_at}
+use Rattle.conditions.specs.Inner.Conditions.{effect_tree, Noted}
 use Rattle.variable_changes.specs.Inner.Stands.{Stands, StandsAt, Leaves, Reaches, Makes, made}
-use Rattle.conditions.proofs.Memos.{conditions-of-images}
-use Rattle.variable_changes.proofs.Standing.{stands-next, stands-at-next}
+use Rattle.conditions.proofs.Memos.{conditions_of_images}
+use Rattle.variable_changes.proofs.Standing.{stands_next, stands_at_next}
 use Rattle.atom_sets.specs.Inner.Sets.{InSet}
 use Rattle.variable_changes.specs.declared.Change.{Change}
 use Rattle.change_records.specs.Inner.Recorded.{Keeps, Opens, Recorded}
-use Rattle.change_records.proofs.Keeping.{recorded-none, recorded-few, recorded_more}
+use Rattle.change_records.proofs.Keeping.{recorded-none, recorded_few, recorded_more}
 use Rattle.operators.specs.declared.Tally.{Tally}
-use Rattle.operators.specs.Inner.Operator.{all-changes, operator-built, LooksOn, NextTouched, BuildsOperator, size-behind, Walked, OperatorWalked}
+use Rattle.operators.specs.Inner.Operator.{all_changes, operator_built, LooksOn, NextTouched, BuildsOperator, size_behind, Walked, OperatorWalked}
 use Rattle.operators.proofs.Passing.{stretch-passed, reaches-alike, recorded-alike}
 
 -- One variable's change asks and leaves the same for a frame that is the same, as six numbers.
@@ -39,112 +39,112 @@ module _ {f g : Frame} (same : f ≡ g) {formulas effects notes : List ℕ} {at 
 
   pub change-made :
       {after : Store} {full : Bool} {next : Size} {x : Changes}
-      → Makes (changes-of (becoming f) (effect-tree f formulas effects e) v) f formulas effects at before after scratch full next x
+      → Makes (changes_of (becoming f) (effect_tree f formulas effects e) v) f formulas effects at before after scratch full next x
       × Leaves full f formulas effects notes next after
-      → Makes (changes-of (becoming g) (effect-tree g formulas effects e) v) g formulas effects at before after scratch full next x
+      → Makes (changes_of (becoming g) (effect_tree g formulas effects e) v) g formulas effects at before after scratch full next x
       × Leaves full g formulas effects notes next after
   change-made x = rw (← same) x
 
 -- nothing is built
-makes-give :
+makes_give :
     {A : Type 0} {frame : Frame} {formulas effects : List ℕ} {at : Size} {s : Store} {scratch : List ℕ} (x : A)
     → Stands frame formulas effects at s scratch
     → Makes (give x) frame formulas effects at s s scratch false at x
 unfolding give
-makes-give x a =
+makes_give x a =
     record {
       reaches =
           record {
-            done = λ _. record { state = refl; ready = a.ready; memo = a.memo; effect-memo = a.effect-memo };
+            done = λ _. record { state = refl; ready = a.ready; memo = a.memo; effect_memo = a.effect_memo };
             over = λ e w. absurd (true≢false (sym e));
           };
       value = λ _. refl;
     }
 
-as-recorded :
+as_recorded :
     {cs ds : List Changes} {from to : ℕ} {l n : List ℕ} → cs ≡ ds → Recorded ds from l n to → Recorded cs from l n to
-as-recorded e r = rw e r
+as_recorded e r = rw e r
 
 -- The loop over the variables.
 module _ (frame : Frame) (formulas effects : List ℕ) (e : ℕ) where
-  changes-none :
+  changes_none :
       {at : Size} {s : Store} {scratch : List ℕ}
       → Stands frame formulas effects at s scratch
-      → Reaches (all-changes frame formulas effects e 0) frame formulas effects at s s scratch false at
-  unfolding all-changes each
-  changes-none a = (makes-give [] a).reaches
+      → Reaches (all_changes frame formulas effects e 0) frame formulas effects at s s scratch false at
+  unfolding all_changes each
+  changes_none a = (makes_give [] a).reaches
 
   -- none is recorded
   none-recorded :
       (at : Size) (s : Store) (from : ℕ) (l : List ℕ)
-      → Recorded (all-changes frame formulas effects e 0 (held at s)).value from l l from
-  unfolding all-changes each give
+      → Recorded (all_changes frame formulas effects e 0 (held at s)).value from l l from
+  unfolding all_changes each give
   none-recorded at s from l = recorded-none from l
 
   module _ {at : Size} {before mid : Store} {s2 : List ℕ} {here : Size} (v : ℕ)
-      (x : Reaches (all-changes frame formulas effects e v) frame formulas effects at before mid s2 false here) where
-    changes-more :
+      (x : Reaches (all_changes frame formulas effects e v) frame formulas effects at before mid s2 false here) where
+    changes_more :
         {after : Store} {s3 : List ℕ} {full : Bool} {next : Size}
-        → Reaches (changes-of (becoming frame) (effect-tree frame formulas effects e) v) frame formulas effects here mid after s3 full next
-        → Reaches (all-changes frame formulas effects e (v + 1)) frame formulas effects at before after s3 full next
-    unfolding all-changes each bind give
-    changes-more y =
-        let step : St → St = λ t. (changes-of (becoming frame) (effect-tree frame formulas effects e) v t).st in
+        → Reaches (changes_of (becoming frame) (effect_tree frame formulas effects e) v) frame formulas effects here mid after s3 full next
+        → Reaches (all_changes frame formulas effects e (v + 1)) frame formulas effects at before after s3 full next
+    unfolding all_changes each bind give
+    changes_more y =
+        let step : St → St = λ t. (changes_of (becoming frame) (effect_tree frame formulas effects e) v t).st in
         let same = ap step (x.done refl).state in
         rw (add-one v)
         (record {
           done = λ q.
               let d = y.done q in
-              record { state = same ∙ d.state; ready = d.ready; memo = d.memo; effect-memo = d.effect-memo };
+              record { state = same ∙ d.state; ready = d.ready; memo = d.memo; effect_memo = d.effect_memo };
           over = λ q w. y.over q (rw same at w);
         })
 
     more-recorded :
         {after : Store} {s3 : List ℕ} {full : Bool} {next : Size} {from k to : ℕ} {l m n : List ℕ} (c : Change)
-        → Recorded (all-changes frame formulas effects e v (held at before)).value from l m k
-        → Makes (changes-of (becoming frame) (effect-tree frame formulas effects e) v) frame formulas effects here mid after s3 full next (made v c)
+        → Recorded (all_changes frame formulas effects e v (held at before)).value from l m k
+        → Makes (changes_of (becoming frame) (effect_tree frame formulas effects e) v) frame formulas effects here mid after s3 full next (made v c)
         → full ≡ false
         → Recorded (made v c ∷ []) k m n to
-        → Recorded (all-changes frame formulas effects e (v + 1) (held at before)).value from l n to
-    unfolding all-changes each bind give
+        → Recorded (all_changes frame formulas effects e (v + 1) (held at before)).value from l n to
+    unfolding all_changes each bind give
     more-recorded {from = from} {to = to} {l = l} {n = n} c r y q z =
-        let all = each v (changes-of (becoming frame) (effect-tree frame formulas effects e)) (held at before) in
-        let step : St → Changes = λ t. (changes-of (becoming frame) (effect-tree frame formulas effects e) v t).value in
+        let all = each v (changes_of (becoming frame) (effect_tree frame formulas effects e)) (held at before) in
+        let step : St → Changes = λ t. (changes_of (becoming frame) (effect_tree frame formulas effects e) v t).value in
         let last : step all.st ≡ made v c = ap step (x.done refl).state ∙ y.value q in
         let same = ap (λ (d : Changes). all.value ++ (d ∷ [])) last in
-        rw (add-one v) (as-recorded same (recorded_more r z))
+        rw (add-one v) (as_recorded same (recorded_more r z))
 
   -- no room for a part is no room for all
   changes-stop :
       {at : Size} {before after : Store} {s2 : List ℕ} {next last : Size} (v n : ℕ)
       → v ≤ n
-      → Reaches (all-changes frame formulas effects e v) frame formulas effects at before after s2 true next
-      → Reaches (all-changes frame formulas effects e n) frame formulas effects at before after s2 true last
-  unfolding all-changes
+      → Reaches (all_changes frame formulas effects e v) frame formulas effects at before after s2 true next
+      → Reaches (all_changes frame formulas effects e n) frame formulas effects at before after s2 true last
+  unfolding all_changes
   changes-stop {at} {before} v n h x =
       record {
         done = λ q. absurd (true≢false q);
         over = λ q w.
             x.over refl
-            (within-before
-            (each-grows (changes-of (becoming frame) (effect-tree frame formulas effects e)) (held at before)
-            (λ k. steady-changes (becoming frame) (steady-becoming frame) (effect-tree frame formulas effects e) k) v n h)
+            (within_before
+            (each_grows (changes_of (becoming frame) (effect_tree frame formulas effects e)) (held at before)
+            (λ k. steady-changes (becoming frame) (steady_becoming frame) (effect_tree frame formulas effects e) k) v n h)
             w);
       }
 
   all-walked :
       {at : Size} {before after : Store} {s2 : List ℕ} {from : ℕ} {l m : List ℕ} (r : Tally) (v n : ℕ)
       → v ≡ n
-      → Reaches (all-changes frame formulas effects e v) frame formulas effects at before after s2 r.full (size-behind r)
-      → Recorded (all-changes frame formulas effects e v (held at before)).value from l m r.records
-      → Walked (all-changes frame formulas effects e n) frame formulas effects at before after s2 from l m r
+      → Reaches (all_changes frame formulas effects e v) frame formulas effects at before after s2 r.full (size_behind r)
+      → Recorded (all_changes frame formulas effects e v (held at before)).value from l m r.records
+      → Walked (all_changes frame formulas effects e n) frame formulas effects at before after s2 from l m r
   all-walked r v n same x y = rw (sym same) (record { reaches = x; recorded = λ _. y })
 
 -- The loop's invariant: the changes of the variables below v are built and recorded.
 pub record Walking (frame : Frame) (formulas effects : List ℕ) (e : ℕ) (at : Size) (before mid : Store) (s2 : List ℕ) (from : ℕ) (l m : List ℕ) (here : Size) (k v : ℕ) : Type 0 where
   pub below : v ≤ frame.variables
-  pub reaches : Reaches (all-changes frame formulas effects e v) frame formulas effects at before mid s2 false here
-  pub recorded : Recorded (all-changes frame formulas effects e v (held at before)).value from l m k
+  pub reaches : Reaches (all_changes frame formulas effects e v) frame formulas effects at before mid s2 false here
+  pub recorded : Recorded (all_changes frame formulas effects e v (held at before)).value from l m k
   pub few : k ≤ from + v
 
 -- what looking for the next variable asks
@@ -157,15 +157,15 @@ pub looks_on :
 looks_on a n h =
     record {
       variables = omega (arith, a.stands.ready.variables);
-      limit = a.stands.effect-source.limit;
+      limit = a.stands.effect_source.limit;
       effect = a.effect;
       words = n.sets.words;
-      from-most = h;
+      from_most = h;
     }
 
 -- and at one that is there
-pub looks-at : {frame : Frame} {notes : List ℕ} {e from v : ℕ} → LooksOn frame notes e from → v < frame.variables → InSet frame v e
-looks-at l h = record { variables = l.variables; limit = l.limit; variable = h; effect = l.effect }
+pub looks_at : {frame : Frame} {notes : List ℕ} {e from v : ℕ} → LooksOn frame notes e from → v < frame.variables → InSet frame v e
+looks_at l h = record { variables = l.variables; limit = l.limit; variable = h; effect = l.effect }
 
 module _ {frame : Frame} {formulas effects notes : List ℕ} {e : ℕ} {at : Size} {before : Store} {s1 : List ℕ}
     (a : StandsAt frame formulas effects notes at before s1 e) where
@@ -196,7 +196,7 @@ module _ {frame : Frame} {formulas effects notes : List ℕ} {e : ℕ} {at : Siz
       walking_on
       (record {
         below = omega arith;
-        reaches = changes-none frame formulas effects e a.stands;
+        reaches = changes_none frame formulas effects e a.stands;
         recorded = none-recorded frame formulas effects e at before from l;
         few = omega arith;
       })
@@ -212,7 +212,7 @@ module _ {frame : Frame} {formulas effects notes : List ℕ} {e : ℕ} {at : Siz
         → v < frame.variables
         → StandsAt frame formulas effects notes' here mid s2 e × (v < frame.variables)
     walking-asks noted long h =
-        (record { stands = stands-next a.stands w.reaches refl long; noted = noted; effect = a.effect }, h)
+        (record { stands = stands_next a.stands w.reaches refl long; noted = noted; effect = a.effect }, h)
 
     pub walking-keeps : Opens from l → length m ≡ length l → Keeps k m
     walking-keeps o long =
@@ -222,20 +222,20 @@ module _ {frame : Frame} {formulas effects notes : List ℕ} {e : ℕ} {at : Siz
         }
 
     module _ {after : Store} {s3 : List ℕ} {there : Size} (c : Change)
-        (y : Makes (changes-of (becoming frame) (effect-tree frame formulas effects e) v) frame formulas effects here mid after s3 c.full there (made v c))
+        (y : Makes (changes_of (becoming frame) (effect_tree frame formulas effects e) v) frame formulas effects here mid after s3 c.full there (made v c))
       where
         pub walking-stops :
             {n : List ℕ} {r : Tally}
             → v < frame.variables
             → c.full ≡ true
             → r.full ≡ true
-            → Walked (all-changes frame formulas effects e frame.variables) frame formulas effects at before after s3 from l n r
+            → Walked (all_changes frame formulas effects e frame.variables) frame formulas effects at before after s3 from l n r
         walking-stops h q full =
             record {
               reaches =
                   rw full
                   (changes-stop frame formulas effects e (v + 1) frame.variables (omega arith)
-                  (rw q at (changes-more frame formulas effects e v w.reaches y.reaches)));
+                  (rw q at (changes_more frame formulas effects e v w.reaches y.reaches)));
               recorded = λ z. absurd (true≢false (sym full ∙ z));
             }
 
@@ -250,9 +250,9 @@ module _ {frame : Frame} {formulas effects notes : List ℕ} {e : ℕ} {at : Siz
             walking_on
             (record {
               below = omega (arith, n.above, n.below);
-              reaches = rw q at (changes-more frame formulas effects e v w.reaches y.reaches);
+              reaches = rw q at (changes_more frame formulas effects e v w.reaches y.reaches);
               recorded = more-recorded frame formulas effects e v w.reaches c w.recorded y q z;
-              few = omega (arith, recorded-few z, w.few);
+              few = omega (arith, recorded_few z, w.few);
             })
             noted n
 
@@ -260,27 +260,27 @@ module _ {frame : Frame} {formulas effects notes : List ℕ} {e : ℕ} {at : Siz
         {r : Tally}
         → frame.variables ≤ v
         → r ≡ record { rows = here.rows; twins = here.twins; row = 0; records = k; full = false }
-        → Walked (all-changes frame formulas effects e frame.variables) frame formulas effects at before mid s2 from l m r
+        → Walked (all_changes frame formulas effects e frame.variables) frame formulas effects at before mid s2 from l m r
     walking-ends h is =
         rw is
         (all-walked frame formulas effects e _ v frame.variables (omega (arith, w.below)) w.reaches w.recorded)
 
 -- The precondition, then all changes.
 module _ (frame : Frame) (formulas effects : List ℕ) (p e : ℕ) {at : Size} {before mid : Store} {s1 s2 : List ℕ} {f : Step}
-    (x : Images (image-at frame formulas plain p) frame formulas at before mid s1 s2 f) where
+    (x : Images (image_at frame formulas plain p) frame formulas at before mid s1 s2 f) where
   precondition-over :
       f.full ≡ true
-      → Reaches (operator-built frame formulas effects p e) frame formulas effects at before mid s2 true (size_of f)
-  unfolding operator-built all-changes bind
+      → Reaches (operator_built frame formulas effects p e) frame formulas effects at before mid s2 true (size_of f)
+  unfolding operator_built all_changes bind
   precondition-over q =
-      let g = image-at frame formulas plain p (held at before) in
+      let g = image_at frame formulas plain p (held at before) in
       record {
         done = λ z. absurd (true≢false z);
         over = λ _ w.
             x.builds.over q
-            (within-before
-            ((steady-each frame.variables
-            (λ k. steady-changes (becoming frame) (steady-becoming frame) (effect-tree frame formulas effects e) k)).grow g.st)
+            (within_before
+            ((steady_each frame.variables
+            (λ k. steady-changes (becoming frame) (steady_becoming frame) (effect_tree frame formulas effects e) k)).grow g.st)
             w);
       }
 
@@ -299,40 +299,40 @@ module _ (frame : Frame) (formulas effects : List ℕ) (p e : ℕ) {at : Size} {
   operator-done :
       {after : Store} {s3 : List ℕ} {full : Bool} {next : Size}
       → f.full ≡ false
-      → Reaches (all-changes frame formulas effects e frame.variables) frame formulas effects (size_of f) mid after s3 full next
-      → Reaches (operator-built frame formulas effects p e) frame formulas effects at before after s3 full next
-  unfolding operator-built bind
+      → Reaches (all_changes frame formulas effects e frame.variables) frame formulas effects (size_of f) mid after s3 full next
+      → Reaches (operator_built frame formulas effects p e) frame formulas effects at before after s3 full next
+  unfolding operator_built bind
   operator-done q y =
-      let step : St → St = λ t. (all-changes frame formulas effects e frame.variables t).st in
+      let step : St → St = λ t. (all_changes frame formulas effects e frame.variables t).st in
       let same = ap step (x.builds.done q).state in
       record {
         done = λ z.
             let d = y.done z in
-            record { state = same ∙ d.state; ready = d.ready; memo = d.memo; effect-memo = d.effect-memo };
+            record { state = same ∙ d.state; ready = d.ready; memo = d.memo; effect_memo = d.effect_memo };
         over = λ z w. y.over z (rw same at w);
       }
 
 -- where building stands behind it
-pub stands-behind :
+pub stands_behind :
     {frame : Frame} {formulas effects notes : List ℕ} {at : Size} {before after : Store} {s1 s2 : List ℕ} {p e : ℕ} {f : Step}
     → BuildsOperator frame formulas effects notes at before s1 p e
-    → Images (image-at frame formulas plain p) frame formulas at before after s1 s2 f
+    → Images (image_at frame formulas plain p) frame formulas at before after s1 s2 f
     → f.full ≡ false
     → length s2 ≡ length s1
     → StandsAt frame formulas effects notes (size_of f) after s2 e
-stands-behind {frame} {formulas} {p = p} a x q long =
-    stands-at-next a.stands
-    (conditions-of-images (steady-image-at frame formulas plain p) a.stands.noted a.stands.stands.effect-memo x) q long
+stands_behind {frame} {formulas} {p = p} a x q long =
+    stands_at_next a.stands
+    (conditions_of_images (steady_image_at frame formulas plain p) a.stands.noted a.stands.stands.effect_memo x) q long
 
 -- Walked: the precondition, then all changes.
 module _ (frame : Frame) (formulas effects : List ℕ) (p e : ℕ) {at : Size} {before mid after : Store} {s1 s2 s3 : List ℕ} {f : Step} {from : ℕ}
-    {l m : List ℕ} {w : Tally} (x : Images (image-at frame formulas plain p) frame formulas at before mid s1 s2 f) (q : f.full ≡ false)
-    (y : Walked (all-changes frame formulas effects e frame.variables) frame formulas effects (size_of f) mid after s3 from l m w) where
+    {l m : List ℕ} {w : Tally} (x : Images (image_at frame formulas plain p) frame formulas at before mid s1 s2 f) (q : f.full ≡ false)
+    (y : Walked (all_changes frame formulas effects e frame.variables) frame formulas effects (size_of f) mid after s3 from l m w) where
   value-is :
-      (operator-built frame formulas effects p e (held at before)).value
-      ≡ (all-changes frame formulas effects e frame.variables (held (size_of f) mid)).value
-  unfolding operator-built bind
-  value-is = ap (λ (t : St). (all-changes frame formulas effects e frame.variables t).value) (x.builds.done q).state
+      (operator_built frame formulas effects p e (held at before)).value
+      ≡ (all_changes frame formulas effects e frame.variables (held (size_of f) mid)).value
+  unfolding operator_built bind
+  value-is = ap (λ (t : St). (all_changes frame formulas effects e frame.variables t).value) (x.builds.done q).state
 
   pub operator-walked :
       {r : Tally}
@@ -344,7 +344,7 @@ module _ (frame : Frame) (formulas effects : List ℕ) (p e : ℕ) {at : Size} {
         walked =
             record {
               reaches = operator-done frame formulas effects p e x q y.reaches;
-              recorded = λ z. as-recorded value-is (y.recorded z);
+              recorded = λ z. as_recorded value-is (y.recorded z);
             };
         precondition = λ _. (x.builds.done q).value;
       })

@@ -2,7 +2,7 @@
 ghost use Rattle.formula_builder.specs.Inner.Held.{store};
 ghost use Rattle.variable_changes.specs.Inner.Stands.{Leaves};
 ghost use Rattle.change_records.specs.Inner.Recorded.{Opens};
-ghost use Rattle.operators.specs.Inner.Operator.{BuildsOperator, operator-built, OperatorWalked, size-behind};
+ghost use Rattle.operators.specs.Inner.Operator.{BuildsOperator, operator_built, OperatorWalked, size_behind};
 
 use crate::Tally;
 use crate::walk::build_changes;
@@ -25,7 +25,7 @@ pub fn build_operator(
     records: &mut [u16],
 ) -> Tally
     requires { BuildsOperator frame formulas.now effects.now notes.old at (store table.old originals.old) scratch.old p e × Opens from records.old }
-    ensures { OperatorWalked frame formulas.now effects.now p e at (store table.old originals.old) (store table.new originals.new) scratch.new from records.old records.new result × Leaves result.full frame formulas.now effects.now notes.new (size-behind result) (store table.new originals.new) }
+    ensures { OperatorWalked frame formulas.now effects.now p e at (store table.old originals.old) (store table.new originals.new) scratch.new from records.old records.new result × Leaves result.full frame formulas.now effects.now notes.new (size_behind result) (store table.new originals.new) }
 {
     let f = image_from(formulas, p, frame, at, table, originals, scratch);
     if f.full {

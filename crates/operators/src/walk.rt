@@ -4,7 +4,7 @@ ghost use Rattle.formula_builder.specs.Inner.Held.{store};
 ghost use Rattle.atom_sets.specs.Inner.Sets.{InSet, sets_end};
 ghost use Rattle.variable_changes.specs.Inner.Stands.{StandsAt, Leaves};
 ghost use Rattle.change_records.specs.Inner.Recorded.{Opens};
-ghost use Rattle.operators.specs.Inner.Operator.{Passes, LooksOn, NextTouched, Walked, all-changes, size-behind};
+ghost use Rattle.operators.specs.Inner.Operator.{Passes, LooksOn, NextTouched, Walked, all_changes, size_behind};
 
 use crate::Tally;
 use atom_sets::set_from;
@@ -62,7 +62,7 @@ pub fn build_changes(
     records: &mut [u16],
 ) -> Tally
     requires { StandsAt frame formulas.now effects.now notes.old at (store table.old originals.old) scratch.old e × Opens from records.old }
-    ensures { Walked (all-changes frame formulas.now effects.now e frame.variables) frame formulas.now effects.now at (store table.old originals.old) (store table.new originals.new) scratch.new from records.old records.new result × Leaves result.full frame formulas.now effects.now notes.new (size-behind result) (store table.new originals.new) }
+    ensures { Walked (all_changes frame formulas.now effects.now e frame.variables) frame formulas.now effects.now at (store table.old originals.old) (store table.new originals.new) scratch.new from records.old records.new result × Leaves result.full frame formulas.now effects.now notes.new (size_behind result) (store table.new originals.new) }
 {
     let n = frame.variables;
     let words = words_of(frame);

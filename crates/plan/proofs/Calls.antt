@@ -10,17 +10,17 @@ use Rattle.operator_step.specs.Inner.Steps.{running}
 use Rattle.stepper.proofs.Calls.{same-run}
 use Rattle.plan.specs.declared.outcome.RunOutcome.{RunOutcome}
 use Rattle.plan.specs.declared.outcome.End.TheVariants.{Refused}
-use Rattle.plan.specs.Outcome.{run-refusal, cleared, run-refused, run-answer, run-told, run_by, ran, RunGives}
+use Rattle.plan.specs.Outcome.{run_refusal, cleared, run_refused, run_answer, run_told, run_by, ran, RunGives}
 use Rattle.plan.specs.Inner.Done.{RunDone}
 
 -- the ways out of `run`
-module _ (l : Lent) (s numbers scratch : List ℕ) (number : ℕ) (asked : number ≡ run-refusal l s numbers scratch) where
+module _ (l : Lent) (s numbers scratch : List ℕ) (number : ℕ) (asked : number ≡ run_refusal l s numbers scratch) where
   pub run-refuses :
       (number ≡ 0 → ⊥)
       → (rest : List ℕ)
       → rest ≡ cleared scratch
       → RunGives (ran l s numbers scratch) (record { steps = 0; cost = 0; goal = false; end = Refused number }) s rest
-  unfolding ran run_by run-refused
+  unfolding ran run_by run_refused
   run-refuses d rest z = rw (← asked) (go number d)
     where
       go :
@@ -37,11 +37,11 @@ module _ (l : Lent) (s numbers scratch : List ℕ) (number : ℕ) (asked : numbe
       → length mid ≡ length scratch
       → rest ≡ cleared mid
       → RunGives (ran l s numbers scratch) r after rest
-  unfolding ran run_by run-told
+  unfolding ran run_by run_told
   run-gives e r after mid rest done same z =
       rw (← asked, e)
       (record {
-        answer = done.answer ∙ ap run-answer (same-run l s numbers);
+        answer = done.answer ∙ ap run_answer (same-run l s numbers);
         state = done.state ∙ ap (λ (w : Run). w.state) (same-run l s numbers);
         scratch = z ∙ ap (λ (n : ℕ). replicate n 0) same;
       })

@@ -8,35 +8,35 @@ use borrow.Author.Tests.{le-leb, lt-leb, leb-true}
 use Rattle.task.specs.Table.{Lent}
 use Rattle.task.specs.Check.{unless}
 use Rattle.operator_step.specs.Inner.Steps.{Ready}
-use Rattle.stepper.proofs.Refusing.{first, first-none, rest-none, unless-kept, ready}
-pub use Rattle.stepper.proofs.Refusing.{not-refused}
-use Rattle.plan.specs.Outcome.{sequence-kept, early-refusal, run-refusal}
+use Rattle.stepper.proofs.Refusing.{first, first_none, rest_none, unless_kept, ready}
+pub use Rattle.stepper.proofs.Refusing.{not_refused}
+use Rattle.plan.specs.Outcome.{sequence_kept, early_refusal, run_refusal}
 
 -- the ways out of `refused_run`
-module _ (l : Lent) (s numbers scratch : List ℕ) (n : ℕ) (early : n ≡ early-refusal l s scratch) where
-  pub run-refused-early : (n ≡ 0 → ⊥) → n ≡ run-refusal l s numbers scratch
-  unfolding run-refusal
-  run-refused-early d = rw (← early) (first n (unless (sequence-kept numbers) 19 0) d)
+module _ (l : Lent) (s numbers scratch : List ℕ) (n : ℕ) (early : n ≡ early_refusal l s scratch) where
+  pub run-refused-early : (n ≡ 0 → ⊥) → n ≡ run_refusal l s numbers scratch
+  unfolding run_refusal
+  run-refused-early d = rw (← early) (first n (unless (sequence_kept numbers) 19 0) d)
 
-  pub run-refused-long : n ≡ 0 → 65535 < length numbers → 19 ≡ run-refusal l s numbers scratch
-  unfolding run-refusal sequence-kept
+  pub run-refused-long : n ≡ 0 → 65535 < length numbers → 19 ≡ run_refusal l s numbers scratch
+  unfolding run_refusal sequence_kept
   run-refused-long e h = rw (← early, e, lt-leb (length numbers) 65535 h)
 
-  pub run-not-refused : n ≡ 0 → length numbers ≤ 65535 → 0 ≡ run-refusal l s numbers scratch
-  unfolding run-refusal sequence-kept
+  pub run-not-refused : n ≡ 0 → length numbers ≤ 65535 → 0 ≡ run_refusal l s numbers scratch
+  unfolding run_refusal sequence_kept
   run-not-refused e h = rw (← early, e, le-leb (length numbers) 65535 h)
 
-module _ (l : Lent) (s numbers scratch : List ℕ) (passed : run-refusal l s numbers scratch ≡ 0) where
-  early-passed : early-refusal l s scratch ≡ 0
-  unfolding run-refusal
-  early-passed = first-none (early-refusal l s scratch) (unless (sequence-kept numbers) 19 0) passed
+module _ (l : Lent) (s numbers scratch : List ℕ) (passed : run_refusal l s numbers scratch ≡ 0) where
+  early-passed : early_refusal l s scratch ≡ 0
+  unfolding run_refusal
+  early-passed = first_none (early_refusal l s scratch) (unless (sequence_kept numbers) 19 0) passed
 
   pub run-ready : Ready l.head l.formulas l.effects l.operators s scratch
   run-ready = ready l s scratch early-passed
 
   pub short-enough : length numbers ≤ 65535
-  unfolding run-refusal sequence-kept
+  unfolding run_refusal sequence_kept
   short-enough =
       leb-true (length numbers) 65535
-      (unless-kept (sequence-kept numbers) 19 0 (omega arith)
-      (rest-none (early-refusal l s scratch) (unless (sequence-kept numbers) 19 0) passed))
+      (unless_kept (sequence_kept numbers) 19 0 (omega arith)
+      (rest_none (early_refusal l s scratch) (unless (sequence_kept numbers) 19 0) passed))

@@ -9,23 +9,23 @@ use lib.ListN.{length, get_or, drop}
 use lib.Seq.{drop-cons, drop-length}
 use Rattle.task.specs.declared.Head.{Head}
 use Rattle.task.specs.Table.{Task}
-use Rattle.task.specs.Run.{Run, Progress, ended, stopped, goal-holds, answer, run_on, plain-run}
+use Rattle.task.specs.Run.{Run, Progress, ended, stopped, goal_holds, answer, run_on, plain_run}
 use Rattle.operator_step.specs.declared.Taken.{Taken}
 use Rattle.operator_step.specs.Inner.Steps.{StateReady, took, Takes}
-use Rattle.operator_step.proofs.Going.{goes_on, stops, taken-ready}
+use Rattle.operator_step.proofs.Going.{goes_on, stops, taken_ready}
 use Rattle.plan.specs.declared.outcome.End.TheVariants.{Ended, Stopped}
-use Rattle.plan.specs.Outcome.{end_of, run-answer}
+use Rattle.plan.specs.Outcome.{end_of, run_answer}
 use Rattle.plan.specs.Inner.Done.{RunDone}
 
 -- the loop: what is left of the plain run stands before the numbers that are left
 pub record Goes (h : Head) (t : Task) (s numbers : List ℕ) (steps cost : ℕ) (now : List ℕ) : Type 0 where
-  pub rest : plain-run t s numbers ≡ run_on t (record { state = now; steps = steps; cost = cost }) (drop steps numbers)
+  pub rest : plain_run t s numbers ≡ run_on t (record { state = now; steps = steps; cost = cost }) (drop steps numbers)
   pub state : StateReady h now
   pub costs : cost ≤ 131070 * steps
 
 module _ {h : Head} {t : Task} {s numbers : List ℕ} where
   pub starts : StateReady h s → Goes h t s numbers 0 0 s
-  unfolding plain-run
+  unfolding plain_run
   starts ready = record { rest = refl; state = ready; costs = omega arith }
 
   module _
@@ -35,14 +35,14 @@ module _ {h : Head} {t : Task} {s numbers : List ℕ} where
       {r : Taken} {after : List ℕ}
       (taken : Takes t now (get_or numbers steps 0) r after) where
     here :
-        plain-run t s numbers
+        plain_run t s numbers
         ≡ run_on t (record { state = now; steps = steps; cost = cost }) (get_or numbers steps 0 ∷ drop (suc steps) numbers)
     here =
         g.rest
         ∙ ap (run_on t (record { state = now; steps = steps; cost = cost })) (drop-cons numbers steps 0 l)
 
     pub after-ready : StateReady h after
-    after-ready = taken-ready taken g.state
+    after-ready = taken_ready taken g.state
 
     pub one_more : r.stop ≡ 0 → Goes h t s numbers (steps + 1) (cost + r.charge) after
     one_more e =
@@ -59,9 +59,9 @@ module _ {h : Head} {t : Task} {s numbers : List ℕ} where
     module _ {goal : Bool} where
       pub stopped-run :
           (r.stop ≡ 0 → ⊥)
-          → goal ≡ goal-holds t after
+          → goal ≡ goal_holds t after
           → RunDone t s numbers (record { steps = steps; cost = cost; goal = goal; end = Stopped r.stop steps }) after
-      unfolding run-answer end_of answer
+      unfolding run_answer end_of answer
       stopped-run d told =
           record {
             answer = rw (whole, told, same);
@@ -83,16 +83,16 @@ module _ {h : Head} {t : Task} {s numbers : List ℕ} where
           same : after ≡ now
           same = taken.state ∙ ways.1
 
-          whole : plain-run t s numbers ≡ answer t at (stopped r.stop)
+          whole : plain_run t s numbers ≡ answer t at (stopped r.stop)
           whole = here ∙ ways.0 ∙ ap (λ (x : ℕ). answer t at (stopped x)) (sym stop-same)
 
   pub ended-run :
       {steps cost : ℕ} {now : List ℕ} {goal : Bool}
       → Goes h t s numbers steps cost now
       → steps ≡ length numbers
-      → goal ≡ goal-holds t now
+      → goal ≡ goal_holds t now
       → RunDone t s numbers (record { steps = steps; cost = cost; goal = goal; end = Ended goal }) now
-  unfolding run-answer end_of answer run_on
+  unfolding run_answer end_of answer run_on
   ended-run {steps} {cost} {now} g e told =
       record {
         answer = rw (whole, told);
@@ -102,5 +102,5 @@ module _ {h : Head} {t : Task} {s numbers : List ℕ} where
       at : Progress
       at = record { state = now; steps = steps; cost = cost }
 
-      whole : plain-run t s numbers ≡ answer t at ended
+      whole : plain_run t s numbers ≡ answer t at ended
       whole = g.rest ∙ ap (λ (n : ℕ). run_on t at (drop n numbers)) e ∙ ap (run_on t at) (drop-length numbers)

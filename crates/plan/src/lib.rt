@@ -1,4 +1,6 @@
 // Running plans. The single step is the stepper's, and is passed on.
+#![tactic(auto)]
+
 mod outcome;
 mod refusals;
 mod runs;

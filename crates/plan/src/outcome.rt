@@ -1,7 +1,7 @@
 // What a run answers.
 
 // How a run came to its end.
-#[derive(Drop)]
+#[derive(Clone, Copy)]
 pub enum End {
     // Every number was carried out: whether the goal holds.
     Ended(bool),
@@ -12,7 +12,7 @@ pub enum End {
 }
 
 // A run: the steps done, their summed cost, whether the goal holds in the last state, and how the run came to its end.
-#[derive(Drop)]
+#[derive(Clone, Copy)]
 pub struct RunOutcome {
     pub steps: u32,
     pub cost: u64,

@@ -1,7 +1,7 @@
 // What refuses a run before an operator is looked at.
 ghost use Rattle.std.specs.Prelude.{◌≡◌};
 ghost use Rattle.task.specs.Table.{lent};
-ghost use Rattle.plan.specs.Outcome.{run-refusal};
+ghost use Rattle.plan.specs.Outcome.{run_refusal};
 
 use stepper::refused_early;
 use task::Head;
@@ -18,7 +18,7 @@ pub fn refused_run(
     sequence: &[u16],
     scratch: &[u8],
 ) -> u16
-    ensures { result ≡ run-refusal (lent head initial.now twins.now formulas.now effects.now operators.now) state.now sequence.now scratch.now }
+    ensures { result ≡ run_refusal (lent head initial.now twins.now formulas.now effects.now operators.now) state.now sequence.now scratch.now }
 {
     let number = refused_early(
         head, initial, twins, formulas, effects, operators, state, scratch,

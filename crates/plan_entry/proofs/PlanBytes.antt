@@ -9,8 +9,8 @@ use Rattle.task.specs.Words.{joined}
 use Rattle.task.proofs.Bounded.{getD-upto}
 use Rattle.file_format.specs.Bytes.{word_bytes}
 use Rattle.layouts.specs.Layout.{numbers_of}
-use Rattle.layouts.proofs.RunWays.{numbers-length}
-use Rattle.layouts.proofs.Sizes.{length-word-bytes}
+use Rattle.layouts.proofs.RunWays.{numbers_length}
+use Rattle.layouts.proofs.Sizes.{length_word_bytes}
 
 low_byte : (numbers : List ℕ) (i : ℕ) → i < length numbers → get_or (joined word_bytes numbers) (2 * i) 0 ≡ get_or numbers i 0 % 256
 unfolding joined word_bytes
@@ -32,16 +32,16 @@ number_at : (bytes : List ℕ) (i : ℕ) → i < length bytes / 2 → get_or (nu
 unfolding numbers_of
 number_at bytes i h = getD-upto (length bytes / 2) (λ (j : ℕ). get_or bytes (2 * j) 0 + 256 * get_or bytes (2 * j + 1) 0) i 0 h
 
-pub numbers-of-words : (numbers : List ℕ) → numbers_of (joined word_bytes numbers) ≡ numbers
-numbers-of-words numbers = ext_get_or 0 (numbers_of bytes) numbers (numbers-length bytes ∙ half) same
+pub numbers_of_words : (numbers : List ℕ) → numbers_of (joined word_bytes numbers) ≡ numbers
+numbers_of_words numbers = ext_get_or 0 (numbers_of bytes) numbers (numbers_length bytes ∙ half) same
   where
     bytes : List ℕ
     bytes = joined word_bytes numbers
 
     half : length bytes / 2 ≡ length numbers
-    half = omega (arith, length-word-bytes numbers)
+    half = omega (arith, length_word_bytes numbers)
 
     same : (i : ℕ) → i < length (numbers_of bytes) → get_or (numbers_of bytes) i 0 ≡ get_or numbers i 0
     same i h =
-        let below : i < length numbers = omega (arith, numbers-length bytes, half) in
+        let below : i < length numbers = omega (arith, numbers_length bytes, half) in
         omega (arith, number_at bytes i (omega (arith, half)), low_byte numbers i below, high_byte numbers i below)

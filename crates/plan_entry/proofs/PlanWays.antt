@@ -10,53 +10,53 @@ use lib.Seq.{length-take-le, take-append_seam}
 use lib.Dec.{leb}
 use borrow.Author.Tests.{le-leb, lt-leb, leb-true}
 use Rattle.task.specs.declared.Head.{Head}
-use Rattle.task.specs.Table.{Lent, task-of}
+use Rattle.task.specs.Table.{Lent, task_of}
 use Rattle.task.specs.Check.{refusal, unless}
 use Rattle.task.specs.Rules.{Checked}
 use Rattle.task.specs.Words.{joined, head_of, padded}
 use Rattle.task.proofs.Bounded.{and_left, and_right}
 use Rattle.task.proofs.Held.{length-initial}
 use Rattle.task.proofs.Kept.{kept-rules}
-use Rattle.task.proofs.Passed.{passed, counts-tested}
+use Rattle.task.proofs.Passed.{passed, counts_tested}
 use Rattle.file_format.specs.Bytes.{word_bytes}
 use Rattle.file_format.specs.Reading.{Lengths, Verdict, rejected, reading}
 use Rattle.task_writer.specs.Inner.Putting.{Put}
 use Rattle.task_writer.proofs.Puts.{put_then}
-use Rattle.stepper.specs.Stepped.{first_of, step-scratch-kept}
+use Rattle.stepper.specs.Stepped.{first_of, step_scratch_kept}
 use Rattle.cheapest_plan.specs.declared.CheapestOutcome.{CheapestOutcome}
-use Rattle.cheapest_plan.specs.Cheapest.{Pick, no-plan, plan-of, cheapest}
-use Rattle.cheapest_plan.specs.Planned.{few-variables, search-scratch-kept, search-refusal, plan-refused, plan-written, plan-told, planned-by, planned, Planned, PlanGives}
+use Rattle.cheapest_plan.specs.Cheapest.{Pick, no_plan, plan_of, cheapest}
+use Rattle.cheapest_plan.specs.Planned.{few_variables, search_scratch_kept, search_refusal, plan_refused, plan_written, plan_told, planned_by, planned, Planned, PlanGives}
 use Rattle.cheapest_plan.proofs.Cheapest.{plan-is-short}
-use Rattle.layouts.specs.Layout.{low-bytes}
+use Rattle.layouts.specs.Layout.{low_bytes}
 use Rattle.layouts.proofs.LayWays.{put-padded, size}
-use Rattle.layouts.proofs.RunWays.{low-next}
-use Rattle.layouts.proofs.Sizes.{length-word-bytes}
-use Rattle.entry_tables.proofs.Reading.{ReadAs, same-reading}
-use Rattle.plan_entry.specs.Entry.{nothing-planned, plan-bytes, plan-laid, plan-picked, plan-number, plan-given, plan-entry-by, plan-entry, PlanEntry, PlanEntryGives}
-use Rattle.plan_entry.specs.Inner.Giving.{FreePlan, PlanIn, small-plan, SmallPlan}
+use Rattle.layouts.proofs.RunWays.{low_next}
+use Rattle.layouts.proofs.Sizes.{length_word_bytes}
+use Rattle.entry_tables.proofs.Reading.{ReadAs, same_reading}
+use Rattle.plan_entry.specs.Entry.{nothing_planned, plan_bytes, plan_laid, plan_picked, plan_number, plan_given, plan_entry_by, plan_entry, PlanEntry, PlanEntryGives}
+use Rattle.plan_entry.specs.Inner.Giving.{FreePlan, PlanIn, small_plan, SmallPlan}
 
 -- the refusals before the search, in order
 module _ (h : Head) (r : ℕ) where
-  pub many-variables : 10 < h.variables → 21 ≡ plan-number h r
-  unfolding plan-number few-variables
+  pub many-variables : 10 < h.variables → 21 ≡ plan_number h r
+  unfolding plan_number few_variables
   many-variables m = rw (lt-leb h.variables 10 m)
 
   module _ (few : h.variables ≤ 10) where
-    pub short-result : r < 12 → 20 ≡ plan-number h r
-    unfolding plan-number few-variables
+    pub short-result : r < 12 → 20 ≡ plan_number h r
+    unfolding plan_number few_variables
     short-result s = rw (le-leb h.variables 10 few, lt-leb 12 r s)
 
-    pub none-refused : 12 ≤ r → 0 ≡ plan-number h r
-    unfolding plan-number few-variables
-    none-refused s = rw (le-leb h.variables 10 few, le-leb 12 r s)
+    pub none_refused : 12 ≤ r → 0 ≡ plan_number h r
+    unfolding plan_number few_variables
+    none_refused s = rw (le-leb h.variables 10 few, le-leb 12 r s)
 
 -- what no refusal says
 pub record Free (h : Head) (r : ℕ) : Type 0 where
   pub few : h.variables ≤ 10
   pub room : 12 ≤ r
 
-pub free_of : (h : Head) (r : ℕ) → plan-number h r ≡ 0 → Free h r
-unfolding plan-number few-variables
+pub free_of : (h : Head) (r : ℕ) → plan_number h r ≡ 0 → Free h r
+unfolding plan_number few_variables
 free_of h r e = go (leb h.variables 10) (leb 12 r) refl refl e
   where
     go :
@@ -70,36 +70,36 @@ free_of h r e = go (leb h.variables 10) (leb 12 r) refl refl e
     go false y a b e = absurd (omega arith)
 
 -- 2 to at most 10 is at most 1,024
-few-states : (v : ℕ) → v ≤ 10 → 2 ^ v ≤ 1024
-few-states v h = pow_mono h
+few_states : (v : ℕ) → v ≤ 10 → 2 ^ v ≤ 1024
+few_states v h = pow_mono h
 
 -- room for a search that nothing refuses before it begins: by the limits, or by its few variables and rows
-pub full-room :
+pub full_room :
     {l : Lent} {numbers scratch words : List ℕ} {r : ℕ}
     → FreePlan l r
     → length numbers ≡ 1023
     → length scratch ≡ 8192
     → length words ≡ 4096
     → PlanIn l numbers scratch words r
-full-room {l} {numbers} {scratch} {words} {r} plan steps bytes states =
-    let c = (counts-tested l.head).0 (passed l plan.kept).counts in
+full_room {l} {numbers} {scratch} {words} {r} plan steps bytes states =
+    let c = (counts_tested l.head).0 (passed l plan.kept).counts in
     let f = free_of l.head r plan.free in
     record {
       plan = plan;
-      steps = omega (arith, steps, few-states l.head.variables f.few);
+      steps = omega (arith, steps, few_states l.head.variables f.few);
       bytes = omega (arith, c.formulas, c.effects, bytes);
-      states = omega (arith, states, few-states l.head.variables f.few);
+      states = omega (arith, states, few_states l.head.variables f.few);
     }
 
-pub small-room :
+pub small_room :
     {l : Lent} {numbers scratch words : List ℕ} {r : ℕ}
     → SmallPlan l r
     → length numbers ≡ 63
     → length scratch ≡ 256
     → length words ≡ 256
     → PlanIn l numbers scratch words r
-unfolding small-plan
-small-room {l} {numbers} {scratch} {words} {r} p steps bytes states =
+unfolding small_plan
+small_room {l} {numbers} {scratch} {words} {r} p steps bytes states =
     let v : ℕ = l.head.variables in
     let rows : ℕ = l.head.formulas + l.head.effects in
     let few : 2 ^ v ≤ 64 = pow_mono (leb-true v 6 (and_left (leb v 6) (leb rows 256) p.small)) in
@@ -119,14 +119,14 @@ module _ (numbers out result : List ℕ) (steps cost : ℕ) (inside : steps ≤ 
   whole = length-take-le steps numbers inside
 
   abbrev Given : (r : ℕ) → (out' result' : List ℕ) → Type 0
-  Given r out' result' = PlanEntryGives (plan-picked (plan-of (take steps numbers) cost) (length out) (length result)) r out' result'
+  Given r out' result' = PlanEntryGives (plan_picked (plan_of (take steps numbers) cost) (length out) (length result)) r out' result'
 
   pub too_long :
       {r : ℕ} {out' result' : List ℕ}
       → length out / 2 < steps
-      → PlanEntryGives (nothing-planned 23 (length out) (length result)) r out' result'
+      → PlanEntryGives (nothing_planned 23 (length out) (length result)) r out' result'
       → Given r out' result'
-  unfolding plan-picked
+  unfolding plan_picked
   too_long h g = rw (lt-leb (2 * length plan) (length out) (omega (arith, whole))) g
 
   pub gives-plan :
@@ -136,16 +136,16 @@ module _ (numbers out result : List ℕ) (steps cost : ℕ) (inside : steps ≤ 
       → z ≡ replicate (length out) 0
       → z' ≡ replicate (length result) 0
       → Put (joined word_bytes plan) 0 a z out'
-      → Put (low-bytes 4 steps) 0 b z' part
-      → Put (low-bytes 8 cost) b c part result'
+      → Put (low_bytes 4 steps) 0 b z' part
+      → Put (low_bytes 8 cost) b c part result'
       → Given 0 out' result'
-  unfolding plan-picked plan-laid plan-bytes
+  unfolding plan_picked plan_laid plan_bytes
   gives-plan {z} {z'} {out'} {part} {result'} {a} {b} {c} h room clear clear' p q s =
-      let bytes : List ℕ = low-bytes 4 steps ++ low-bytes 8 cost in
+      let bytes : List ℕ = low_bytes 4 steps ++ low_bytes 8 cost in
       let both : Put bytes 0 c z' result' = put_then q s in
-      let end : a ≡ 2 * steps = omega (arith, p.next, length-word-bytes plan, whole) in
+      let end : a ≡ 2 * steps = omega (arith, p.next, length_word_bytes plan, whole) in
       let fits : leb (2 * length plan) (length out) ≡ true = le-leb (2 * length plan) (length out) (omega (arith, whole)) in
-      let last : c ≡ 12 = omega (arith, low-next 4 steps q, low-next 8 cost s) in
+      let last : c ≡ 12 = omega (arith, low_next 4 steps q, low_next 8 cost s) in
       rw (fits, whole)
       (record {
         told = refl;
@@ -155,12 +155,12 @@ module _ (numbers out result : List ℕ) (steps cost : ℕ) (inside : steps ≤ 
 
 -- the search's answer, where nothing refuses it before it begins
 module _ (l : Lent) (numbers scratch words : List ℕ) (r : ℕ) (i : PlanIn l numbers scratch words r) where
-  checked : Checked (task-of l)
+  checked : Checked (task_of l)
   checked = (kept-rules l i.plan.kept).1
 
-  not-refused : search-refusal l scratch words ≡ 0
-  unfolding search-refusal few-variables search-scratch-kept step-scratch-kept
-  not-refused =
+  not_refused : search_refusal l scratch words ≡ 0
+  unfolding search_refusal few_variables search_scratch_kept step_scratch_kept
+  not_refused =
       let h = l.head in
       rw (
         i.plan.kept,
@@ -170,36 +170,36 @@ module _ (l : Lent) (numbers scratch words : List ℕ) (r : ℕ) (i : PlanIn l n
       )
 
   -- a plan has at most 2^V - 1 steps, so there is room for it
-  short : {p : List ℕ} {c : ℕ} → cheapest (task-of l) ≡ plan-of p c → length p ≤ 2 ^ l.head.variables - 1
+  short : {p : List ℕ} {c : ℕ} → cheapest (task_of l) ≡ plan_of p c → length p ≤ 2 ^ l.head.variables - 1
   short {p} {c} e =
       subst (λ (v : ℕ). length p ≤ 2 ^ v - 1) (length-initial l (kept-rules l i.plan.kept).0)
-      (plan-is-short (task-of l) checked e)
+      (plan-is-short (task_of l) checked e)
 
   module _ {o : CheapestOutcome} {numbers' scratch' words' : List ℕ} (g : PlanGives (planned l numbers scratch words) o numbers' scratch' words') where
-    searched : planned l numbers scratch words ≡ plan-told (cheapest (task-of l)) numbers scratch words
-    unfolding planned planned-by
-    searched = rw not-refused
+    searched : planned l numbers scratch words ≡ plan_told (cheapest (task_of l)) numbers scratch words
+    unfolding planned planned_by
+    searched = rw not_refused
 
     -- no refusal: the cheapest plan stands in front
     pub record Found : Type 0 where
-      pub same : cheapest (task-of l) ≡ plan-of (take o.steps numbers') o.cost
+      pub same : cheapest (task_of l) ≡ plan_of (take o.steps numbers') o.cost
       pub few : o.steps ≤ 1023
       pub inside : o.steps ≤ length numbers'
 
     pub found : o.refusal ≡ 0 → Found
-    unfolding plan-told plan-refused plan-written padded
-    found z = go (cheapest (task-of l)) refl
+    unfolding plan_told plan_refused plan_written padded
+    found z = go (cheapest (task_of l)) refl
       where
-        fits : {p : List ℕ} {c : ℕ} → cheapest (task-of l) ≡ plan-of p c → leb (length p) (length numbers) ≡ true
+        fits : {p : List ℕ} {c : ℕ} → cheapest (task_of l) ≡ plan_of p c → leb (length p) (length numbers) ≡ true
         fits {p} e = le-leb (length p) (length numbers) (omega (arith, short e, i.steps))
 
-        go : (a : Pick) → cheapest (task-of l) ≡ a → Found
-        go no-plan e =
-            let w : planned l numbers scratch words ≡ plan-refused 22 numbers scratch words = searched ∙ rw e in
+        go : (a : Pick) → cheapest (task_of l) ≡ a → Found
+        go no_plan e =
+            let w : planned l numbers scratch words ≡ plan_refused 22 numbers scratch words = searched ∙ rw e in
             let n : o.refusal ≡ 22 = ap (λ (x : CheapestOutcome). x.refusal) g.answer ∙ ap (λ (x : Planned). x.answer.refusal) w in
             absurd (omega (arith, n, z))
-        go (plan-of p c) e =
-            let w : planned l numbers scratch words ≡ plan-written p c numbers scratch words = searched ∙ rw (e, fits e) in
+        go (plan_of p c) e =
+            let w : planned l numbers scratch words ≡ plan_written p c numbers scratch words = searched ∙ rw (e, fits e) in
             let steps : o.steps ≡ length p = ap (λ (x : CheapestOutcome). x.steps) g.answer ∙ ap (λ (x : Planned). x.answer.steps) w in
             let cost : o.cost ≡ c = ap (λ (x : CheapestOutcome). x.cost) g.answer ∙ ap (λ (x : Planned). x.answer.cost) w in
             let left : numbers' ≡ p ++ replicate (length numbers - length p) 0 = g.plan ∙ ap (λ (x : Planned). x.plan) w in
@@ -207,100 +207,100 @@ module _ (l : Lent) (numbers scratch words : List ℕ) (r : ℕ) (i : PlanIn l n
             (λ j. take (steps j) (left j)) ∙ take-append_seam p (replicate (length numbers - length p) 0)
             in
             record {
-              same = e ∙ (λ j. plan-of (sym front j) (sym cost j));
-              few = omega (arith, steps, short e, few-states l.head.variables (free_of l.head r i.plan.free).few);
+              same = e ∙ (λ j. plan_of (sym front j) (sym cost j));
+              few = omega (arith, steps, short e, few_states l.head.variables (free_of l.head r i.plan.free).few);
               inside = omega (arith, steps, ap length left, length-append p (replicate (length numbers - length p) 0));
             }
 
     pub found-plan :
         (m : ℕ) {n : ℕ} {out' result' : List ℕ}
         → Found
-        → PlanEntryGives (plan-picked (plan-of (take o.steps numbers') o.cost) m r) n out' result'
-        → PlanEntryGives (plan-picked (cheapest (task-of l)) m r) n out' result'
+        → PlanEntryGives (plan_picked (plan_of (take o.steps numbers') o.cost) m r) n out' result'
+        → PlanEntryGives (plan_picked (cheapest (task_of l)) m r) n out' result'
     found-plan m f given = rw f.same given
 
     -- a refusal: there is no plan
     pub not_found :
         (m : ℕ) {n : ℕ} {out' result' : List ℕ}
         → (o.refusal ≡ 0 → ⊥)
-        → PlanEntryGives (nothing-planned o.refusal m r) n out' result'
-        → PlanEntryGives (plan-picked (cheapest (task-of l)) m r) n out' result'
-    unfolding plan-told plan-refused plan-written plan-picked
-    not_found m {n} {out'} {result'} d given = go (cheapest (task-of l)) refl
+        → PlanEntryGives (nothing_planned o.refusal m r) n out' result'
+        → PlanEntryGives (plan_picked (cheapest (task_of l)) m r) n out' result'
+    unfolding plan_told plan_refused plan_written plan_picked
+    not_found m {n} {out'} {result'} d given = go (cheapest (task_of l)) refl
       where
-        go : (a : Pick) → cheapest (task-of l) ≡ a → PlanEntryGives (plan-picked (cheapest (task-of l)) m r) n out' result'
-        go no-plan e =
-            let w : planned l numbers scratch words ≡ plan-refused 22 numbers scratch words = searched ∙ rw e in
+        go : (a : Pick) → cheapest (task_of l) ≡ a → PlanEntryGives (plan_picked (cheapest (task_of l)) m r) n out' result'
+        go no_plan e =
+            let w : planned l numbers scratch words ≡ plan_refused 22 numbers scratch words = searched ∙ rw e in
             let k : o.refusal ≡ 22 = ap (λ (x : CheapestOutcome). x.refusal) g.answer ∙ ap (λ (x : Planned). x.answer.refusal) w in
             rw e (rw k at given)
-        go (plan-of p c) e =
+        go (plan_of p c) e =
             let fits : leb (length p) (length numbers) ≡ true = le-leb (length p) (length numbers) (omega (arith, short e, i.steps)) in
-            let w : planned l numbers scratch words ≡ plan-written p c numbers scratch words = searched ∙ rw (e, fits) in
+            let w : planned l numbers scratch words ≡ plan_written p c numbers scratch words = searched ∙ rw (e, fits) in
             absurd (d (ap (λ (x : CheapestOutcome). x.refusal) g.answer ∙ ap (λ (x : Planned). x.answer.refusal) w))
 
 -- by the refusals before the search
-number_of : (l : Lent) (r : ℕ) → refusal l ≡ 0 → plan-number (head_of (task-of l)) r ≡ plan-number l.head r
-unfolding plan-number few-variables head_of
+number_of : (l : Lent) (r : ℕ) → refusal l ≡ 0 → plan_number (head_of (task_of l)) r ≡ plan_number l.head r
+unfolding plan_number few_variables head_of
 number_of l r kept = rw (length-initial l (kept-rules l kept).0)
 
-module _ (l : Lent) (o r : ℕ) (kept : refusal l ≡ 0) {number : ℕ} (told : number ≡ plan-number l.head r) {n : ℕ} {out' result' : List ℕ} where
+module _ (l : Lent) (o r : ℕ) (kept : refusal l ≡ 0) {number : ℕ} (told : number ≡ plan_number l.head r) {n : ℕ} {out' result' : List ℕ} where
   pub plan-kept :
       number ≡ 0
-      → PlanEntryGives (plan-picked (cheapest (task-of l)) o r) n out' result'
-      → PlanEntryGives (plan-given (plan-number (head_of (task-of l)) r) (task-of l) o r) n out' result'
-  unfolding plan-given
+      → PlanEntryGives (plan_picked (cheapest (task_of l)) o r) n out' result'
+      → PlanEntryGives (plan_given (plan_number (head_of (task_of l)) r) (task_of l) o r) n out' result'
+  unfolding plan_given
   plan-kept z g = rw (number_of l r kept ∙ sym told ∙ z) g
 
   pub plan-not-begun :
       (number ≡ 0 → ⊥)
-      → PlanEntryGives (nothing-planned number o r) n out' result'
-      → PlanEntryGives (plan-given (plan-number (head_of (task-of l)) r) (task-of l) o r) n out' result'
-  unfolding plan-given
+      → PlanEntryGives (nothing_planned number o r) n out' result'
+      → PlanEntryGives (plan_given (plan_number (head_of (task_of l)) r) (task_of l) o r) n out' result'
+  unfolding plan_given
   plan-not-begun d g = rw (number_of l r kept ∙ sym told) (go number d g)
     where
       go :
           (k : ℕ)
           → (k ≡ 0 → ⊥)
-          → PlanEntryGives (nothing-planned k o r) n out' result'
-          → PlanEntryGives (plan-given k (task-of l) o r) n out' result'
+          → PlanEntryGives (nothing_planned k o r) n out' result'
+          → PlanEntryGives (plan_given k (task_of l) o r) n out' result'
       go zero d g = absurd (d refl)
       go (suc k) d g = g
 
 -- the two ways out by the file
-pub plan-read :
+pub plan_read :
     {m : Lengths} {file : List ℕ} (o r : ℕ) {l : Lent} {n : ℕ} {out' result' : List ℕ}
     → ReadAs m file l
-    → PlanEntryGives (plan-given (plan-number (head_of (task-of l)) r) (task-of l) o r) n out' result'
-    → PlanEntryGives (plan-entry-by (reading m file) o r) n out' result'
-unfolding plan-entry-by
-plan-read o r t g = rw t.read g
+    → PlanEntryGives (plan_given (plan_number (head_of (task_of l)) r) (task_of l) o r) n out' result'
+    → PlanEntryGives (plan_entry_by (reading m file) o r) n out' result'
+unfolding plan_entry_by
+plan_read o r t g = rw t.read g
 
-pub plan-no-file :
+pub plan_no_file :
     (m : Lengths) (file : List ℕ) (o r : ℕ) {k number n : ℕ} {out' result' : List ℕ}
     → reading m file ≡ rejected k
     → number ≡ k
-    → PlanEntryGives (nothing-planned number o r) n out' result'
-    → PlanEntryGives (plan-entry-by (reading m file) o r) n out' result'
-unfolding plan-entry-by
-plan-no-file m file o r e x g = rw e (rw x at g)
+    → PlanEntryGives (nothing_planned number o r) n out' result'
+    → PlanEntryGives (plan_entry_by (reading m file) o r) n out' result'
+unfolding plan_entry_by
+plan_no_file m file o r e x g = rw e (rw x at g)
 
 -- through tables of any lengths, any answer but 5 is the entry's
-pub plan-settled :
+pub plan_settled :
     (m : Lengths) (file : List ℕ) (o r : ℕ) {n : ℕ} {out' result' : List ℕ}
     → (n ≡ 5 → ⊥)
-    → PlanEntryGives (plan-entry-by (reading m file) o r) n out' result'
-    → PlanEntryGives (plan-entry file o r) n out' result'
-unfolding plan-entry plan-entry-by
-plan-settled m file o r {n} {out'} {result'} d g =
-    subst (λ (x : Verdict). PlanEntryGives (plan-entry-by x o r) n out' result')
-    (same-reading m file (λ e. d (g.told ∙ ap (λ (x : Verdict). (plan-entry-by x o r).number) e)))
+    → PlanEntryGives (plan_entry_by (reading m file) o r) n out' result'
+    → PlanEntryGives (plan_entry file o r) n out' result'
+unfolding plan_entry plan_entry_by
+plan_settled m file o r {n} {out'} {result'} d g =
+    subst (λ (x : Verdict). PlanEntryGives (plan_entry_by x o r) n out' result')
+    (same_reading m file (λ e. d (g.told ∙ ap (λ (x : Verdict). (plan_entry_by x o r).number) e)))
     g
 
 -- the outputs' lengths, as a call before left them
-pub plan-again :
+pub plan_again :
     (file : List ℕ) {o o' r r' n : ℕ} {out result : List ℕ}
     → o ≡ o'
     → r ≡ r'
-    → PlanEntryGives (plan-entry file o r) n out result
-    → PlanEntryGives (plan-entry file o' r') n out result
-plan-again file p q g = rw (← p, ← q) g
+    → PlanEntryGives (plan_entry file o r) n out result
+    → PlanEntryGives (plan_entry file o' r') n out result
+plan_again file p q g = rw (← p, ← q) g

@@ -1,14 +1,14 @@
 // The cheapest plan of a task file.
 ghost use Rattle.std.specs.Prelude.{◌≡◌, length};
-ghost use Rattle.task.specs.Table.{lent, task-of};
+ghost use Rattle.task.specs.Table.{lent, task_of};
 ghost use Rattle.task.specs.Words.{head_of};
 ghost use Rattle.task.specs.Check.{refusal};
 ghost use Rattle.file_format.specs.Reading.{reading};
 ghost use Rattle.task_file.specs.Outcome.{lengths};
 ghost use Rattle.cheapest_plan.specs.Cheapest.{cheapest};
 ghost use Rattle.entry_tables.specs.Own.{small};
-ghost use Rattle.plan_entry.specs.Entry.{plan-picked, plan-number, plan-given, plan-entry-by, plan-entry, PlanEntryGives};
-ghost use Rattle.plan_entry.specs.Inner.Giving.{small-plan, FreePlan, SmallPlan, PlanIn};
+ghost use Rattle.plan_entry.specs.Entry.{plan_picked, plan_number, plan_given, plan_entry_by, plan_entry, PlanEntryGives};
+ghost use Rattle.plan_entry.specs.Inner.Giving.{small_plan, FreePlan, SmallPlan, PlanIn};
 
 use crate::giving::give_plan;
 use crate::refusals::{refuse, refused_plan};
@@ -33,7 +33,7 @@ fn plan_lent(
     res: &mut [u8],
 ) -> u32
     requires { PlanIn (lent head initial.now twins.now formulas.now effects.now operators.now) numbers.old scratch.old words.old (length res.old) }
-    ensures { PlanEntryGives (plan-picked (cheapest (task-of (lent head initial.now twins.now formulas.now effects.now operators.now))) (length out.old) (length res.old)) result out.new res.new }
+    ensures { PlanEntryGives (plan_picked (cheapest (task_of (lent head initial.now twins.now formulas.now effects.now operators.now))) (length out.old) (length res.old)) result out.new res.new }
 {
     let outcome = cheapest_plan::call::cheapest(
         head, initial, twins, formulas, effects, operators, numbers, scratch, words,
@@ -56,7 +56,7 @@ fn plan_small(
     res: &mut [u8],
 ) -> u32
     requires { SmallPlan (lent head initial.now twins.now formulas.now effects.now operators.now) (length res.old) }
-    ensures { PlanEntryGives (plan-picked (cheapest (task-of (lent head initial.now twins.now formulas.now effects.now operators.now))) (length out.old) (length res.old)) result out.new res.new }
+    ensures { PlanEntryGives (plan_picked (cheapest (task_of (lent head initial.now twins.now formulas.now effects.now operators.now))) (length out.old) (length res.old)) result out.new res.new }
 {
     let mut numbers = [0u16; 63];
     let mut scratch = [0u8; 256];
@@ -88,7 +88,7 @@ fn plan_full(
     res: &mut [u8],
 ) -> u32
     requires { FreePlan (lent head initial.now twins.now formulas.now effects.now operators.now) (length res.old) }
-    ensures { PlanEntryGives (plan-picked (cheapest (task-of (lent head initial.now twins.now formulas.now effects.now operators.now))) (length out.old) (length res.old)) result out.new res.new }
+    ensures { PlanEntryGives (plan_picked (cheapest (task_of (lent head initial.now twins.now formulas.now effects.now operators.now))) (length out.old) (length res.old)) result out.new res.new }
 {
     let mut numbers = [0u16; 1023];
     let mut scratch = [0u8; 8192];
@@ -110,7 +110,7 @@ fn plan_full(
 
 // Whether a task has at most 6 variables and few rows. Constant time.
 fn is_small(head: Head) -> bool
-    ensures { result ≡ small-plan head }
+    ensures { result ≡ small_plan head }
 {
     if 6 < head.variables {
         return false;
@@ -130,7 +130,7 @@ fn plan_free(
     res: &mut [u8],
 ) -> u32
     requires { FreePlan (lent head initial.now twins.now formulas.now effects.now operators.now) (length res.old) }
-    ensures { PlanEntryGives (plan-picked (cheapest (task-of (lent head initial.now twins.now formulas.now effects.now operators.now))) (length out.old) (length res.old)) result out.new res.new }
+    ensures { PlanEntryGives (plan_picked (cheapest (task_of (lent head initial.now twins.now formulas.now effects.now operators.now))) (length out.old) (length res.old)) result out.new res.new }
 {
     if is_small(head) {
         return plan_small(head, initial, twins, formulas, effects, operators, out, res);
@@ -150,7 +150,7 @@ fn plan_read(
     res: &mut [u8],
 ) -> u32
     requires { refusal (lent head initial.now twins.now formulas.now effects.now operators.now) ≡ 0 }
-    ensures { PlanEntryGives (plan-given (plan-number (head_of (task-of (lent head initial.now twins.now formulas.now effects.now operators.now))) (length res.old)) (task-of (lent head initial.now twins.now formulas.now effects.now operators.now)) (length out.old) (length res.old)) result out.new res.new }
+    ensures { PlanEntryGives (plan_given (plan_number (head_of (task_of (lent head initial.now twins.now formulas.now effects.now operators.now))) (length res.old)) (task_of (lent head initial.now twins.now formulas.now effects.now operators.now)) (length out.old) (length res.old)) result out.new res.new }
 {
     let number = refused_plan(head, res.len());
     if number != 0 {
@@ -170,7 +170,7 @@ fn plan_through(
     out: &mut [u8],
     res: &mut [u8],
 ) -> u32
-    ensures { PlanEntryGives (plan-entry-by (reading (lengths (length initial.old) (length twins.old) (length formulas.old) (length effects.old) (length operators.old)) file.now) (length out.old) (length res.old)) result out.new res.new }
+    ensures { PlanEntryGives (plan_entry_by (reading (lengths (length initial.old) (length twins.old) (length formulas.old) (length effects.old) (length operators.old)) file.now) (length out.old) (length res.old)) result out.new res.new }
 {
     let r = task_file::read::read(file, initial, twins, formulas, effects, operators);
     let ReadAnswer::Read(head) = r else {
@@ -181,7 +181,7 @@ fn plan_through(
 
 // The task in small tables: 3 KiB.
 fn plan_from_small(file: &[u8], out: &mut [u8], res: &mut [u8]) -> u32
-    ensures { PlanEntryGives (plan-entry-by (reading small file.now) (length out.old) (length res.old)) result out.new res.new }
+    ensures { PlanEntryGives (plan_entry_by (reading small file.now) (length out.old) (length res.old)) result out.new res.new }
 {
     let mut initial = [0u8; 512];
     let mut twins = [0u16; 64];
@@ -202,7 +202,7 @@ fn plan_from_small(file: &[u8], out: &mut [u8], res: &mut [u8]) -> u32
 
 // The task in tables with room for every task: 51 KiB.
 fn plan_from_full(file: &[u8], out: &mut [u8], res: &mut [u8]) -> u32
-    ensures { PlanEntryGives (plan-entry file.now (length out.old) (length res.old)) result out.new res.new }
+    ensures { PlanEntryGives (plan_entry file.now (length out.old) (length res.old)) result out.new res.new }
 {
     let mut initial = [0u8; 512];
     let mut twins = [0u16; 256];
@@ -225,7 +225,7 @@ fn plan_from_full(file: &[u8], out: &mut [u8], res: &mut [u8]) -> u32
 // Cost: one pass over the file, then the search. A short file goes through small tables, and only if they are too short for its head, 5, through the
 // full ones.
 pub fn plan(file: &[u8], out: &mut [u8], res: &mut [u8]) -> u32
-    ensures { PlanEntryGives (plan-entry file.now (length out.old) (length res.old)) result out.new res.new }
+    ensures { PlanEntryGives (plan_entry file.now (length out.old) (length res.old)) result out.new res.new }
 {
     if file.len() > 128 {
         return plan_from_full(file, out, res);

@@ -1,4 +1,6 @@
 // The cheapest plan of a task file for C: operator numbers and a result, laid out as bytes.
+#![tactic(auto)]
+
 mod call;
 mod giving;
 mod refusals;

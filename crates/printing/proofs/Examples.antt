@@ -3,8 +3,8 @@ use Prim.Native.Nat.{ℕ}
 use mathlib.Core.Path.{◌≡◌, refl}
 use mathlib.Core.List.{[], ◌∷◌}
 use Rattle.task.specs.Table.{Row, Task, operator}
-use Rattle.task.specs.Words.{joined, row_words, operator-row-words}
-use Rattle.printing.specs.Lines.{bytes, digits-within, decimal, word, line, numbered, values, initial-line, head-line, twin-lines, lines, refusal-line}
+use Rattle.task.specs.Words.{joined, row_words, operator_row_words}
+use Rattle.printing.specs.Lines.{bytes, digits_within, decimal, word, line, numbered, values, initial_line, head_line, twin_lines, lines, refusal_line}
 
 abbrev words : ℕ → ℕ → ℕ → Row
 words k a b = record { kind = k; a = a; b = b }
@@ -37,23 +37,23 @@ compiled =
 pub whole :
     lines compiled
     ≡ bytes "t 4 2 7 12 1 6\ni 0110\nw 2 0\nw 3 1\nf 0 0 0 0\nf 1 1 0 0\nf 2 2 2 0\nf 3 2 1 0\nf 4 2 0 0\nf 5 2 3 0\nf 6 4 4 5\ne 0 0 0 0\ne 1 1 0 0\ne 2 4 1 1\ne 3 2 2 0\ne 4 4 1 3\ne 5 3 2 4\ne 6 2 1 0\ne 7 4 3 6\ne 8 3 5 7\ne 9 1 3 0\ne 10 4 3 9\ne 11 3 8 10\no 0 2 11 3 100\n"
-unfolding bytes digits-within decimal word line numbered values initial-line head-line twin-lines lines joined row_words operator-row-words
+unfolding bytes digits_within decimal word line numbered values initial_line head_line twin_lines lines joined row_words operator_row_words
 whole = refl
 
 -- a bare i has no blank behind it
-pub bare : initial-line [] ≡ bytes "i\n"
-unfolding bytes initial-line values
+pub bare : initial_line [] ≡ bytes "i\n"
+unfolding bytes initial_line values
 bare = refl
 
-pub refused : refusal-line 20 ≡ bytes "r 20\n"
-unfolding bytes digits-within decimal word line joined refusal-line
+pub refused : refusal_line 20 ≡ bytes "r 20\n"
+unfolding bytes digits_within decimal word line joined refusal_line
 refused = refl
 
 -- the largest number has five digits, and 0 one
 pub largest : decimal 65535 ≡ bytes "65535"
-unfolding bytes digits-within decimal
+unfolding bytes digits_within decimal
 largest = refl
 
 pub smallest : decimal 0 ≡ bytes "0"
-unfolding bytes digits-within decimal
+unfolding bytes digits_within decimal
 smallest = refl

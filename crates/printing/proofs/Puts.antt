@@ -8,11 +8,11 @@ use lib.ListN.{length, set, length-append}
 use lib.Seq.{sets, set_out, length-sets}
 use Rattle.printing.specs.Inner.Put.{Put}
 
-sets-append : (vs ws l : List ℕ) (i : ℕ) → sets l i (vs ++ ws) ≡ sets (sets l i vs) (i + length vs) ws
-sets-append [] ws l i = ap (λ (k : ℕ). sets l k ws) (sym (add-zero i))
-sets-append (a ∷ vs) ws l i =
+sets_append : (vs ws l : List ℕ) (i : ℕ) → sets l i (vs ++ ws) ≡ sets (sets l i vs) (i + length vs) ws
+sets_append [] ws l i = ap (λ (k : ℕ). sets l k ws) (sym (add-zero i))
+sets_append (a ∷ vs) ws l i =
     let e : suc i + length vs ≡ i + suc (length vs) = omega arith in
-    sets-append vs ws (set l i a) (suc i) ∙ ap (λ (k : ℕ). sets (sets (set l i a) (suc i) vs) k ws) e
+    sets_append vs ws (set l i a) (suc i) ∙ ap (λ (k : ℕ). sets (sets (set l i a) (suc i) vs) k ws) e
 
 pub nothing_put : (l : List ℕ) (at : ℕ) → Put l at [] 0 l at
 nothing_put l at = record { stored = refl; counted = sym (add-zero at); short = omega arith }
@@ -20,8 +20,8 @@ nothing_put l at = record { stored = refl; counted = sym (add-zero at); short = 
 pub byte_put : (l : List ℕ) (at b : ℕ) → Put l at (b ∷ []) 1 (set l at b) (at + 1)
 byte_put l at b = record { stored = refl; counted = refl; short = omega arith }
 
-pub byte-counted : (l : List ℕ) (at b : ℕ) → length l ≤ at → Put l at (b ∷ []) 1 l (at + 1)
-byte-counted l at b h = record { stored = sym (set_out l at b h); counted = refl; short = omega arith }
+pub byte_counted : (l : List ℕ) (at b : ℕ) → length l ≤ at → Put l at (b ∷ []) 1 l (at + 1)
+byte_counted l at b h = record { stored = sym (set_out l at b h); counted = refl; short = omega arith }
 
 module _ {before mid after x y : List ℕ} {at next last m k : ℕ} where
   pub then-put : Put before at x m mid next → Put mid next y k after last → Put before at (x ++ y) (m + k) after last
@@ -30,7 +30,7 @@ module _ {before mid after x y : List ℕ} {at next last m k : ℕ} where
         stored =
             q.stored
             ∙ ap₂ (λ (l : List ℕ) (n : ℕ). sets l n y) p.stored p.counted
-            ∙ sym (sets-append x y before at);
+            ∙ sym (sets_append x y before at);
         counted = omega (arith, p.counted, q.counted, length-append x y);
         short = omega (arith, p.short, q.short, length-append x y);
       }
@@ -58,12 +58,12 @@ module _ {before after text : List ℕ} {at next most : ℕ} where
   put-length p = ap length p.stored ∙ length-sets before at text
 
 -- a loop that ends at its bound
-pub put-ends :
+pub put_ends :
     (text : ℕ → List ℕ) (most : ℕ → ℕ) {before after : List ℕ} {at next i n : ℕ}
     → Put before at (text i) (most i) after next
     → i ≤ n
     → n ≤ i
     → Put before at (text n) (most n) after next
-put-ends text most {before} {after} {at} {next} {i} {n} p h k =
+put_ends text most {before} {after} {at} {next} {i} {n} p h k =
     let e : i ≡ n = omega arith in
     subst (λ (j : ℕ). Put before at (text j) (most j) after next) e p

@@ -9,55 +9,55 @@ use lib.ListN.{length, get_or, take}
 use lib.Seq.{take-suc}
 use Rattle.task.specs.declared.Head.{Head}
 use Rattle.task.specs.Bounded.{upto}
-use Rattle.task.specs.Table.{Lent, row_at, operator-at, task-of}
+use Rattle.task.specs.Table.{Lent, row_at, operator_at, task_of}
 use Rattle.task.specs.Rules.{LongEnough}
-use Rattle.task.specs.Words.{joined, row_words, operator-row-words}
+use Rattle.task.specs.Words.{joined, row_words, operator_row_words}
 use Rattle.task.proofs.Bounded.{length-upto}
 use Rattle.task.proofs.Held.{length-initial, length-originals, length-formulas, length-effects, length-operators}
 use Rattle.task.specs.declared.Table.TheVariants.{Formulas, Effects, Operators}
 use Rattle.task.specs.declared.Table.{Table}
 use Rattle.task.specs.declared.TableRow.{TableRow}
-use Rattle.task.specs.Inner.Tables.{words-at, listed}
-use Rattle.printing.specs.Lines.{newline, blank, digit, word, line, numbered, values, initial-line, head-line, twin-lines, lines}
-use Rattle.printing.specs.Inner.Put.{Put, counts_of, listed_at, original-at, front-text, tables-text}
+use Rattle.task.specs.Inner.Tables.{words_at, listed}
+use Rattle.printing.specs.Lines.{newline, blank, digit, word, line, numbered, values, initial_line, head_line, twin_lines, lines}
+use Rattle.printing.specs.Inner.Put.{Put, counts_of, listed_at, original_at, front_text, tables_text}
 use Rattle.printing.proofs.Puts.{nothing_put, then-put, put_as}
 
 -- Lines of one and two numbers, and of a row.
-pub words-three : (a b c : ℕ) → (word a ++ word b) ++ word c ≡ joined word (a ∷ b ∷ c ∷ [])
+pub words_three : (a b c : ℕ) → (word a ++ word b) ++ word c ≡ joined word (a ∷ b ∷ c ∷ [])
 unfolding joined
-words-three a b c = append_assoc (word a) (word b) (word c) ∙ ap (λ (x : List ℕ). word a ++ (word b ++ x)) (sym (append-nil (word c)))
+words_three a b c = append_assoc (word a) (word b) (word c) ∙ ap (λ (x : List ℕ). word a ++ (word b ++ x)) (sym (append-nil (word c)))
 
-pub words-four : (a b c d : ℕ) → joined word (a ∷ b ∷ c ∷ []) ++ word d ≡ joined word (a ∷ b ∷ c ∷ d ∷ [])
+pub words_four : (a b c d : ℕ) → joined word (a ∷ b ∷ c ∷ []) ++ word d ≡ joined word (a ∷ b ∷ c ∷ d ∷ [])
 unfolding joined
-words-four a b c d = simp (append_assoc, append-nil)
+words_four a b c d = simp (append_assoc, append-nil)
 
-pub words-six :
+pub words_six :
     (a b c d e f : ℕ)
     → joined word (a ∷ b ∷ c ∷ []) ++ joined word (d ∷ e ∷ f ∷ []) ≡ joined word (a ∷ b ∷ c ∷ d ∷ e ∷ f ∷ [])
 unfolding joined
-words-six a b c d e f = simp (append_assoc, append-nil)
+words_six a b c d e f = simp (append_assoc, append-nil)
 
-pub line-one : (letter n : ℕ) → (letter ∷ word n) ++ (newline ∷ []) ≡ line letter (n ∷ [])
+pub line_one : (letter n : ℕ) → (letter ∷ word n) ++ (newline ∷ []) ≡ line letter (n ∷ [])
 unfolding line joined
-line-one letter n = ap (λ (x : List ℕ). letter ∷ (x ++ (newline ∷ []))) (sym (append-nil (word n)))
+line_one letter n = ap (λ (x : List ℕ). letter ∷ (x ++ (newline ∷ []))) (sym (append-nil (word n)))
 
-pub line-two : (letter n a : ℕ) → ((letter ∷ word n) ++ word a) ++ (newline ∷ []) ≡ line letter (n ∷ a ∷ [])
+pub line_two : (letter n a : ℕ) → ((letter ∷ word n) ++ word a) ++ (newline ∷ []) ≡ line letter (n ∷ a ∷ [])
 unfolding line joined
-line-two letter n a = ap (λ (x : List ℕ). letter ∷ ((word n ++ x) ++ (newline ∷ []))) (sym (append-nil (word a)))
+line_two letter n a = ap (λ (x : List ℕ). letter ∷ ((word n ++ x) ++ (newline ∷ []))) (sym (append-nil (word a)))
 
-pub line-more :
+pub line_more :
     (letter n : ℕ) (ns : List ℕ) → ((letter ∷ word n) ++ joined word ns) ++ (newline ∷ []) ≡ line letter (n ∷ ns)
 unfolding line joined
-line-more letter n ns = refl
+line_more letter n ns = refl
 
-pub line-counts : (letter : ℕ) (ns : List ℕ) → ((letter ∷ []) ++ joined word ns) ++ (newline ∷ []) ≡ line letter ns
+pub line_counts : (letter : ℕ) (ns : List ℕ) → ((letter ∷ []) ++ joined word ns) ++ (newline ∷ []) ≡ line letter ns
 unfolding line
-line-counts letter ns = refl
+line_counts letter ns = refl
 
 -- The initial values.
-map-append : {A B : Type 0} (g : A → B) (xs ys : List A) → map g (xs ++ ys) ≡ map g xs ++ map g ys
-map-append g [] ys = refl
-map-append {A} {B} g (x ∷ xs) ys = ap {B = List B} (λ r. g x ∷ r) (map-append g xs ys)
+map_append : {A B : Type 0} (g : A → B) (xs ys : List A) → map g (xs ++ ys) ≡ map g xs ++ map g ys
+map_append g [] ys = refl
+map_append {A} {B} g (x ∷ xs) ys = ap {B = List B} (λ r. g x ∷ r) (map_append g xs ys)
 
 pub digits_more :
     (l : List ℕ) (v : ℕ) → v < length l → map digit (take v l) ++ (digit (get_or l v 0) ∷ []) ≡ map digit (take (v + 1) l)
@@ -65,32 +65,32 @@ digits_more l v h =
     sym
     (ap (λ (n : ℕ). map digit (take n l)) (add-one v)
     ∙ ap (map digit) (take-suc l v 0 h)
-    ∙ map-append digit (take v l) (get_or l v 0 ∷ []))
+    ∙ map_append digit (take v l) (get_or l v 0 ∷ []))
 
-pub values-none : (l : List ℕ) (n : ℕ) → n ≡ 0 → values (take n l) ≡ []
+pub values_none : (l : List ℕ) (n : ℕ) → n ≡ 0 → values (take n l) ≡ []
 unfolding values
-values-none l n e = ap (λ (k : ℕ). values (take k l)) e
+values_none l n e = ap (λ (k : ℕ). values (take k l)) e
 
-pub values-some : (l : List ℕ) (n : ℕ) → (n ≡ 0 → ⊥) → n ≤ length l → (blank ∷ []) ++ map digit (take n l) ≡ values (take n l)
+pub values_some : (l : List ℕ) (n : ℕ) → (n ≡ 0 → ⊥) → n ≤ length l → (blank ∷ []) ++ map digit (take n l) ≡ values (take n l)
 unfolding values
-values-some l zero e h = absurd (e refl)
-values-some [] (suc n) e h = absurd (not-suc-le-zero h)
-values-some (b ∷ l) (suc n) e h = refl
+values_some l zero e h = absurd (e refl)
+values_some [] (suc n) e h = absurd (not-suc-le-zero h)
+values_some (b ∷ l) (suc n) e h = refl
 
-pub state-text : (l : List ℕ) → ((105 ∷ []) ++ values l) ++ (newline ∷ []) ≡ initial-line l
-unfolding initial-line
-state-text l = refl
+pub state_text : (l : List ℕ) → ((105 ∷ []) ++ values l) ++ (newline ∷ []) ≡ initial_line l
+unfolding initial_line
+state_text l = refl
 
 -- Lines of numbered rows.
-numbered-append :
+numbered_append :
     (letter first : ℕ) (xs ys : List (List ℕ))
     → numbered letter first (xs ++ ys) ≡ numbered letter first xs ++ numbered letter (first + length xs) ys
 unfolding numbered
-numbered-append letter first [] ys = ap (λ (n : ℕ). numbered letter n ys) (sym (add-zero first))
-numbered-append letter first (x ∷ xs) ys =
+numbered_append letter first [] ys = ap (λ (n : ℕ). numbered letter n ys) (sym (add-zero first))
+numbered_append letter first (x ∷ xs) ys =
     let e : suc first + length xs ≡ first + suc (length xs) = omega arith in
     ap (λ (r : List ℕ). line letter (first ∷ x) ++ r)
-    (numbered-append letter (suc first) xs ys ∙ ap (λ (n : ℕ). numbered letter (suc first) xs ++ numbered letter n ys) e)
+    (numbered_append letter (suc first) xs ys ∙ ap (λ (n : ℕ). numbered letter (suc first) xs ++ numbered letter n ys) e)
     ∙ sym (append_assoc (line letter (first ∷ x)) (numbered letter (suc first) xs) (numbered letter (first + suc (length xs)) ys))
 
 numbered_more :
@@ -100,7 +100,7 @@ unfolding numbered upto
 numbered_more letter first i f =
     sym
     (ap (λ (n : ℕ). numbered letter first (upto n f)) (add-one i)
-    ∙ numbered-append letter first (upto i f) (f i ∷ [])
+    ∙ numbered_append letter first (upto i f) (f i ∷ [])
     ∙ ap (λ (n : ℕ). numbered letter first (upto i f) ++ (line letter ((first + n) ∷ f i) ++ [])) (length-upto i f)
     ∙ ap (λ (r : List ℕ). numbered letter first (upto i f) ++ r) (append-nil (line letter ((first + i) ∷ f i))))
 
@@ -123,66 +123,66 @@ rows_more letter first n i f p q e h =
 -- the line of a row, by its words
 pub row_put :
     (letter i : ℕ) (table : Table) (words : List ℕ) {r : TableRow} {before after : List ℕ} {at most last : ℕ}
-    → r ≡ words-at table words i
+    → r ≡ words_at table words i
     → Put before at (line letter (i ∷ listed table r)) most after last
     → Put before at (line letter (i ∷ listed_at table words i)) most after last
 row_put letter i table words {before = before} {after} {at} {most} {last} e p =
     subst (λ (r : TableRow). Put before at (line letter (i ∷ listed table r)) most after last) e p
 
 -- The lines of lent tables are those of the task that they hold.
-map-upto : {A B : Type 0} (g : A → B) (f : ℕ → A) (n : ℕ) → map g (upto n f) ≡ upto n (λ i. g (f i))
+map_upto : {A B : Type 0} (g : A → B) (f : ℕ → A) (n : ℕ) → map g (upto n f) ≡ upto n (λ i. g (f i))
 unfolding upto
-map-upto g f zero = refl
-map-upto {A} {B} g f (suc n) =
-    map-append g (upto n f) (f n ∷ []) ∙ ap (λ (r : List B). r ++ (g (f n) ∷ [])) (map-upto g f n)
+map_upto g f zero = refl
+map_upto {A} {B} g f (suc n) =
+    map_append g (upto n f) (f n ∷ []) ∙ ap (λ (r : List B). r ++ (g (f n) ∷ [])) (map_upto g f n)
 
-map-take : {B : Type 0} (g : ℕ → B) (l : List ℕ) (n : ℕ) → n ≤ length l → map g (take n l) ≡ upto n (λ k. g (get_or l k 0))
+map_take : {B : Type 0} (g : ℕ → B) (l : List ℕ) (n : ℕ) → n ≤ length l → map g (take n l) ≡ upto n (λ k. g (get_or l k 0))
 unfolding upto
-map-take g l zero h = refl
-map-take {B} g l (suc n) h =
+map_take g l zero h = refl
+map_take {B} g l (suc n) h =
     ap (map g) (take-suc l n 0 h)
-    ∙ map-append g (take n l) (get_or l n 0 ∷ [])
-    ∙ ap (λ (r : List B). r ++ (g (get_or l n 0) ∷ [])) (map-take g l n (omega arith))
+    ∙ map_append g (take n l) (get_or l n 0 ∷ [])
+    ∙ ap (λ (r : List B). r ++ (g (get_or l n 0) ∷ [])) (map_take g l n (omega arith))
 
-formulas-text :
+formulas_text :
     (letter : ℕ) (words : List ℕ) (n : ℕ)
     → numbered letter 0 (upto n (listed_at Formulas words)) ≡ numbered letter 0 (map row_words (upto n (row_at words)))
 unfolding row_words
-formulas-text letter words n = ap (numbered letter 0) (sym (map-upto row_words (row_at words) n))
+formulas_text letter words n = ap (numbered letter 0) (sym (map_upto row_words (row_at words) n))
 
-operators-text :
+operators_text :
     (letter : ℕ) (words : List ℕ) (n : ℕ)
     → numbered letter 0 (upto n (listed_at Operators words))
-    ≡ numbered letter 0 (map operator-row-words (upto n (operator-at words)))
-unfolding operator-row-words
-operators-text letter words n = ap (numbered letter 0) (sym (map-upto operator-row-words (operator-at words) n))
+    ≡ numbered letter 0 (map operator_row_words (upto n (operator_at words)))
+unfolding operator_row_words
+operators_text letter words n = ap (numbered letter 0) (sym (map_upto operator_row_words (operator_at words) n))
 
-pub front-joined :
+pub front_joined :
     (h : Head) (initial twins : List ℕ)
-    → (line 116 (counts_of h) ++ initial-line (take h.variables initial))
-    ++ numbered 119 (h.variables - h.twins) (upto h.twins (original-at twins))
-    ≡ front-text h initial twins
-unfolding front-text
-front-joined h initial twins =
-    append_assoc (line 116 (counts_of h)) (initial-line (take h.variables initial))
-    (numbered 119 (h.variables - h.twins) (upto h.twins (original-at twins)))
+    → (line 116 (counts_of h) ++ initial_line (take h.variables initial))
+    ++ numbered 119 (h.variables - h.twins) (upto h.twins (original_at twins))
+    ≡ front_text h initial twins
+unfolding front_text
+front_joined h initial twins =
+    append_assoc (line 116 (counts_of h)) (initial_line (take h.variables initial))
+    (numbered 119 (h.variables - h.twins) (upto h.twins (original_at twins)))
 
-pub tables-joined :
+pub tables_joined :
     (h : Head) (formulas effects operators : List ℕ)
     → (numbered 102 0 (upto h.formulas (listed_at Formulas formulas)) ++ numbered 101 0 (upto h.effects (listed_at Effects effects)))
     ++ numbered 111 0 (upto h.operators (listed_at Operators operators))
-    ≡ tables-text h formulas effects operators
-unfolding tables-text
-tables-joined h formulas effects operators =
+    ≡ tables_text h formulas effects operators
+unfolding tables_text
+tables_joined h formulas effects operators =
     append_assoc (numbered 102 0 (upto h.formulas (listed_at Formulas formulas)))
     (numbered 101 0 (upto h.effects (listed_at Effects effects)))
     (numbered 111 0 (upto h.operators (listed_at Operators operators)))
 
 module _ (l : Lent) (long : LongEnough l) where
-  head-held : line 116 (counts_of l.head) ≡ head-line (task-of l)
-  unfolding head-line task-of
+  head-held : line 116 (counts_of l.head) ≡ head_line (task_of l)
+  unfolding head_line task_of
   head-held =
-      let e : head-line (task-of l) ≡ line 116 (counts_of l.head) =
+      let e : head_line (task_of l) ≡ line 116 (counts_of l.head) =
       λ j.
       line 116
       (length-initial l long j
@@ -196,37 +196,37 @@ module _ (l : Lent) (long : LongEnough l) where
       sym e
 
   twins-held :
-      numbered 119 (l.head.variables - l.head.twins) (upto l.head.twins (original-at l.twins)) ≡ twin-lines (task-of l)
-  unfolding twin-lines task-of
+      numbered 119 (l.head.variables - l.head.twins) (upto l.head.twins (original_at l.twins)) ≡ twin_lines (task_of l)
+  unfolding twin_lines task_of
   twins-held =
       ap₂ (λ (n : ℕ) (rows : List (List ℕ)). numbered 119 n rows)
       (sym (ap₂ ◌-◌ (length-initial l long) (length-originals l long)))
-      (sym (map-take (λ (o : ℕ). o ∷ []) l.twins l.head.twins long.twins))
+      (sym (map_take (λ (o : ℕ). o ∷ []) l.twins l.head.twins long.twins))
 
   parts_held :
       line 116 (counts_of l.head)
-      ++ (initial-line (take l.head.variables l.initial)
-      ++ (numbered 119 (l.head.variables - l.head.twins) (upto l.head.twins (original-at l.twins))
-      ++ tables-text l.head l.formulas l.effects l.operators))
-      ≡ lines (task-of l)
-  unfolding lines tables-text task-of
+      ++ (initial_line (take l.head.variables l.initial)
+      ++ (numbered 119 (l.head.variables - l.head.twins) (upto l.head.twins (original_at l.twins))
+      ++ tables_text l.head l.formulas l.effects l.operators))
+      ≡ lines (task_of l)
+  unfolding lines tables_text task_of
   parts_held =
       λ j.
       head-held j
-      ++ (initial-line (take l.head.variables l.initial)
+      ++ (initial_line (take l.head.variables l.initial)
       ++ (twins-held j
-      ++ (formulas-text 102 l.formulas l.head.formulas j
-      ++ (formulas-text 101 l.effects l.head.effects j ++ operators-text 111 l.operators l.head.operators j))))
+      ++ (formulas_text 102 l.formulas l.head.formulas j
+      ++ (formulas_text 101 l.effects l.head.effects j ++ operators_text 111 l.operators l.head.operators j))))
 
   pub lines-of-lent :
-      front-text l.head l.initial l.twins ++ tables-text l.head l.formulas l.effects l.operators
-      ≡ lines (task-of l)
-  unfolding front-text
+      front_text l.head l.initial l.twins ++ tables_text l.head l.formulas l.effects l.operators
+      ≡ lines (task_of l)
+  unfolding front_text
   lines-of-lent =
       let first = line 116 (counts_of l.head) in
-      let second = initial-line (take l.head.variables l.initial) in
-      let third = numbered 119 (l.head.variables - l.head.twins) (upto l.head.twins (original-at l.twins)) in
-      let rest = tables-text l.head l.formulas l.effects l.operators in
+      let second = initial_line (take l.head.variables l.initial) in
+      let third = numbered 119 (l.head.variables - l.head.twins) (upto l.head.twins (original_at l.twins)) in
+      let rest = tables_text l.head l.formulas l.effects l.operators in
       append_assoc first (second ++ third) rest
       ∙ ap (λ (r : List ℕ). first ++ r) (append_assoc second third rest)
       ∙ parts_held

@@ -3,7 +3,7 @@ use Rattle.std.specs.Prelude.{ℕ, zero, suc, ◌+◌, ◌-◌, ◌/◌, ◌%◌
 use Prim.Native.Char.{code}
 use Prim.Native.String.{String, [] as end, ◌∷◌ as ◌followed◌}
 use Rattle.task.specs.Table.{Task}
-use Rattle.task.specs.Words.{joined, row_words, operator-row-words}
+use Rattle.task.specs.Words.{joined, row_words, operator_row_words}
 
 -- a text of ASCII as bytes
 unfoldable pub bytes : String → List ℕ
@@ -21,15 +21,15 @@ abbrev pub digit : ℕ → ℕ
 digit n = 48 + n
 
 -- at most d digits, highest first: what stands before the last one, nothing if n is below 10 (so no 0 leads), and the last
-unfoldable pub digits-within : ℕ → ℕ → List ℕ
-digits-within zero n = []
-digits-within (suc d) n =
-    let before = digits-within d (n / 10) in
+unfoldable pub digits_within : ℕ → ℕ → List ℕ
+digits_within zero n = []
+digits_within (suc d) n =
+    let before = digits_within d (n / 10) in
     cond (ltb n 10) [] before ++ (digit (n % 10) ∷ [])
 
 -- a number in decimal: n + 1 digits are enough for n. 0 is "0", and 10 is "10", not "01".
 unfoldable pub decimal : ℕ → List ℕ
-decimal n = digits-within (suc n) n
+decimal n = digits_within (suc n) n
 
 -- a blank and a number
 unfoldable pub word : ℕ → List ℕ
@@ -50,12 +50,12 @@ values [] = []
 values (b ∷ rest) = blank ∷ map digit (b ∷ rest)
 
 -- i
-unfoldable pub initial-line : List ℕ → List ℕ
-initial-line initial = 105 ∷ (values initial ++ (newline ∷ []))
+unfoldable pub initial_line : List ℕ → List ℕ
+initial_line initial = 105 ∷ (values initial ++ (newline ∷ []))
 
 -- t: V W F E O goal
-unfoldable pub head-line : Task → List ℕ
-head-line t =
+unfoldable pub head_line : Task → List ℕ
+head_line t =
     line 116
     (length t.initial
     ∷ length t.originals
@@ -66,18 +66,18 @@ head-line t =
     ∷ [])
 
 -- w: a twin and its original. The twin of row k is variable V − W + k: with V 4 and W 2 the first is 2, not 0 and not 4.
-unfoldable pub twin-lines : Task → List ℕ
-twin-lines t = numbered 119 (length t.initial - length t.originals) (map (λ original. original ∷ []) t.originals)
+unfoldable pub twin_lines : Task → List ℕ
+twin_lines t = numbered 119 (length t.initial - length t.originals) (map (λ original. original ∷ []) t.originals)
 
 -- t, i, w, then f, e and o: a row's number and its words
 unfoldable pub lines : Task → List ℕ
 lines t =
-    head-line t
-    ++ (initial-line t.initial
-    ++ (twin-lines t
+    head_line t
+    ++ (initial_line t.initial
+    ++ (twin_lines t
     ++ (numbered 102 0 (map row_words t.formulas)
-    ++ (numbered 101 0 (map row_words t.effects) ++ numbered 111 0 (map operator-row-words t.operators)))))
+    ++ (numbered 101 0 (map row_words t.effects) ++ numbered 111 0 (map operator_row_words t.operators)))))
 
 -- a refusal prints only r and its number
-unfoldable pub refusal-line : ℕ → List ℕ
-refusal-line number = line 114 (number ∷ [])
+unfoldable pub refusal_line : ℕ → List ℕ
+refusal_line number = line 114 (number ∷ [])

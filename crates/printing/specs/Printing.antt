@@ -1,11 +1,11 @@
 -- The whole outcome of printing, from the inputs alone: the answer, and the buffer at exit.
 use Rattle.std.specs.Prelude.{ℕ, ◌≡◌, cond, List, length, replicate, leb, eqb}
-use Rattle.task.specs.Table.{Lent, task-of}
+use Rattle.task.specs.Table.{Lent, task_of}
 use Rattle.task.specs.Check.{refusal}
 use Rattle.task.specs.Words.{padded}
 use Rattle.printing.specs.declared.PrintAnswer.{PrintAnswer}
 use Rattle.printing.specs.declared.PrintAnswer.TheVariants.{Printed, Refused}
-use Rattle.printing.specs.Lines.{lines, refusal-line}
+use Rattle.printing.specs.Lines.{lines, refusal_line}
 
 pub record PrintOutcome : Type 0 where
   pub answer : PrintAnswer
@@ -17,20 +17,20 @@ pub record PrintGives (o : PrintOutcome) (answer : PrintAnswer) (out : List ℕ)
   pub left : out ≡ o.out
 
 -- after a refusal the buffer of n bytes is all 0
-unfoldable pub not-printed : (number n : ℕ) → PrintOutcome
-not-printed number n = record { answer = Refused number; out = replicate n 0 }
+unfoldable pub not_printed : (number n : ℕ) → PrintOutcome
+not_printed number n = record { answer = Refused number; out = replicate n 0 }
 
 -- a text in a buffer of n bytes, all 0 behind it; 20 if it does not fit
 unfoldable pub placed : (text : List ℕ) (n : ℕ) → PrintOutcome
 placed text n =
     cond (leb (length text) n)
     (record { answer = Printed (length text); out = padded n text })
-    (not-printed 20 n)
+    (not_printed 20 n)
 
 -- a task's lines: the tables' own number comes first
 unfoldable pub printing : Lent → (n : ℕ) → PrintOutcome
-printing l n = cond (eqb (refusal l) 0) (placed (lines (task-of l)) n) (not-printed (refusal l) n)
+printing l n = cond (eqb (refusal l) 0) (placed (lines (task_of l)) n) (not_printed (refusal l) n)
 
 -- a refusal's line
-unfoldable pub printing-refusal : (number n : ℕ) → PrintOutcome
-printing-refusal number n = placed (refusal-line number) n
+unfoldable pub printing_refusal : (number n : ℕ) → PrintOutcome
+printing_refusal number n = placed (refusal_line number) n

@@ -3,7 +3,7 @@ ghost use Rattle.std.specs.Prelude.{◌≡◌, List, ℕ, length, replicate};
 ghost use Rattle.std.proofs.lemmas.List.Edits.{sets};
 ghost use Rattle.task.specs.Table.{lent};
 ghost use Rattle.printing.specs.Inner.Put.{Put};
-ghost use Rattle.printing.specs.Printing.{PrintGives, placed, printing, printing-refusal};
+ghost use Rattle.printing.specs.Printing.{PrintGives, placed, printing, printing_refusal};
 
 use crate::PrintAnswer;
 use crate::bytes::clear;
@@ -45,7 +45,7 @@ pub fn print(
 
 // The line of a refusal: r and the number; 20 if `out` is shorter than that. Linear in `out`.
 pub fn print_refusal(number: u16, out: &mut [u8]) -> PrintAnswer
-    ensures { PrintGives (printing-refusal number (length out.old)) result out.new }
+    ensures { PrintGives (printing_refusal number (length out.old)) result out.new }
 {
     clear(out);
     let size = line_of_one(out, 0, b'r', number);

@@ -1,4 +1,6 @@
 // The lines that the compiling program prints: those of a task, or of a refusal.
+#![tactic(auto)]
+
 mod bytes;
 mod calls;
 mod lines;
@@ -6,7 +8,7 @@ mod lines;
 pub use calls::{print, print_refusal};
 
 // What printing answers: how many bytes the lines take, or the number of the refusal.
-#[derive(Drop)]
+#[derive(Clone, Copy)]
 pub enum PrintAnswer {
     Printed(usize),
     Refused(u16),

@@ -2,11 +2,11 @@
 ghost use Rattle.std.specs.Prelude.{◌+◌, ◌*◌, ◌≤◌, ◌≡◌, [], ◌∷◌, map, take};
 ghost use Rattle.task.specs.Bounded.{upto};
 ghost use Rattle.task.specs.Words.{joined};
-ghost use Rattle.task.specs.Table.{lent, task-of};
+ghost use Rattle.task.specs.Table.{lent, task_of};
 ghost use Rattle.task.specs.Check.{refusal};
 ghost use Rattle.task.specs.Inner.Tables.{listed};
-ghost use Rattle.printing.specs.Lines.{digit, word as word-text, line, numbered, values as values-text, initial-line, lines};
-ghost use Rattle.printing.specs.Inner.Put.{Put, counts_of, listed_at, original-at, front-text, tables-text, BitsReady, TwinsReady, RowsReady, FrontReady, TablesReady};
+ghost use Rattle.printing.specs.Lines.{digit, word as word-text, line, numbered, values as values-text, initial_line, lines};
+ghost use Rattle.printing.specs.Inner.Put.{Put, counts_of, listed_at, original_at, front_text, tables_text, BitsReady, TwinsReady, RowsReady, FrontReady, TablesReady};
 
 use crate::bytes::{put, three, word};
 use task::table_rows::row_at;
@@ -111,7 +111,7 @@ fn values(out: &mut [u8], at: usize, initial: &[u8], count: usize) -> usize
 // Line i.
 fn state_line(out: &mut [u8], at: usize, initial: &[u8], count: usize) -> usize
     requires { BitsReady (at + 3) count initial.now }
-    ensures { Put out.old at (initial-line (take count initial.now)) (count + 3) out.new result }
+    ensures { Put out.old at (initial_line (take count initial.now)) (count + 3) out.new result }
 {
     let next = put(out, at, b'i');
     let end = values(out, next, initial, count);
@@ -121,7 +121,7 @@ fn state_line(out: &mut [u8], at: usize, initial: &[u8], count: usize) -> usize
 // Lines w, for the twins from variable `first` on.
 fn twin_lines(out: &mut [u8], at: usize, first: u16, twins: &[u16], count: usize) -> usize
     requires { TwinsReady at first count twins.now }
-    ensures { Put out.old at (numbered 119 first (upto count (original-at twins.now))) (14 * count) out.new result }
+    ensures { Put out.old at (numbered 119 first (upto count (original_at twins.now))) (14 * count) out.new result }
 {
     let mut next = at;
     let mut k = 0;
@@ -157,7 +157,7 @@ fn row_lines(
 // Lines t, i and w.
 fn front(out: &mut [u8], head: Head, initial: &[u8], twins: &[u16]) -> usize
     requires { FrontReady head initial.now twins.now }
-    ensures { Put out.old 0 (front-text head initial.now twins.now) 5000 out.new result }
+    ensures { Put out.old 0 (front_text head initial.now twins.now) 5000 out.new result }
 {
     let after_head = head_line(out, 0, head);
     let after_state = state_line(out, after_head, initial, head.variables as usize);
@@ -180,7 +180,7 @@ fn tables(
     operators: &[u16],
 ) -> usize
     requires { TablesReady at head formulas.now effects.now operators.now }
-    ensures { Put out.old at (tables-text head formulas.now effects.now operators.now) 271000 out.new result }
+    ensures { Put out.old at (tables_text head formulas.now effects.now operators.now) 271000 out.new result }
 {
     let after_formulas = row_lines(
         out,
@@ -219,7 +219,7 @@ pub fn task_lines(
     operators: &[u16],
 ) -> usize
     requires { refusal (lent head initial.now twins.now formulas.now effects.now operators.now) ≡ 0 }
-    ensures { Put out.old 0 (lines (task-of (lent head initial.now twins.now formulas.now effects.now operators.now))) 276000 out.new result }
+    ensures { Put out.old 0 (lines (task_of (lent head initial.now twins.now formulas.now effects.now operators.now))) 276000 out.new result }
 {
     let next = front(out, head, initial, twins);
     tables(out, next, head, formulas, effects, operators)

@@ -4,26 +4,26 @@ use native.Mathlib.Omega.{arith}
 use mathlib.Core.Path.{◌≡◌, ap, ◌∙◌, subst}
 use mathlib.Core.List.{List}
 use lib.ListN.{replicate}
-use Rattle.task.specs.Table.{Lent, task-of}
+use Rattle.task.specs.Table.{Lent, task_of}
 use Rattle.task.proofs.Kept.{kept-rules}
-use Rattle.task.proofs.Passed.{passed, counts-tested}
+use Rattle.task.proofs.Passed.{passed, counts_tested}
 use Rattle.file_format.specs.Reading.{Lengths, Verdict, rejected, reading}
-use Rattle.entry_tables.proofs.Reading.{ReadAs, same-reading}
-use Rattle.layouts.specs.Layout.{tables-bytes, laid, Lays}
-use Rattle.layouts.specs.Inner.Giving.{flat-bytes, LayIn}
+use Rattle.entry_tables.proofs.Reading.{ReadAs, same_reading}
+use Rattle.layouts.specs.Layout.{tables_bytes, laid, Lays}
+use Rattle.layouts.specs.Inner.Giving.{flat_bytes, LayIn}
 use Rattle.layouts.proofs.LayWays.{flat_in}
-use Rattle.read_entry.specs.Entry.{read-entry, read-entry-by}
+use Rattle.read_entry.specs.Entry.{read_entry, read_entry_by}
 
 -- the layout of what was read is its task's
-flat-read : {m : Lengths} {file : List ℕ} {l : Lent} → ReadAs m file l → flat-bytes l ≡ tables-bytes (task-of l)
-flat-read {m} {file} {l} t =
-    ap flat-bytes t.held
-    ∙ flat_in (task-of l) t.initial-rest t.twins-rest t.formulas-rest t.effects-rest t.operators-rest
+flat_read : {m : Lengths} {file : List ℕ} {l : Lent} → ReadAs m file l → flat_bytes l ≡ tables_bytes (task_of l)
+flat_read {m} {file} {l} t =
+    ap flat_bytes t.held
+    ∙ flat_in (task_of l) t.initial_rest t.twins_rest t.formulas_rest t.effects_rest t.operators_rest
 
 -- tables that pass are within the limits
-pub lay-in : {m : Lengths} {file : List ℕ} {l : Lent} → ReadAs m file l → LayIn l
-lay-in {m} {file} {l} t =
-    let c = (counts-tested l.head).0 (passed l t.kept).counts in
+pub lay_in : {m : Lengths} {file : List ℕ} {l : Lent} → ReadAs m file l → LayIn l
+lay_in {m} {file} {l} t =
+    let c = (counts_tested l.head).0 (passed l t.kept).counts in
     record {
       long = (kept-rules l t.kept).0;
       variables = c.variables;
@@ -34,22 +34,22 @@ lay-in {m} {file} {l} t =
     }
 
 -- the two ways out of reading
-pub read-laid : {m : Lengths} {file : List ℕ} {l : Lent} (n : ℕ) {r : ℕ} {out : List ℕ} → ReadAs m file l → Lays (laid (flat-bytes l) n) r out → Lays (read-entry-by (reading m file) n) r out
-unfolding read-entry-by
-read-laid n t g = rw (t.read, ← (flat-read t)) g
+pub read_laid : {m : Lengths} {file : List ℕ} {l : Lent} (n : ℕ) {r : ℕ} {out : List ℕ} → ReadAs m file l → Lays (laid (flat_bytes l) n) r out → Lays (read_entry_by (reading m file) n) r out
+unfolding read_entry_by
+read_laid n t g = rw (t.read, ← (flat_read t)) g
 
-pub read-refused : (m : Lengths) (file : List ℕ) (n : ℕ) {k r : ℕ} {out : List ℕ} → reading m file ≡ rejected k → r ≡ k → out ≡ replicate n 0 → Lays (read-entry-by (reading m file) n) r out
-unfolding read-entry-by
-read-refused m file n e q c = rw e (record { told = q; held = c })
+pub read_refused : (m : Lengths) (file : List ℕ) (n : ℕ) {k r : ℕ} {out : List ℕ} → reading m file ≡ rejected k → r ≡ k → out ≡ replicate n 0 → Lays (read_entry_by (reading m file) n) r out
+unfolding read_entry_by
+read_refused m file n e q c = rw e (record { told = q; held = c })
 
 -- through tables of any lengths, any answer but 5 is the entry's
-pub read-settled : (m : Lengths) (file : List ℕ) (n : ℕ) {r : ℕ} {out : List ℕ} → (r ≡ 5 → ⊥) → Lays (read-entry-by (reading m file) n) r out → Lays (read-entry file n) r out
-unfolding read-entry read-entry-by
-read-settled m file n {r} {out} d g =
-    subst (λ (x : Verdict). Lays (read-entry-by x n) r out)
-    (same-reading m file (λ e. d (g.told ∙ ap (λ (x : Verdict). (read-entry-by x n).number) e)))
+pub read_settled : (m : Lengths) (file : List ℕ) (n : ℕ) {r : ℕ} {out : List ℕ} → (r ≡ 5 → ⊥) → Lays (read_entry_by (reading m file) n) r out → Lays (read_entry file n) r out
+unfolding read_entry read_entry_by
+read_settled m file n {r} {out} d g =
+    subst (λ (x : Verdict). Lays (read_entry_by x n) r out)
+    (same_reading m file (λ e. d (g.told ∙ ap (λ (x : Verdict). (read_entry_by x n).number) e)))
     g
 
 -- the length of what is read into, as a call before left it
-pub read_again : (file : List ℕ) {n m : ℕ} {r : ℕ} {out : List ℕ} → n ≡ m → Lays (read-entry file n) r out → Lays (read-entry file m) r out
-read_again file {n} {m} {r} {out} e g = subst (λ (k : ℕ). Lays (read-entry file k) r out) e g
+pub read_again : (file : List ℕ) {n m : ℕ} {r : ℕ} {out : List ℕ} → n ≡ m → Lays (read_entry file n) r out → Lays (read_entry file m) r out
+read_again file {n} {m} {r} {out} e g = subst (λ (k : ℕ). Lays (read_entry file k) r out) e g

@@ -4,7 +4,7 @@ ghost use Rattle.file_format.specs.Reading.{reading};
 ghost use Rattle.task_file.specs.Outcome.{lengths};
 ghost use Rattle.layouts.specs.Layout.{Lays};
 ghost use Rattle.entry_tables.specs.Own.{small};
-ghost use Rattle.read_entry.specs.Entry.{read-entry, read-entry-by};
+ghost use Rattle.read_entry.specs.Entry.{read_entry, read_entry_by};
 
 use entry_tables::SMALL_OPERATOR_WORDS;
 use task::clear::clear_bytes;
@@ -22,7 +22,7 @@ fn read_through(
     operators: &mut [u16],
     tables: &mut [u8],
 ) -> u32
-    ensures { Lays (read-entry-by (reading (lengths (length initial.old) (length twins.old) (length formulas.old) (length effects.old) (length operators.old)) file.now) (length tables.old)) result tables.new }
+    ensures { Lays (read_entry_by (reading (lengths (length initial.old) (length twins.old) (length formulas.old) (length effects.old) (length operators.old)) file.now) (length tables.old)) result tables.new }
 {
     let r = task_file::read::read(file, initial, twins, formulas, effects, operators);
     let ReadAnswer::Read(head) = r else {
@@ -34,7 +34,7 @@ fn read_through(
 
 // Through small tables, which have room for every task whose file is short: 3 KiB. A file of 77 bytes takes 0.23 us, through the full ones 1.1.
 fn read_small(file: &[u8], tables: &mut [u8]) -> u32
-    ensures { Lays (read-entry-by (reading small file.now) (length tables.old)) result tables.new }
+    ensures { Lays (read_entry_by (reading small file.now) (length tables.old)) result tables.new }
 {
     let mut initial = [0u8; 512];
     let mut twins = [0u16; 64];
@@ -54,7 +54,7 @@ fn read_small(file: &[u8], tables: &mut [u8]) -> u32
 
 // Through tables with room for every task: 51 KiB.
 fn read_full(file: &[u8], tables: &mut [u8]) -> u32
-    ensures { Lays (read-entry file.now (length tables.old)) result tables.new }
+    ensures { Lays (read_entry file.now (length tables.old)) result tables.new }
 {
     let mut initial = [0u8; 512];
     let mut twins = [0u16; 256];
@@ -75,7 +75,7 @@ fn read_full(file: &[u8], tables: &mut [u8]) -> u32
 // Reads a task file: 0 and its tables, or the number and all 0. One pass over the file and one over its tables. A short file goes
 // through small tables, and only if they are too short for its head, 5, through the full ones.
 pub fn read(file: &[u8], tables: &mut [u8]) -> u32
-    ensures { Lays (read-entry file.now (length tables.old)) result tables.new }
+    ensures { Lays (read_entry file.now (length tables.old)) result tables.new }
 {
     if file.len() > 128 {
         return read_full(file, tables);

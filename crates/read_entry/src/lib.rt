@@ -1,4 +1,6 @@
 // Reading a task file for C: into the layout of its tables.
+#![tactic(auto)]
+
 mod call;
 
 pub use call::read;

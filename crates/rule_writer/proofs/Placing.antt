@@ -20,8 +20,8 @@ pub record Cleared (places : List ℕ) (v past : ℕ) (now : List ℕ) (i : ℕ)
   pub behind : drop v now ≡ drop v places
 
 module _ (places : List ℕ) (v past : ℕ) (space : v ≤ length places) where
-  pub cleared-none : Cleared places v past places 0
-  cleared-none = record { bound = omega arith; same = refl; all = λ u h. absurd (omega arith); behind = refl }
+  pub cleared_none : Cleared places v past places 0
+  cleared_none = record { bound = omega arith; same = refl; all = λ u h. absurd (omega arith); behind = refl }
 
   pub cleared_more :
       (now : List ℕ) (i : ℕ) → Cleared places v past now i → i < v → Cleared places v past (set now i past) (i + 1)
@@ -60,9 +60,9 @@ module _ (originals places : List ℕ) (v w : ℕ) (ready : PlacesReady original
   none-past : drop w (take w originals) ≡ []
   none-past = ap (λ (k : ℕ). drop k (take w originals)) (sym long) ∙ drop-length (take w originals)
 
-  pub numbered-none : AllPast v w places → Numbered originals places v w places w
+  pub numbered_none : AllPast v w places → Numbered originals places v w places w
   unfolding place
-  numbered-none cleared =
+  numbered_none cleared =
       record {
         bound = omega arith;
         same = refl;

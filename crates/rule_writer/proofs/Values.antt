@@ -6,7 +6,7 @@ use mathlib.Core.Path.{◌≡◌, refl, sym, ap, ◌∙◌}
 use mathlib.Core.List.{List, ◌++◌}
 use lib.ListN.{length, get_or, take, drop, set, length-map, length-set}
 use lib.Seq.{length-take-le, take_all, take_at, take-suc, drop-cons, drop-append-add, drop-drop, get_or-take, append_snoc, set_at, paste, paste-zero, paste-suc}
-use Rattle.normal_form.specs.Finished.{twin-values}
+use Rattle.normal_form.specs.Finished.{twin_values}
 use Rattle.normal_form.proofs.Demand.{map_at}
 use Rattle.rule_writer.specs.Inner.Writes.{InitialReady}
 
@@ -56,20 +56,20 @@ module _ (source out : List ℕ) (v : ℕ) (there : v ≤ length source) (space 
 pub record Opposed (source originals out : List ℕ) (v w : ℕ) (now : List ℕ) (k : ℕ) : Type 0 where
   pub bound : k ≤ w
   pub same : length now ≡ length out
-  pub opposite : now ≡ paste out v (twin-values (take v source) (take w originals)) k
+  pub opposite : now ≡ paste out v (twin_values (take v source) (take w originals)) k
 
 -- The twins' values.
 module _ (source originals out : List ℕ) (v w : ℕ) (ready : InitialReady source originals out v w) where
   abbrev values : List ℕ
-  values = twin-values (take v source) (take w originals)
+  values = twin_values (take v source) (take w originals)
 
   pub values-long : length values ≡ w
-  unfolding twin-values
+  unfolding twin_values
   values-long =
       length-map (take w originals) (λ x. 1 - get_or (take v source) x 0) ∙ length-take-le w originals ready.twins
 
   pub value-at : (k : ℕ) → k < w → get_or values k 0 ≡ 1 - get_or source (get_or originals k 0) 0
-  unfolding twin-values
+  unfolding twin_values
   value-at k h =
       map_at (λ x. 1 - get_or (take v source) x 0) (take w originals) k (omega (arith, length-take-le w originals ready.twins))
       ∙ rw (get_or-take w originals k 0 h, get_or-take v source (get_or originals k 0) 0 (ready.below k h))

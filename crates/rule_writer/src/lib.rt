@@ -1,4 +1,6 @@
 // The second pass of compiling: the rules of the compiled operators as effect rows, and the new initial values.
+#![tactic(auto)]
+
 mod initial;
 mod places;
 mod rows;
@@ -10,7 +12,7 @@ pub use rows::store;
 pub use rules::{write_changes, write_rule};
 
 // The source's variables, the twins that stand after the goal, and how many effect rows there is room for.
-#[derive(Drop)]
+#[derive(Clone, Copy)]
 pub struct Frame {
     pub variables: usize,
     pub twins: usize,
@@ -18,7 +20,7 @@ pub struct Frame {
 }
 
 // The effect rows so far, the row of what stands of this operator (0 before its first rule), and whether there was a rule without room.
-#[derive(Drop)]
+#[derive(Clone, Copy)]
 pub struct Chain {
     pub rows: usize,
     pub stands: u16,
@@ -26,7 +28,7 @@ pub struct Chain {
 }
 
 // A rule: set a variable, or clear it, under the row that is its condition.
-#[derive(Drop)]
+#[derive(Clone, Copy)]
 pub struct Rule {
     pub sets: bool,
     pub variable: u16,
@@ -34,7 +36,7 @@ pub struct Rule {
 }
 
 // The rows under which an operator sets and clears a variable: in corresponding states never both hold.
-#[derive(Drop)]
+#[derive(Clone, Copy)]
 pub struct Changes {
     pub variable: u16,
     pub adds: u16,

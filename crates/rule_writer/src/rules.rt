@@ -1,6 +1,6 @@
 // The rules of a compiled operator, as effect rows behind those that stand.
 ghost use Rattle.std.specs.Prelude.{◌≡◌, true, ◌+◌, ◌*◌, ◌≤◌, ◌<◌, length, get_or};
-ghost use Rattle.rule_writer.specs.Inner.Writes.{kind-of, alone, rule-in, twin-rule-in, opposed-in, all_in, two-rows, Ready, FrameReady, First, Next, Writes};
+ghost use Rattle.rule_writer.specs.Inner.Writes.{kind_of, alone, rule_in, twin_rule_in, opposed_in, all_in, two_rows, Ready, FrameReady, First, Next, Writes};
 
 use crate::rows::store;
 use crate::{Chain, Changes, Frame, Rule};
@@ -18,7 +18,7 @@ fn full(at: Chain) -> Chain
 
 // The effect kind of an atom.
 fn kind(sets: bool) -> u16
-    ensures { result ≡ kind-of sets }
+    ensures { result ≡ kind_of sets }
 {
     if sets { 1 } else { 2 }
 }
@@ -26,7 +26,7 @@ fn kind(sets: bool) -> u16
 // The two rows of a rule: its atom at row n, then the atom under its condition.
 fn conjunct(table: &mut [u16], n: usize, r: Rule)
     requires { (n ≤ 4095) × (3 * n + 6 ≤ length table.old) }
-    ensures { table.new ≡ two-rows table.old n r }
+    ensures { table.new ≡ two_rows table.old n r }
 {
     let k = kind(r.sets);
     store(table, n, k, r.variable, 0);
@@ -72,7 +72,7 @@ fn next(table: &mut [u16], room: usize, at: Chain, r: Rule) -> Chain
 // One rule; none for a condition that is row 0. Constant time.
 pub fn write_rule(table: &mut [u16], room: usize, at: Chain, r: Rule) -> Chain
     requires { Ready room at table.old }
-    ensures { Writes (rule-in r) room at table.old table.new result }
+    ensures { Writes (rule_in r) room at table.old table.new result }
 {
     if at.full {
         return at;
@@ -89,7 +89,7 @@ pub fn write_rule(table: &mut [u16], room: usize, at: Chain, r: Rule) -> Chain
 // The opposite rule for the twin at place k; none if k is past the twins.
 fn twin_rule(table: &mut [u16], frame: Frame, at: Chain, k: usize, r: Rule) -> Chain
     requires { FrameReady frame at table.old }
-    ensures { Writes (twin-rule-in frame k r) frame.room at table.old table.new result }
+    ensures { Writes (twin_rule_in frame k r) frame.room at table.old table.new result }
 {
     if k < frame.twins {
         let t = frame.variables + k;
@@ -111,7 +111,7 @@ fn twin_rule(table: &mut [u16], frame: Frame, at: Chain, k: usize, r: Rule) -> C
 // A rule, and the opposite one for the twin at place k.
 fn opposed(table: &mut [u16], frame: Frame, at: Chain, k: usize, r: Rule) -> Chain
     requires { FrameReady frame at table.old }
-    ensures { Writes (opposed-in frame k r) frame.room at table.old table.new result }
+    ensures { Writes (opposed_in frame k r) frame.room at table.old table.new result }
 {
     let a = write_rule(table, frame.room, at, r);
     twin_rule(table, frame, a, k, r)

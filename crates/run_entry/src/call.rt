@@ -1,13 +1,13 @@
 // Running a sequence of operator numbers on a task file.
 ghost use Rattle.std.specs.Prelude.{◌≡◌, zero, length};
-ghost use Rattle.task.specs.Table.{lent, task-of};
+ghost use Rattle.task.specs.Table.{lent, task_of};
 ghost use Rattle.task.specs.Check.{refusal};
 ghost use Rattle.file_format.specs.Reading.{reading};
 ghost use Rattle.task_file.specs.Outcome.{lengths};
 ghost use Rattle.entry_tables.specs.Own.{small};
-ghost use Rattle.layouts.specs.Layout.{run-number};
-ghost use Rattle.run_entry.specs.Entry.{run-given, run-entry, run-entry-by};
-ghost use Rattle.run_entry.specs.Inner.Giving.{small-run, FreeRun, SmallRun, RunIn};
+ghost use Rattle.layouts.specs.Layout.{run_number};
+ghost use Rattle.run_entry.specs.Entry.{run_given, run_entry, run_entry_by};
+ghost use Rattle.run_entry.specs.Inner.Giving.{small_run, FreeRun, SmallRun, RunIn};
 ghost use Rattle.run_entry.specs.Entry.{RunEntryGives};
 
 use entry_tables::SMALL_OPERATOR_WORDS;
@@ -32,7 +32,7 @@ fn run_lent(
     res: &mut [u8],
 ) -> u32
     requires { RunIn (lent head initial.now twins.now formulas.now effects.now operators.now) state.old sequence.now numbers.old scratch.old (length res.old) }
-    ensures { RunEntryGives (run-given zero (task-of (lent head initial.now twins.now formulas.now effects.now operators.now)) state.old sequence.now (length res.old)) result state.new res.new }
+    ensures { RunEntryGives (run_given zero (task_of (lent head initial.now twins.now formulas.now effects.now operators.now)) state.old sequence.now (length res.old)) result state.new res.new }
 {
     layouts::numbers::decode(sequence, numbers);
     let count = sequence.len() / 2;
@@ -63,7 +63,7 @@ fn run_small(
     res: &mut [u8],
 ) -> u32
     requires { SmallRun (lent head initial.now twins.now formulas.now effects.now operators.now) state.old sequence.now (length res.old) }
-    ensures { RunEntryGives (run-given zero (task-of (lent head initial.now twins.now formulas.now effects.now operators.now)) state.old sequence.now (length res.old)) result state.new res.new }
+    ensures { RunEntryGives (run_given zero (task_of (lent head initial.now twins.now formulas.now effects.now operators.now)) state.old sequence.now (length res.old)) result state.new res.new }
 {
     let mut numbers = [0u16; 256];
     let mut scratch = [0u8; 256];
@@ -95,7 +95,7 @@ fn run_full(
     res: &mut [u8],
 ) -> u32
     requires { FreeRun (lent head initial.now twins.now formulas.now effects.now operators.now) state.old sequence.now (length res.old) }
-    ensures { RunEntryGives (run-given zero (task-of (lent head initial.now twins.now formulas.now effects.now operators.now)) state.old sequence.now (length res.old)) result state.new res.new }
+    ensures { RunEntryGives (run_given zero (task_of (lent head initial.now twins.now formulas.now effects.now operators.now)) state.old sequence.now (length res.old)) result state.new res.new }
 {
     let mut numbers = [0u16; 65535];
     let mut scratch = [0u8; 8192];
@@ -116,7 +116,7 @@ fn run_full(
 
 // Whether a run has at most 256 numbers and few rows. Constant time.
 fn is_small(head: Head, bytes: usize) -> bool
-    ensures { result ≡ small-run head bytes }
+    ensures { result ≡ small_run head bytes }
 {
     if bytes > 512 {
         return false;
@@ -137,7 +137,7 @@ fn run_free(
     res: &mut [u8],
 ) -> u32
     requires { FreeRun (lent head initial.now twins.now formulas.now effects.now operators.now) state.old sequence.now (length res.old) }
-    ensures { RunEntryGives (run-given zero (task-of (lent head initial.now twins.now formulas.now effects.now operators.now)) state.old sequence.now (length res.old)) result state.new res.new }
+    ensures { RunEntryGives (run_given zero (task_of (lent head initial.now twins.now formulas.now effects.now operators.now)) state.old sequence.now (length res.old)) result state.new res.new }
 {
     if is_small(head, sequence.len()) {
         return run_small(
@@ -162,7 +162,7 @@ fn run_read(
     res: &mut [u8],
 ) -> u32
     requires { refusal (lent head initial.now twins.now formulas.now effects.now operators.now) ≡ 0 }
-    ensures { RunEntryGives (run-given (run-number (length (task-of (lent head initial.now twins.now formulas.now effects.now operators.now)).initial) state.old sequence.now (length res.old)) (task-of (lent head initial.now twins.now formulas.now effects.now operators.now)) state.old sequence.now (length res.old)) result state.new res.new }
+    ensures { RunEntryGives (run_given (run_number (length (task_of (lent head initial.now twins.now formulas.now effects.now operators.now)).initial) state.old sequence.now (length res.old)) (task_of (lent head initial.now twins.now formulas.now effects.now operators.now)) state.old sequence.now (length res.old)) result state.new res.new }
 {
     let number = layouts::numbers::refused_run(head.variables as usize, state, sequence, res.len());
     if number != 0 {
@@ -186,7 +186,7 @@ fn run_through(
     sequence: &[u8],
     res: &mut [u8],
 ) -> u32
-    ensures { RunEntryGives (run-entry-by (reading (lengths (length initial.old) (length twins.old) (length formulas.old) (length effects.old) (length operators.old)) file.now) state.old sequence.now (length res.old)) result state.new res.new }
+    ensures { RunEntryGives (run_entry_by (reading (lengths (length initial.old) (length twins.old) (length formulas.old) (length effects.old) (length operators.old)) file.now) state.old sequence.now (length res.old)) result state.new res.new }
 {
     let r = task_file::read::read(file, initial, twins, formulas, effects, operators);
     let ReadAnswer::Read(head) = r else {
@@ -200,7 +200,7 @@ fn run_through(
 
 // The task in small tables: 3 KiB. One step of a task of 77 bytes takes 0.39 us, with full tables 1.3.
 fn run_from_small(file: &[u8], state: &mut [u8], sequence: &[u8], res: &mut [u8]) -> u32
-    ensures { RunEntryGives (run-entry-by (reading small file.now) state.old sequence.now (length res.old)) result state.new res.new }
+    ensures { RunEntryGives (run_entry_by (reading small file.now) state.old sequence.now (length res.old)) result state.new res.new }
 {
     let mut initial = [0u8; 512];
     let mut twins = [0u16; 64];
@@ -222,7 +222,7 @@ fn run_from_small(file: &[u8], state: &mut [u8], sequence: &[u8], res: &mut [u8]
 
 // The task in tables with room for every task: 51 KiB.
 fn run_from_full(file: &[u8], state: &mut [u8], sequence: &[u8], res: &mut [u8]) -> u32
-    ensures { RunEntryGives (run-entry file.now state.old sequence.now (length res.old)) result state.new res.new }
+    ensures { RunEntryGives (run_entry file.now state.old sequence.now (length res.old)) result state.new res.new }
 {
     let mut initial = [0u8; 512];
     let mut twins = [0u16; 256];
@@ -246,7 +246,7 @@ fn run_from_full(file: &[u8], state: &mut [u8], sequence: &[u8], res: &mut [u8])
 // Cost: one pass over the file, then the formulas, the effects and the variables a step. A short file goes through
 // small tables, and only if they are too short for its head, 5, through the full ones.
 pub fn run(file: &[u8], state: &mut [u8], sequence: &[u8], res: &mut [u8]) -> u32
-    ensures { RunEntryGives (run-entry file.now state.old sequence.now (length res.old)) result state.new res.new }
+    ensures { RunEntryGives (run_entry file.now state.old sequence.now (length res.old)) result state.new res.new }
 {
     if file.len() > 128 {
         return run_from_full(file, state, sequence, res);

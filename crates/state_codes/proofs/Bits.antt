@@ -8,45 +8,45 @@ use mathlib.Core.List.{List, [], ◌∷◌}
 use lib.Bits.{bit_and, bit_or, bit_xor, differ, and_shr, and_step, or_shr, or_step, xor_shr, xor_step}
 use lib.Pow.{shl-shr, shr-shr, shr_lt, pow-lt, pow-add, field, mod-mod-pow}
 use lib.ListN.{length, get_or}
-use Rattle.state_codes.specs.Inner.States.{state-of}
+use Rattle.state_codes.specs.Inner.States.{state_of}
 
 lowest : (x r y : ℕ) → x ≡ r * 2 + y → y ≤ 1 → x % 2 ≡ y
 lowest x r y e h = omega arith
 
 -- of a union the greater bit, of a common part the lesser
-pub or-bit : (x y k : ℕ) → bit_or x y / 2 ^ k % 2 ≡ max (x / 2 ^ k % 2) (y / 2 ^ k % 2)
-or-bit x y k =
+pub or_bit : (x y k : ℕ) → bit_or x y / 2 ^ k % 2 ≡ max (x / 2 ^ k % 2) (y / 2 ^ k % 2)
+or_bit x y k =
     lowest (bit_or x y / 2 ^ k) (bit_or (x / 2 ^ k / 2) (y / 2 ^ k / 2)) (max (x / 2 ^ k % 2) (y / 2 ^ k % 2))
     (or_shr x y k ∙ or_step (x / 2 ^ k) (y / 2 ^ k))
     (omega arith)
 
-pub and-bit : (x y k : ℕ) → bit_and x y / 2 ^ k % 2 ≡ min (x / 2 ^ k % 2) (y / 2 ^ k % 2)
-and-bit x y k =
+pub and_bit : (x y k : ℕ) → bit_and x y / 2 ^ k % 2 ≡ min (x / 2 ^ k % 2) (y / 2 ^ k % 2)
+and_bit x y k =
     lowest (bit_and x y / 2 ^ k) (bit_and (x / 2 ^ k / 2) (y / 2 ^ k / 2)) (min (x / 2 ^ k % 2) (y / 2 ^ k % 2))
     (and_shr x y k ∙ and_step (x / 2 ^ k) (y / 2 ^ k))
     (omega arith)
 
-differ-small : (a b : ℕ) → a ≤ 1 → b ≤ 1 → differ a b ≤ 1
-differ-small zero b h l = l
-differ-small (suc zero) zero h l = omega arith
-differ-small (suc zero) (suc zero) h l = omega arith
-differ-small (suc (suc a)) b h l = absurd (omega arith)
-differ-small (suc zero) (suc (suc b)) h l = absurd (omega arith)
+differ_small : (a b : ℕ) → a ≤ 1 → b ≤ 1 → differ a b ≤ 1
+differ_small zero b h l = l
+differ_small (suc zero) zero h l = omega arith
+differ_small (suc zero) (suc zero) h l = omega arith
+differ_small (suc (suc a)) b h l = absurd (omega arith)
+differ_small (suc zero) (suc (suc b)) h l = absurd (omega arith)
 
-pub xor-bit : (x y k : ℕ) → bit_xor x y / 2 ^ k % 2 ≡ differ (x / 2 ^ k % 2) (y / 2 ^ k % 2)
-xor-bit x y k =
+pub xor_bit : (x y k : ℕ) → bit_xor x y / 2 ^ k % 2 ≡ differ (x / 2 ^ k % 2) (y / 2 ^ k % 2)
+xor_bit x y k =
     lowest (bit_xor x y / 2 ^ k) (bit_xor (x / 2 ^ k / 2) (y / 2 ^ k / 2)) (differ (x / 2 ^ k % 2) (y / 2 ^ k % 2))
     (xor_shr x y k ∙ xor_step (x / 2 ^ k) (y / 2 ^ k))
-    (differ-small (x / 2 ^ k % 2) (y / 2 ^ k % 2) (omega arith) (omega arith))
+    (differ_small (x / 2 ^ k % 2) (y / 2 ^ k % 2) (omega arith) (omega arith))
 
 -- a power of 2 has one bit
-pub power-bit : (a : ℕ) → 2 ^ a / 2 ^ a % 2 ≡ 1
-power-bit a =
+pub power_bit : (a : ℕ) → 2 ^ a / 2 ^ a % 2 ≡ 1
+power_bit a =
     let e : 2 ^ a / 2 ^ a ≡ 1 = ap (λ (x : ℕ). x / 2 ^ a) (sym (one-mul (2 ^ a))) ∙ shl-shr 1 a in
     omega arith
 
-pub power-bits : (a k : ℕ) → (k ≡ a → ⊥) → 2 ^ a / 2 ^ k % 2 ≡ 0
-power-bits a k ne = go (dec_lt k a)
+pub power_bits : (a k : ℕ) → (k ≡ a → ⊥) → 2 ^ a / 2 ^ k % 2 ≡ 0
+power_bits a k ne = go (dec_lt k a)
   where
     go : Dec (k < a) → 2 ^ a / 2 ^ k % 2 ≡ 0
     go (yes h) =
@@ -71,12 +71,12 @@ low_bit m k h =
     ∙ ap (λ (x : ℕ). m / 2 ^ k % 2 ^ x % 2) e
     ∙ mod-mod-pow (m / 2 ^ k) (15 - k) 1
 
-one-add : (k : ℕ) → 1 + k ≡ suc k
-one-add k = omega arith
+one_add : (k : ℕ) → 1 + k ≡ suc k
+one_add k = omega arith
 
 -- the bits of a state
-pub state-at : (v n k : ℕ) → k < v → get_or (state-of v n) k 0 ≡ n / 2 ^ k % 2
-unfolding state-of
-state-at zero n k h = absurd (not-suc-le-zero h)
-state-at (suc v) n zero h = omega arith
-state-at (suc v) n (suc k) h = state-at v (n / 2) k (omega arith) ∙ ap (λ (x : ℕ). x % 2) (shr-shr n 1 k) ∙ ap (λ (x : ℕ). n / 2 ^ x % 2) (one-add k)
+pub state_at : (v n k : ℕ) → k < v → get_or (state_of v n) k 0 ≡ n / 2 ^ k % 2
+unfolding state_of
+state_at zero n k h = absurd (not-suc-le-zero h)
+state_at (suc v) n zero h = omega arith
+state_at (suc v) n (suc k) h = state_at v (n / 2) k (omega arith) ∙ ap (λ (x : ℕ). x % 2) (shr-shr n 1 k) ∙ ap (λ (x : ℕ). n / 2 ^ x % 2) (one_add k)

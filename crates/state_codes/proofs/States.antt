@@ -5,10 +5,10 @@ use native.Mathlib.Omega.{arith}
 use mathlib.Core.Path.{◌≡◌, refl, ap}
 use mathlib.Core.List.{List, [], ◌∷◌}
 use lib.ListN.{length, get_or}
-use Rattle.state_codes.specs.Inner.States.{Bits, code, state-of}
+use Rattle.state_codes.specs.Inner.States.{Bits, code, state_of}
 
-rest-bits : {v b : ℕ} {s : List ℕ} → Bits (suc v) (b ∷ s) → Bits v s
-rest-bits {v} {b} {s} x =
+rest_bits : {v b : ℕ} {s : List ℕ} → Bits (suc v) (b ∷ s) → Bits v s
+rest_bits {v} {b} {s} x =
     let size = x.size in
     record { size = omega arith; bits = λ k below. x.bits (suc k) (omega arith) }
 
@@ -19,43 +19,43 @@ code_below (suc v) [] x = let size = x.size in absurd (omega arith)
 code_below zero (b ∷ s) x = let size = x.size in absurd (omega arith)
 code_below (suc v) (b ∷ s) x =
     let more = two-pow-succ v in
-    let rest = code_below v s (rest-bits x) in
+    let rest = code_below v s (rest_bits x) in
     let bit : b ≤ 1 = x.bits 0 (omega arith) in
     omega arith
 
-pub code-tells : (v : ℕ) (s s' : List ℕ) → Bits v s → Bits v s' → code s ≡ code s' → s ≡ s'
+pub code_tells : (v : ℕ) (s s' : List ℕ) → Bits v s → Bits v s' → code s ≡ code s' → s ≡ s'
 unfolding code
-code-tells v [] [] x y e = refl
-code-tells v [] (b ∷ s') x y e = let p = x.size in let q = y.size in absurd (omega arith)
-code-tells v (b ∷ s) [] x y e = let p = x.size in let q = y.size in absurd (omega arith)
-code-tells zero (b ∷ s) (b' ∷ s') x y e = let p = x.size in absurd (omega arith)
-code-tells (suc v) (b ∷ s) (b' ∷ s') x y e =
+code_tells v [] [] x y e = refl
+code_tells v [] (b ∷ s') x y e = let p = x.size in let q = y.size in absurd (omega arith)
+code_tells v (b ∷ s) [] x y e = let p = x.size in let q = y.size in absurd (omega arith)
+code_tells zero (b ∷ s) (b' ∷ s') x y e = let p = x.size in absurd (omega arith)
+code_tells (suc v) (b ∷ s) (b' ∷ s') x y e =
     let bit : b ≤ 1 = x.bits 0 (omega arith) in
     let bit' : b' ≤ 1 = y.bits 0 (omega arith) in
     let same : b ≡ b' = omega arith in
-    let rest : s ≡ s' = code-tells v s s' (rest-bits x) (rest-bits y) (omega arith) in
+    let rest : s ≡ s' = code_tells v s s' (rest_bits x) (rest_bits y) (omega arith) in
     cc
 
 -- each number below 2^V is the code of a state, and each state is that of its code
-pub state-bits : (v n : ℕ) → Bits v (state-of v n)
-unfolding state-of
-state-bits zero n = record { size = refl; bits = λ k below. absurd (not-suc-le-zero below) }
-state-bits (suc v) n =
-    let rest = state-bits v (n / 2) in
+pub state_bits : (v n : ℕ) → Bits v (state_of v n)
+unfolding state_of
+state_bits zero n = record { size = refl; bits = λ k below. absurd (not-suc-le-zero below) }
+state_bits (suc v) n =
+    let rest = state_bits v (n / 2) in
     record { size = ap suc rest.size; bits = λ k below. at k below rest }
   where
-    at : (k : ℕ) → k < suc (length (state-of v (n / 2))) → Bits v (state-of v (n / 2)) → get_or (n % 2 ∷ state-of v (n / 2)) k 0 ≤ 1
+    at : (k : ℕ) → k < suc (length (state_of v (n / 2))) → Bits v (state_of v (n / 2)) → get_or (n % 2 ∷ state_of v (n / 2)) k 0 ≤ 1
     at zero below rest = omega arith
     at (suc k) below rest = rest.bits k (omega arith)
 
-pub code-of-state : (v n : ℕ) → n < 2 ^ v → code (state-of v n) ≡ n
-unfolding state-of code
-code-of-state zero n below = let one = rw (pow-zero 2) at below in omega arith
-code-of-state (suc v) n below =
+pub code_of_state : (v n : ℕ) → n < 2 ^ v → code (state_of v n) ≡ n
+unfolding state_of code
+code_of_state zero n below = let one = rw (pow-zero 2) at below in omega arith
+code_of_state (suc v) n below =
     let more = two-pow-succ v in
-    let rest = code-of-state v (n / 2) (omega arith) in
+    let rest = code_of_state v (n / 2) (omega arith) in
     omega arith
 
-pub state-of-code : (v : ℕ) (s : List ℕ) → Bits v s → state-of v (code s) ≡ s
-state-of-code v s bits =
-    code-tells v (state-of v (code s)) s (state-bits v (code s)) bits (code-of-state v (code s) (code_below v s bits))
+pub state_of_code : (v : ℕ) (s : List ℕ) → Bits v s → state_of v (code s) ≡ s
+state_of_code v s bits =
+    code_tells v (state_of v (code s)) s (state_bits v (code s)) bits (code_of_state v (code s) (code_below v s bits))

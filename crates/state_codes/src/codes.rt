@@ -1,6 +1,6 @@
 // States and their codes: variable v is bit v.
 ghost use Rattle.std.specs.Prelude.{◌≤◌, ◌≡◌, length};
-ghost use Rattle.state_codes.specs.Inner.States.{Bits, code, state-of};
+ghost use Rattle.state_codes.specs.Inner.States.{Bits, code, state_of};
 
 // The code of a state. Linear in the variables, as is the one below.
 pub fn code_of(state: &[u8]) -> usize
@@ -19,7 +19,7 @@ pub fn code_of(state: &[u8]) -> usize
 // The state of a code.
 pub fn write_state(code: usize, state: &mut [u8])
     requires { length state.old ≤ 10 }
-    ensures { state.new ≡ state-of (length state.old) code }
+    ensures { state.new ≡ state_of (length state.old) code }
 {
     let mut v = 0;
     while v < state.len() {

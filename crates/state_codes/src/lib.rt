@@ -1,4 +1,6 @@
 // States of few variables as numbers, and what effects make of them.
+#![tactic(auto)]
+
 mod codes;
 mod masks;
 

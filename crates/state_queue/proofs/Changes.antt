@@ -7,17 +7,17 @@ use mathlib.Core.Path.{◌≡◌, refl, sym, ◌∙◌}
 use mathlib.Core.List.{List}
 use lib.ListN.{length, get_or}
 use Rattle.state_queue.specs.Inner.Queue.{key, winner, Over, itself, parent, Plays, Queue, Waits, Nearly, Changed}
-use Rattle.state_queue.proofs.Keys.{winner-state, winner-node}
-use Rattle.state_queue.proofs.Tournament.{over-trans, state-plays, waits-on, nearly-plays}
+use Rattle.state_queue.proofs.Keys.{winner_state, winner_node}
+use Rattle.state_queue.proofs.Tournament.{over_trans, state_plays, waits-on, nearly-plays}
 
 -- Node 1 stands over all.
-root-within : (fuel m : ℕ) → m ≤ fuel → 0 < m → Over m 1
-root-within zero m h l = absurd (omega arith)
-root-within (suc fuel) m h l = go (ℕ_discrete m 1) (λ b. root-within fuel (m / 2) (omega arith) (omega arith))
+root_within : (fuel m : ℕ) → m ≤ fuel → 0 < m → Over m 1
+root_within zero m h l = absurd (omega arith)
+root_within (suc fuel) m h l = go (ℕ_discrete m 1) (λ b. root_within fuel (m / 2) (omega arith) (omega arith))
   where
     go : Dec (m ≡ 1) → (1 < m → Over (m / 2) 1) → Over m 1
     go (yes q) r = itself 1 (sym q)
-    go (no q) r = over-trans (parent (m / 2) m (itself m refl) refl) (r (omega arith))
+    go (no q) r = over_trans (parent (m / 2) m (itself m refl) refl) (r (omega arith))
 
 -- The root of a queue names a state that comes no later than any.
 module _ {words : List ℕ} {n : ℕ} (q : Queue words n) (some : 0 < n) where
@@ -28,18 +28,18 @@ module _ {words : List ℕ} {n : ℕ} (q : Queue words n) (some : 0 < n) where
       go (yes h) = q.node 1 (omega arith) h
       go (no h) =
           let l : n ≤ 1 = omega arith in
-          state-plays l (omega arith) (sym (winner-state words n 1 l))
+          state_plays l (omega arith) (sym (winner_state words n 1 l))
 
   pub root-state : winner words n 1 < n
   root-state = root.state
 
   pub root-least : (s : ℕ) → s < n → key words n (winner words n 1) ≤ key words n s
-  root-least s h = root.least s h (root-within (n + s) (n + s) (omega arith) (omega arith))
+  root-least s h = root.least s h (root_within (n + s) (n + s) (omega arith) (omega arith))
 
 -- One state's words changed.
 module _ {n state : ℕ} {before after : List ℕ} (c : Changed n state before after) (q : Queue before n) (there : state < n) where
   same-node : (i : ℕ) → i < n → winner after n i ≡ winner before n i
-  same-node i h = sym (winner-node after n i h) ∙ c.nodes i h ∙ winner-node before n i h
+  same-node i h = sym (winner_node after n i h) ∙ c.nodes i h ∙ winner_node before n i h
 
   same_key : (s : ℕ) → s < n → (s ≡ state → ⊥) → key after n s ≡ key before n s
   unfolding key

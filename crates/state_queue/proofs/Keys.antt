@@ -9,44 +9,44 @@ use lib.Dec.{eqb, leb, ltb}
 use lib.ListN.{length, get_or, set}
 use lib.Seq.{get_or-set_same, get_or-set_other}
 use borrow.Author.Tests.{le-leb, lt-leb, eq-eqb, ne_eqb}
-use Rattle.state_queue.specs.Inner.Queue.{queue-cost, queued, key, winner, better}
+use Rattle.state_queue.specs.Inner.Queue.{queue_cost, queued, key, winner, better}
 
-pub cost-taken : (word : ℕ) → word ≡ 0 → 4294967295 ≡ queue-cost word
-unfolding queue-cost
-cost-taken word e = rw (eq-eqb word 0 e)
+pub cost_taken : (word : ℕ) → word ≡ 0 → 4294967295 ≡ queue_cost word
+unfolding queue_cost
+cost_taken word e = rw (eq-eqb word 0 e)
 
-pub cost-else : (word : ℕ) → (word ≡ 0 → ⊥) → word - 1 ≡ queue-cost word
-unfolding queue-cost
-cost-else word h = rw (ne_eqb word 0 h)
+pub cost_else : (word : ℕ) → (word ≡ 0 → ⊥) → word - 1 ≡ queue_cost word
+unfolding queue_cost
+cost_else word h = rw (ne_eqb word 0 h)
 
-pub is-queued : (word cost : ℕ) → cost ≡ queue-cost word → ltb cost 4294967294 ≡ queued word
+pub is_queued : (word cost : ℕ) → cost ≡ queue_cost word → ltb cost 4294967294 ≡ queued word
 unfolding queued
-is-queued word cost e = ap (λ x. ltb x 4294967294) e
+is_queued word cost e = ap (λ x. ltb x 4294967294) e
 
-pub key-made : (words : List ℕ) (n s : ℕ) {cost : ℕ} → cost ≡ queue-cost (get_or words s 0) → cost * 4294967296 + get_or words (n + s) 0 ≡ key words n s
+pub key_made : (words : List ℕ) (n s : ℕ) {cost : ℕ} → cost ≡ queue_cost (get_or words s 0) → cost * 4294967296 + get_or words (n + s) 0 ≡ key words n s
 unfolding key
-key-made words n s e = rw e
+key_made words n s e = rw e
 
-pub winner-state : (words : List ℕ) (n i : ℕ) → n ≤ i → i - n ≡ winner words n i
+pub winner_state : (words : List ℕ) (n i : ℕ) → n ≤ i → i - n ≡ winner words n i
 unfolding winner
-winner-state words n i h = rw (le-leb n i h)
+winner_state words n i h = rw (le-leb n i h)
 
-pub winner-node : (words : List ℕ) (n i : ℕ) → i < n → get_or words (3 * n + i) 0 ≡ winner words n i
+pub winner_node : (words : List ℕ) (n i : ℕ) → i < n → get_or words (3 * n + i) 0 ≡ winner words n i
 unfolding winner
-winner-node words n i h = rw (lt-leb n i h)
+winner_node words n i h = rw (lt-leb n i h)
 
-pub better-other : (words : List ℕ) (n a b : ℕ) → ltb (key words n b) (key words n a) ≡ true → b ≡ better words n a b
+pub better_other : (words : List ℕ) (n a b : ℕ) → ltb (key words n b) (key words n a) ≡ true → b ≡ better words n a b
 unfolding better
-better-other words n a b e = rw e
+better_other words n a b e = rw e
 
-pub better-first : (words : List ℕ) (n a b : ℕ) → ltb (key words n b) (key words n a) ≡ false → a ≡ better words n a b
+pub better_first : (words : List ℕ) (n a b : ℕ) → ltb (key words n b) (key words n a) ≡ false → a ≡ better words n a b
 unfolding better
-better-first words n a b e = rw e
+better_first words n a b e = rw e
 
 -- the words of the states decide the keys
-pub key-front : {n : ℕ} (before after : List ℕ) → ((j : ℕ) → j < 3 * n → get_or after j 0 ≡ get_or before j 0) → (s : ℕ) → s < n → key after n s ≡ key before n s
+pub key_front : {n : ℕ} (before after : List ℕ) → ((j : ℕ) → j < 3 * n → get_or after j 0 ≡ get_or before j 0) → (s : ℕ) → s < n → key after n s ≡ key before n s
 unfolding key
-key-front {n} before after same s h = rw (same s (omega arith), same (n + s) (omega arith))
+key_front {n} before after same s h = rw (same s (omega arith), same (n + s) (omega arith))
 
 -- a node is stored
 module _ (words : List ℕ) (n node x : ℕ) where
@@ -54,20 +54,20 @@ module _ (words : List ℕ) (n node x : ℕ) where
   stored-front j h = get_or-set_other words (3 * n + node) j x 0 (λ z. omega arith)
 
   pub stored-key : (s : ℕ) → s < n → key (set words (3 * n + node) x) n s ≡ key words n s
-  stored-key s h = key-front words (set words (3 * n + node) x) stored-front s h
+  stored-key s h = key_front words (set words (3 * n + node) x) stored-front s h
 
   pub stored-node : node < n → 3 * n + node < length words → winner (set words (3 * n + node) x) n node ≡ x
   stored-node h room =
-      sym (winner-node (set words (3 * n + node) x) n node h) ∙ get_or-set_same words (3 * n + node) x 0 room
+      sym (winner_node (set words (3 * n + node) x) n node h) ∙ get_or-set_same words (3 * n + node) x 0 room
 
   pub stored_other : (i : ℕ) → (i ≡ node → ⊥) → winner (set words (3 * n + node) x) n i ≡ winner words n i
   stored_other i ne = go (dec_lt i n)
     where
       go : Dec (i < n) → winner (set words (3 * n + node) x) n i ≡ winner words n i
       go (yes h) =
-          sym (winner-node (set words (3 * n + node) x) n i h)
+          sym (winner_node (set words (3 * n + node) x) n i h)
           ∙ get_or-set_other words (3 * n + node) (3 * n + i) x 0 (λ z. ne (omega arith))
-          ∙ winner-node words n i h
+          ∙ winner_node words n i h
       go (no h) =
           let l : n ≤ i = omega arith in
-          sym (winner-state (set words (3 * n + node) x) n i l) ∙ winner-state words n i l
+          sym (winner_state (set words (3 * n + node) x) n i l) ∙ winner_state words n i l

@@ -5,44 +5,44 @@ use mathlib.Core.Path.{◌≡◌, refl, sym, ap, ◌∙◌}
 use mathlib.Core.Logic.{◌⊎◌, inl, inr}
 use mathlib.Core.List.{List}
 use lib.ListN.{set}
-use Rattle.state_queue.specs.Inner.Queue.{key, winner, Plays, Roomy, Siblings, right_of, left-of, Waits, Played}
-use Rattle.state_queue.proofs.Keys.{winner-state, stored-key, stored-node}
-use Rattle.state_queue.proofs.Playing.{Playing, Chosen, from-left, from-right, child, set-playing, all-played, Away, away-begin, away-child, away-more, away-end}
+use Rattle.state_queue.specs.Inner.Queue.{key, winner, Plays, Roomy, Siblings, right_of, left_of, Waits, Played}
+use Rattle.state_queue.proofs.Keys.{winner_state, stored-key, stored-node}
+use Rattle.state_queue.proofs.Playing.{Playing, Chosen, from_left, from_right, child, set-playing, all_played, Away, away_begin, away_child, away_more, away_end}
 
 -- The loop's invariant: all play but the nodes over the one reached, which names `first`, of this key.
 pub record Lowering (n : ℕ) (before words : List ℕ) (first first_key node : ℕ) : Type 0 where
   pub some : 0 < node
   pub bottom : node < 2 * n
   pub names : first ≡ winner words n node
-  pub its-key : first_key ≡ key words n first
+  pub its_key : first_key ≡ key words n first
   pub playing : Playing n before words (Away (node / 2))
 
-pub lowering-begin :
+pub lowering_begin :
     {n state first_key : ℕ} {words : List ℕ}
     → Waits words n state
     → first_key ≡ key words n state
     → Lowering n words words state first_key (n + state)
-lowering-begin {n} {state} {words = words} w e =
-    let names : n + state - n ≡ winner words n (n + state) = winner-state words n (n + state) (omega arith) in
+lowering_begin {n} {state} {words = words} w e =
+    let names : n + state - n ≡ winner words n (n + state) = winner_state words n (n + state) (omega arith) in
     record {
       some = omega (arith, w.there);
       bottom = omega (arith, w.there);
       names = omega (arith, names);
-      its-key = e;
-      playing = away-begin w;
+      its_key = e;
+      playing = away_begin w;
     }
 
 -- a node's sibling
-pub beside-bottom : {node beside : ℕ} (n : ℕ) → Siblings node beside → node < 2 * n → beside < 2 * n
-beside-bottom n (right_of b e f) h = omega arith
-beside-bottom n (left-of b e f) h = omega arith
+pub beside_bottom : {node beside : ℕ} (n : ℕ) → Siblings node beside → node < 2 * n → beside < 2 * n
+beside_bottom n (right_of b e f) h = omega arith
+beside_bottom n (left_of b e f) h = omega arith
 
-beside-below : {node beside : ℕ} → Siblings node beside → 1 < node → node / 2 < beside
-beside-below (right_of b e f) h = omega arith
-beside-below (left-of b e f) h = omega arith
+beside_below : {node beside : ℕ} → Siblings node beside → 1 < node → node / 2 < beside
+beside_below (right_of b e f) h = omega arith
+beside_below (left_of b e f) h = omega arith
 
 -- the state that comes first of two siblings'
-chosen-left :
+chosen_left :
     {n i : ℕ} (words : List ℕ) (a b x y : ℕ)
     → a ≡ 2 * i
     → b ≡ 2 * i + 1
@@ -50,12 +50,12 @@ chosen-left :
     → y ≡ winner words n b
     → key words n x ≤ key words n y
     → Chosen words n i x
-chosen-left {n} {i} words a b x y e f p q l =
+chosen_left {n} {i} words a b x y e f p q l =
     let left : x ≡ winner words n (2 * i) = p ∙ ap (winner words n) e in
     let right : y ≡ winner words n (2 * i + 1) = q ∙ ap (winner words n) f in
-    from-left left (rw (← left, ← right) l)
+    from_left left (rw (← left, ← right) l)
 
-chosen-right :
+chosen_right :
     {n i : ℕ} (words : List ℕ) (a b x y : ℕ)
     → a ≡ 2 * i
     → b ≡ 2 * i + 1
@@ -63,10 +63,10 @@ chosen-right :
     → y ≡ winner words n b
     → key words n y ≤ key words n x
     → Chosen words n i y
-chosen-right {n} {i} words a b x y e f p q l =
+chosen_right {n} {i} words a b x y e f p q l =
     let left : x ≡ winner words n (2 * i) = p ∙ ap (winner words n) e in
     let right : y ≡ winner words n (2 * i + 1) = q ∙ ap (winner words n) f in
-    from-right right (rw (← left, ← right) l)
+    from_right right (rw (← left, ← right) l)
 
 chosen :
     {n node beside x y : ℕ} (words : List ℕ)
@@ -75,23 +75,23 @@ chosen :
     → y ≡ winner words n beside
     → key words n x ≤ key words n y
     → Chosen words n (node / 2) x
-chosen {node = node} {x = x} {y} words (right_of b e f) p q l = chosen-left words node b x y e f p q l
-chosen {node = node} {x = x} {y} words (left-of b e f) p q l = chosen-right words b node y x f e q p l
+chosen {node = node} {x = x} {y} words (right_of b e f) p q l = chosen_left words node b x y e f p q l
+chosen {node = node} {x = x} {y} words (left_of b e f) p q l = chosen_right words b node y x f e q p l
 
-chosen-beside :
+chosen_beside :
     {n node beside x y : ℕ} (words : List ℕ)
     → Siblings node beside
     → x ≡ winner words n node
     → y ≡ winner words n beside
     → key words n y ≤ key words n x
     → Chosen words n (node / 2) y
-chosen-beside {node = node} {x = x} {y} words (right_of b e f) p q l = chosen-right words node b x y e f p q l
-chosen-beside {node = node} {x = x} {y} words (left-of b e f) p q l = chosen-left words b node y x f e q p l
+chosen_beside {node = node} {x = x} {y} words (right_of b e f) p q l = chosen_right words node b x y e f p q l
+chosen_beside {node = node} {x = x} {y} words (left_of b e f) p q l = chosen_left words b node y x f e q p l
 
 -- a node above which there is another
 module _ {n first first_key node : ℕ} {before words : List ℕ} (w : Lowering n before words first first_key node) (more : 1 < node) where
   above-child : (c : ℕ) → node / 2 < c → c < 2 * n → Plays n (winner words n) (key words n) c
-  above-child c l b = child w.playing (omega arith) (omega (arith, w.bottom)) (λ c l b. away-child l) c l b
+  above-child c l b = child w.playing (omega arith) (omega (arith, w.bottom)) (λ c l b. away_child l) c l b
 
   lowering-first : first < n
   lowering-first =
@@ -102,7 +102,7 @@ module _ {n first first_key node : ℕ} {before words : List ℕ} (w : Lowering 
   module _ {beside other : ℕ} (s : Siblings node beside) (q : other ≡ winner words n beside) where
     pub lowering-other : other < n
     lowering-other =
-        let p = above-child beside (beside-below s more) (beside-bottom n s w.bottom) in
+        let p = above-child beside (beside_below s more) (beside_bottom n s w.bottom) in
         omega (arith, q, p.state)
 
     stored :
@@ -118,8 +118,8 @@ module _ {n first first_key node : ℕ} {before words : List ℕ} (w : Lowering 
           some = omega arith;
           bottom = omega (arith, w.bottom);
           names = sym (stored-node words n (node / 2) x inner (omega (arith, r.room)));
-          its-key = e ∙ sym (stored-key words n (node / 2) x x there);
-          playing = set-playing w.playing (omega arith) inner (λ c l b. away-child l) r c refl away-more;
+          its_key = e ∙ sym (stored-key words n (node / 2) x x there);
+          playing = set-playing w.playing (omega arith) inner (λ c l b. away_child l) r c refl away_more;
         }
 
     -- the state that comes first and its key, by whether the other comes before
@@ -135,13 +135,13 @@ module _ {n first first_key node : ℕ} {before words : List ℕ} (w : Lowering 
           → Lowering n before (set words (3 * n + node / 2) x) x k (node / 2)
       lowering-on r e (inl c) =
           let l = before-it c.0 in
-          rw (c.1, c.2) (stored r lowering-other e (chosen-beside words s w.names q (omega (arith, w.its-key, e, l))))
+          rw (c.1, c.2) (stored r lowering-other e (chosen_beside words s w.names q (omega (arith, w.its_key, e, l))))
       lowering-on r e (inr c) =
           let l = not-before c.0 in
-          rw (c.1, c.2) (stored r lowering-first w.its-key (chosen words s w.names q (omega (arith, w.its-key, e, l))))
+          rw (c.1, c.2) (stored r lowering-first w.its_key (chosen words s w.names q (omega (arith, w.its_key, e, l))))
 
 -- at the root
 pub lowered : {n first first_key node : ℕ} {before words : List ℕ} → Lowering n before words first first_key node → node ≤ 1 → Played n before words
 lowered {node = node} w l =
     let z : node / 2 ≡ 0 = omega (arith, l) in
-    all-played (λ i a b. rw z (away-end i a)) w.playing
+    all_played (λ i a b. rw z (away_end i a)) w.playing

@@ -10,8 +10,8 @@ use lib.Dec.{ltb}
 use lib.ListN.{length, get_or, set, length-set}
 use borrow.Author.Tests.{ltb-true, ltb-false}
 use Rattle.state_queue.specs.Inner.Queue.{key, winner, better, Over, itself, parent, Plays, Roomy, Queue, Sets, Waits, NearlyPlays, Nearly, Played}
-use Rattle.state_queue.proofs.Keys.{winner-state, better-other, better-first, key-front, stored-front, stored-key, stored-node, stored_other}
-use Rattle.state_queue.proofs.Tournament.{over-falls, over-parent, over-trans, state-plays, left-plays, right-plays, plays-on}
+use Rattle.state_queue.proofs.Keys.{winner_state, better_other, better_first, key_front, stored-front, stored-key, stored-node, stored_other}
+use Rattle.state_queue.proofs.Tournament.{over_falls, over_parent, over_trans, state_plays, left-plays, right-plays, plays_on}
 
 -- The nodes for which this holds play, and the words of the states are as they were.
 pub record Playing (n : ℕ) (before words : List ℕ) (holds : ℕ → Type 0) : Type 0 where
@@ -19,23 +19,23 @@ pub record Playing (n : ℕ) (before words : List ℕ) (holds : ℕ → Type 0) 
   pub front : (j : ℕ) → j < 3 * n → get_or words j 0 ≡ get_or before j 0
   pub node : (i : ℕ) → 0 < i → i < n → holds i → Plays n (winner words n) (key words n) i
 
-pub all-played : {n : ℕ} {before words : List ℕ} {holds : ℕ → Type 0} → ((i : ℕ) → 0 < i → i < n → holds i) → Playing n before words holds → Played n before words
-all-played h p = record { queue = record { node = λ i a b. p.node i a b (h i a b) }; front = p.front }
+pub all_played : {n : ℕ} {before words : List ℕ} {holds : ℕ → Type 0} → ((i : ℕ) → 0 < i → i < n → holds i) → Playing n before words holds → Played n before words
+all_played h p = record { queue = record { node = λ i a b. p.node i a b (h i a b) }; front = p.front }
 
-pub roomy-on : {n : ℕ} {before words : List ℕ} → Roomy n before → length words ≡ length before → Roomy n words
-roomy-on r e = record { some = r.some; limit = r.limit; room = omega (arith, r.room, e) }
+pub roomy_on : {n : ℕ} {before words : List ℕ} → Roomy n before → length words ≡ length before → Roomy n words
+roomy_on r e = record { some = r.some; limit = r.limit; room = omega (arith, r.room, e) }
 
 -- no node yet
-pub none-playing : {n : ℕ} (words : List ℕ) {holds : ℕ → Type 0} → ((i : ℕ) → i < n → holds i → ⊥) → Playing n words words holds
-none-playing words none = record { long = refl; front = λ j h. refl; node = λ i a b x. absurd (none i b x) }
+pub none_playing : {n : ℕ} (words : List ℕ) {holds : ℕ → Type 0} → ((i : ℕ) → i < n → holds i → ⊥) → Playing n words words holds
+none_playing words none = record { long = refl; front = λ j h. refl; node = λ i a b x. absurd (none i b x) }
 
 -- The state of a child of node i that comes no later than that of the other child.
 pub data Chosen (words : List ℕ) (n i x : ℕ) : Type 0 where
-  from-left : x ≡ winner words n (2 * i) → key words n (winner words n (2 * i)) ≤ key words n (winner words n (2 * i + 1)) → Chosen words n i x
-  from-right : x ≡ winner words n (2 * i + 1) → key words n (winner words n (2 * i + 1)) ≤ key words n (winner words n (2 * i)) → Chosen words n i x
+  from_left : x ≡ winner words n (2 * i) → key words n (winner words n (2 * i)) ≤ key words n (winner words n (2 * i + 1)) → Chosen words n i x
+  from_right : x ≡ winner words n (2 * i + 1) → key words n (winner words n (2 * i + 1)) ≤ key words n (winner words n (2 * i)) → Chosen words n i x
 
-pub better-chosen : (words : List ℕ) (n i : ℕ) → Chosen words n i (better words n (winner words n (2 * i)) (winner words n (2 * i + 1)))
-better-chosen words n i = go (ltb (key words n b) (key words n a)) refl
+pub better_chosen : (words : List ℕ) (n i : ℕ) → Chosen words n i (better words n (winner words n (2 * i)) (winner words n (2 * i + 1)))
+better_chosen words n i = go (ltb (key words n b) (key words n a)) refl
   where
     a : ℕ
     a = winner words n (2 * i)
@@ -46,8 +46,8 @@ better-chosen words n i = go (ltb (key words n b) (key words n a)) refl
     go : (t : Bool) → ltb (key words n b) (key words n a) ≡ t → Chosen words n i (better words n a b)
     go true t =
         let l = ltb-true (key words n b) (key words n a) t in
-        from-right (sym (better-other words n a b t)) (omega (arith, l))
-    go false t = from-left (sym (better-first words n a b t)) (ltb-false (key words n b) (key words n a) t)
+        from_right (sym (better_other words n a b t)) (omega (arith, l))
+    go false t = from_left (sym (better_first words n a b t)) (ltb-false (key words n b) (key words n a) t)
 
 -- A node below which all play.
 module _ {n i : ℕ} {before words : List ℕ} {holds : ℕ → Type 0} (p : Playing n before words holds) (some : 0 < i) (inner : i < n) (h : (c : ℕ) → i < c → c < n → holds c) where
@@ -58,7 +58,7 @@ module _ {n i : ℕ} {before words : List ℕ} {holds : ℕ → Type 0} (p : Pla
       go (yes d) = p.node c (omega arith) d (h c l d)
       go (no d) =
           let m : n ≤ c = omega arith in
-          state-plays m b (sym (winner-state words n c m))
+          state_plays m b (sym (winner_state words n c m))
 
   left : Plays n (winner words n) (key words n) (2 * i)
   left = child (2 * i) (omega arith) (omega arith)
@@ -81,7 +81,7 @@ module _ {n i : ℕ} {before words : List ℕ} {holds : ℕ → Type 0} (p : Pla
     names = rw e (stored-node words n i x inner (omega (arith, r.room)))
 
     other : (c : ℕ) → (c ≡ i → ⊥) → Plays n (winner words n) (key words n) c → Plays n (winner after n) (key after n) c
-    other c ne q = plays-on (keeps-node c ne) (λ s h o. keeps-key s h) q
+    other c ne q = plays_on (keeps-node c ne) (λ s h o. keeps-key s h) q
 
     now-left : Plays n (winner after n) (key after n) (2 * i)
     now-left = other (2 * i) (λ z. omega arith) left
@@ -105,8 +105,8 @@ module _ {n i : ℕ} {before words : List ℕ} {holds : ℕ → Type 0} (p : Pla
         right_key = rw at_right (keeps-key (winner words n (2 * i + 1)) right.state)
 
         go : Chosen words n i x → Plays n (winner after n) (key after n) i
-        go (from-left q l) = left-plays some inner now-left now-right (names ∙ q ∙ sym at_left) (omega (arith, left_key, right_key, l))
-        go (from-right q l) = right-plays some inner now-left now-right (names ∙ q ∙ sym at_right) (omega (arith, left_key, right_key, l))
+        go (from_left q l) = left-plays some inner now-left now-right (names ∙ q ∙ sym at_left) (omega (arith, left_key, right_key, l))
+        go (from_right q l) = right-plays some inner now-left now-right (names ∙ q ∙ sym at_right) (omega (arith, left_key, right_key, l))
 
     -- one node more plays
     pub set-playing : {holds' : ℕ → Type 0} → ((c : ℕ) → holds' c → (c ≡ i → ⊥) → holds c) → Playing n before after holds'
@@ -125,27 +125,27 @@ module _ {n i : ℕ} {before words : List ℕ} {holds : ℕ → Type 0} (p : Pla
 abbrev pub Away : ℕ → ℕ → Type 0
 Away node i = Over node i → ⊥
 
-pub away-begin : {n state : ℕ} {words : List ℕ} → Waits words n state → Playing n words words (Away ((n + state) / 2))
-away-begin {n} {state} w =
+pub away_begin : {n state : ℕ} {words : List ℕ} → Waits words n state → Playing n words words (Away ((n + state) / 2))
+away_begin {n} {state} w =
     record {
       long = refl;
       front = λ j h. refl;
-      node = λ i a b away. w.node i a b (λ o. go i b away (over-parent o));
+      node = λ i a b away. w.node i a b (λ o. go i b away (over_parent o));
     }
   where
     go : (i : ℕ) → i < n → Away ((n + state) / 2) i → (i ≡ n + state) ⊎ Over ((n + state) / 2) i → ⊥
     go i b away (inl q) = omega arith
     go i b away (inr o) = away o
 
-pub away-child : {node c : ℕ} → node < c → Away node c
-away-child h o = omega (arith, over-falls o)
+pub away_child : {node c : ℕ} → node < c → Away node c
+away_child h o = omega (arith, over_falls o)
 
-pub away-more : {node : ℕ} (c : ℕ) → Away (node / 2) c → (c ≡ node → ⊥) → Away node c
-away-more {node} c away ne o = go (over-parent o)
+pub away_more : {node : ℕ} (c : ℕ) → Away (node / 2) c → (c ≡ node → ⊥) → Away node c
+away_more {node} c away ne o = go (over_parent o)
   where
     go : (c ≡ node) ⊎ Over (node / 2) c → ⊥
     go (inl q) = ne q
     go (inr p) = away p
 
-pub away-end : (i : ℕ) → 0 < i → Away 0 i
-away-end i h o = omega (arith, over-falls o)
+pub away_end : (i : ℕ) → 0 < i → Away 0 i
+away_end i h o = omega (arith, over_falls o)

@@ -7,10 +7,10 @@ use mathlib.Core.Logic.{◌⊎◌, inl, inr}
 use mathlib.Core.Bool.{true, false}
 use mathlib.Core.List.{List}
 use lib.ListN.{length, get_or, set, length-set}
-use Rattle.state_queue.specs.Inner.Queue.{key, winner, Over, itself, parent, Plays, Roomy, Queue, NearlyPlays, Nearly, Climbs, Climbed, named-already, named-now, other-stays, Played}
+use Rattle.state_queue.specs.Inner.Queue.{key, winner, Over, itself, parent, Plays, Roomy, Queue, NearlyPlays, Nearly, Climbs, Climbed, named_already, named_now, other_stays, Played}
 use Rattle.state_queue.proofs.Keys.{stored-front, stored-key, stored-node, stored_other}
-use Rattle.state_queue.proofs.Tournament.{over-parent, over-trans}
-use Rattle.state_queue.proofs.Playing.{Away, away-more, away-end}
+use Rattle.state_queue.proofs.Tournament.{over_parent, over_trans}
+use Rattle.state_queue.proofs.Playing.{Away, away_more, away_end}
 
 -- The loop's invariant: all nodes play, the state aside; those over it that were passed name no state that comes later than it.
 pub record Raising (n : ℕ) (before words : List ℕ) (state node : ℕ) : Type 0 where
@@ -22,8 +22,8 @@ pub record Raising (n : ℕ) (before words : List ℕ) (state node : ℕ) : Type
   pub nearly : (i : ℕ) → 0 < i → i < n → NearlyPlays n (winner words n) (key words n) state i
   pub passed : (i : ℕ) → 0 < i → i < n → Away node i → Over (n + state) i → key words n (winner words n i) ≤ key words n state
 
-pub raising-begin : {n state : ℕ} {words : List ℕ} → Nearly words n state → Raising n words words state ((n + state) / 2)
-raising-begin {n} {state} {words} w =
+pub raising_begin : {n state : ℕ} {words : List ℕ} → Nearly words n state → Raising n words words state ((n + state) / 2)
+raising_begin {n} {state} {words} w =
     record {
       long = refl;
       front = λ j h. refl;
@@ -31,7 +31,7 @@ raising-begin {n} {state} {words} w =
       inner = omega (arith, w.there);
       way = parent ((n + state) / 2) (n + state) (itself (n + state) refl) refl;
       nearly = w.node;
-      passed = λ i a b away o. absurd (go i b away (over-parent o));
+      passed = λ i a b away o. absurd (go i b away (over_parent o));
     }
   where
     go : (i : ℕ) → i < n → Away ((n + state) / 2) i → (i ≡ n + state) ⊎ Over ((n + state) / 2) i → ⊥
@@ -55,7 +55,7 @@ module _ {n state node : ℕ} {before words : List ℕ} (r : Raising n before wo
       go :
           (i : ℕ) → 0 < i → i < n → Away (node / 2) i → Over (n + state) i → Dec (i ≡ node) → key words n (winner words n i) ≤ key words n state
       go i a b away o (yes q) = rw (q, e) (omega arith)
-      go i a b away o (no q) = r.passed i a b (away-more i away q) o
+      go i a b away o (no q) = r.passed i a b (away_more i away q) o
 
   -- the state comes before the one that the node names
   module _ (roomy : Roomy n words) (some : 0 < node) (l : key words n state < key words n (winner words n node)) where
@@ -68,7 +68,7 @@ module _ {n state node : ℕ} {before words : List ℕ} (r : Raising n before wo
     nearly-set : NearlyPlays n (winner (set words (3 * n + node) state) n) (key (set words (3 * n + node) state) n) state node
     nearly-set =
         record {
-          state-below = omega (arith, names, r.there);
+          state_below = omega (arith, names, r.there);
           below = rw names r.way;
           least = λ s h ne o.
               rw (names, keeps state r.there, keeps s h)
@@ -83,9 +83,9 @@ module _ {n state node : ℕ} {before words : List ℕ} (r : Raising n before wo
     nearly-other i q p =
         let e = stored_other words n node state i q in
         record {
-          state-below = omega (arith, e, p.state-below);
+          state_below = omega (arith, e, p.state_below);
           below = rw e p.below;
-          least = λ s h ne o. rw (e, keeps (winner words n i) p.state-below, keeps s h) (p.least s h ne o);
+          least = λ s h ne o. rw (e, keeps (winner words n i) p.state_below, keeps s h) (p.least s h ne o);
         }
 
     pub raising-set : Raising n before (set words (3 * n + node) state) state (node / 2)
@@ -115,15 +115,15 @@ module _ {n state node : ℕ} {before words : List ℕ} (r : Raising n before wo
             → key (set words (3 * n + node) state) n (winner (set words (3 * n + node) state) n i) ≤ key (set words (3 * n + node) state) n state
         go i a b away o (yes q) = rw (q, names) (omega arith)
         go i a b away o (no q) =
-            rw (stored_other words n node state i q, keeps (winner words n i) (r.nearly i a b).state-below, keeps state r.there)
-            (r.passed i a b (away-more i away q) o)
+            rw (stored_other words n node state i q, keeps (winner words n i) (r.nearly i a b).state_below, keeps state r.there)
+            (r.passed i a b (away_more i away q) o)
 
   -- all play if each node over the state names one that comes no later
   played :
       ((i : ℕ) → 0 < i → i < n → Over (n + state) i → key words n (winner words n i) ≤ key words n state) → Played n before words
   played least =
       record {
-        queue = record { node = λ i a b. record { state = (r.nearly i a b).state-below; below = (r.nearly i a b).below; least = λ s h o. go i a b s h o (ℕ_discrete s state) } };
+        queue = record { node = λ i a b. record { state = (r.nearly i a b).state_below; below = (r.nearly i a b).below; least = λ s h o. go i a b s h o (ℕ_discrete s state) } };
         front = r.front;
       }
     where
@@ -133,7 +133,7 @@ module _ {n state node : ℕ} {before words : List ℕ} (r : Raising n before wo
 
   -- at the top
   pub raised : node ≡ 0 → Played n before words
-  raised z = played (λ i a b o. r.passed i a b (rw z (away-end i a)) o)
+  raised z = played (λ i a b o. r.passed i a b (rw z (away_end i a)) o)
 
   -- the node names another state that comes no later: nothing above changes
   pub raised-here : 0 < node → (winner words n node ≡ state → ⊥) → key words n (winner words n node) ≤ key words n state → Played n before words
@@ -151,27 +151,27 @@ module _ {n state node : ℕ} {before words : List ℕ} (r : Raising n before wo
           r.passed i a b
           (λ p.
           omega
-          (arith, l, h, (r.nearly i a b).least (winner words n node) (r.nearly node some r.inner).state-below ne (over-trans (r.nearly node some r.inner).below p)))
+          (arith, l, h, (r.nearly i a b).least (winner words n node) (r.nearly node some r.inner).state_below ne (over_trans (r.nearly node some r.inner).below p)))
           o
 
 -- one node of the loop
-pub raising-climbs : {n state node : ℕ} {before words : List ℕ} → Raising n before words state node → 0 < node → Climbs words n state node
-raising-climbs r some = record { there = r.there; inner = r.inner; named = (r.nearly _ some r.inner).state-below }
+pub raising_climbs : {n state node : ℕ} {before words : List ℕ} → Raising n before words state node → 0 < node → Climbs words n state node
+raising_climbs r some = record { there = r.there; inner = r.inner; named = (r.nearly _ some r.inner).state_below }
 
-pub raising-climbed :
+pub raising_climbed :
     {n state node : ℕ} {before words after : List ℕ}
     → Raising n before words state node
     → Roomy n words
     → 0 < node
     → Climbed n state node words after true
     → Raising n before after state (node / 2)
-raising-climbed r roomy some (named-already e q) = rw q (raising-on r e)
-raising-climbed r roomy some (named-now l q) = rw q (raising-set r roomy some l)
+raising_climbed r roomy some (named_already e q) = rw q (raising-on r e)
+raising_climbed r roomy some (named_now l q) = rw q (raising-set r roomy some l)
 
-pub raising-stopped :
+pub raising_stopped :
     {n state node : ℕ} {before words after : List ℕ}
     → Raising n before words state node
     → 0 < node
     → Climbed n state node words after false
     → Played n before after
-raising-stopped r some (other-stays ne l q) = rw q (raised-here r some ne l)
+raising_stopped r some (other_stays ne l q) = rw q (raised-here r some ne l)

@@ -7,28 +7,28 @@ use mathlib.Core.Logic.{◌⊎◌, inl, inr}
 use Rattle.state_queue.specs.Inner.Queue.{Over, itself, parent, Plays, NearlyPlays}
 
 -- Numbers fall on the way up.
-pub over-falls : {m i : ℕ} → Over m i → i ≤ m
-over-falls (itself i e) = omega arith
-over-falls (parent i j o e) = omega (arith, over-falls o)
+pub over_falls : {m i : ℕ} → Over m i → i ≤ m
+over_falls (itself i e) = omega arith
+over_falls (parent i j o e) = omega (arith, over_falls o)
 
 -- Over a state there is no other state.
-pub over-state : {n m i : ℕ} → Over m i → m < 2 * n → n ≤ i → i ≡ m
-over-state (itself i e) h l = e
-over-state (parent i j o e) h l = absurd (omega (arith, over-falls o))
+pub over_state : {n m i : ℕ} → Over m i → m < 2 * n → n ≤ i → i ≡ m
+over_state (itself i e) h l = e
+over_state (parent i j o e) h l = absurd (omega (arith, over_falls o))
 
 -- The way up goes by the parent.
-pub over-parent : {m i : ℕ} → Over m i → (i ≡ m) ⊎ Over (m / 2) i
-over-parent (itself i e) = inl e
-over-parent {m} (parent i j o e) = go (over-parent o)
+pub over_parent : {m i : ℕ} → Over m i → (i ≡ m) ⊎ Over (m / 2) i
+over_parent (itself i e) = inl e
+over_parent {m} (parent i j o e) = go (over_parent o)
   where
     go : (j ≡ m) ⊎ Over (m / 2) j → (i ≡ m) ⊎ Over (m / 2) i
     go (inl q) = inr (itself i (e ∙ rw q))
     go (inr p) = inr (parent i j p e)
 
 -- What stands over a node stands over one of its children, or the node is at the bottom.
-pub over-child : {m i : ℕ} → Over m i → i < m → Over m (2 * i) ⊎ Over m (2 * i + 1)
-over-child (itself i e) h = absurd (omega arith)
-over-child {m} (parent i j o e) h = go (ℕ_discrete j (2 * i))
+pub over_child : {m i : ℕ} → Over m i → i < m → Over m (2 * i) ⊎ Over m (2 * i + 1)
+over_child (itself i e) h = absurd (omega arith)
+over_child {m} (parent i j o e) h = go (ℕ_discrete j (2 * i))
   where
     go : Dec (j ≡ 2 * i) → Over m (2 * i) ⊎ Over m (2 * i + 1)
     go (yes q) = inl (rw (← q) o)
@@ -36,31 +36,31 @@ over-child {m} (parent i j o e) h = go (ℕ_discrete j (2 * i))
         let p : j ≡ 2 * i + 1 = omega arith in
         inr (rw (← p) o)
 
-pub over-trans : {m j i : ℕ} → Over m j → Over j i → Over m i
-over-trans {m} o (itself i e) = rw e o
-over-trans o (parent i k p e) = parent i k (over-trans o p) e
+pub over_trans : {m j i : ℕ} → Over m j → Over j i → Over m i
+over_trans {m} o (itself i e) = rw e o
+over_trans o (parent i k p e) = parent i k (over_trans o p) e
 
-pub over-left : {m i : ℕ} → Over m (2 * i) → Over m i
-over-left {m} {i} o = parent i (2 * i) o (omega arith)
+pub over_left : {m i : ℕ} → Over m (2 * i) → Over m i
+over_left {m} {i} o = parent i (2 * i) o (omega arith)
 
-pub over-right : {m i : ℕ} → Over m (2 * i + 1) → Over m i
-over-right {m} {i} o = parent i (2 * i + 1) o (omega arith)
+pub over_right : {m i : ℕ} → Over m (2 * i + 1) → Over m i
+over_right {m} {i} o = parent i (2 * i + 1) o (omega arith)
 
 -- A state plays for itself.
-pub state-plays : {n i : ℕ} {first key : ℕ → ℕ} → n ≤ i → i < 2 * n → first i ≡ i - n → Plays n first key i
-state-plays {n} {i} {first} {key} l h e =
+pub state_plays : {n i : ℕ} {first key : ℕ → ℕ} → n ≤ i → i < 2 * n → first i ≡ i - n → Plays n first key i
+state_plays {n} {i} {first} {key} l h e =
     record {
       state = omega arith;
       below = itself i (omega arith);
       least = λ s b o.
-          let q : first i ≡ s = omega (arith, over-state o (omega arith) l) in
+          let q : first i ≡ s = omega (arith, over_state o (omega arith) l) in
           rw q (omega arith);
     }
 
 -- A node plays that names the better of its children's states.
 module _ {n i : ℕ} {first key : ℕ → ℕ} (some : 0 < i) (inner : i < n) (left : Plays n first key (2 * i)) (right : Plays n first key (2 * i + 1)) where
   both-least : (x s : ℕ) → key x ≤ key (first (2 * i)) → key x ≤ key (first (2 * i + 1)) → s < n → Over (n + s) i → key x ≤ key s
-  both-least x s a b h o = go (over-child o (omega arith))
+  both-least x s a b h o = go (over_child o (omega arith))
     where
       go : Over (n + s) (2 * i) ⊎ Over (n + s) (2 * i + 1) → key x ≤ key s
       go (inl p) = omega (arith, left.least s h p)
@@ -70,7 +70,7 @@ module _ {n i : ℕ} {first key : ℕ → ℕ} (some : 0 < i) (inner : i < n) (l
   left-plays e l =
       record {
         state = omega (arith, left.state);
-        below = rw e (over-left left.below);
+        below = rw e (over_left left.below);
         least = λ s h o. rw e (both-least (first (2 * i)) s (omega arith) l h o);
       }
 
@@ -78,18 +78,18 @@ module _ {n i : ℕ} {first key : ℕ → ℕ} (some : 0 < i) (inner : i < n) (l
   right-plays e l =
       record {
         state = omega (arith, right.state);
-        below = rw e (over-right right.below);
+        below = rw e (over_right right.below);
         least = λ s h o. rw e (both-least (first (2 * i + 1)) s l (omega arith) h o);
       }
 
 -- A node that names the same state as before, all keys below it being as before, plays as before.
-pub plays-on :
+pub plays_on :
     {n i : ℕ} {first key first' key' : ℕ → ℕ}
     → first' i ≡ first i
     → ((s : ℕ) → s < n → Over (n + s) i → key' s ≡ key s)
     → Plays n first key i
     → Plays n first' key' i
-plays-on {n} {i} {first} {key} {first'} {key'} e k p =
+plays_on {n} {i} {first} {key} {first'} {key'} e k p =
     record {
       state = omega (arith, p.state);
       below = rw e p.below;
@@ -100,12 +100,12 @@ plays-on {n} {i} {first} {key} {first'} {key'} e k p =
 -- The key of one state changes. Nodes that do not stand over it play on; if it falls, all nodes play, that state aside.
 module _ {n i state : ℕ} {first key first' key' : ℕ → ℕ} (e : first' i ≡ first i) (k : (s : ℕ) → s < n → (s ≡ state → ⊥) → key' s ≡ key s) (p : Plays n first key i) where
   pub waits-on : (Over (n + state) i → ⊥) → Plays n first' key' i
-  waits-on away = plays-on e (λ s h o. k s h (λ q. away (rw (← q) o))) p
+  waits-on away = plays_on e (λ s h o. k s h (λ q. away (rw (← q) o))) p
 
   pub nearly-plays : key' state ≤ key state → NearlyPlays n first' key' state i
   nearly-plays f =
       record {
-        state-below = omega (arith, p.state);
+        state_below = omega (arith, p.state);
         below = rw e p.below;
         least = λ s h ne o. go s h ne o (ℕ_discrete (first i) state);
       }

@@ -1,4 +1,6 @@
 // The queue of states in which the search for the cheapest plan takes them.
+#![tactic(auto)]
+
 mod nodes;
 
 pub use nodes::{is_queued, lower, raise, set_nodes, winner};

@@ -1,7 +1,7 @@
 // A tournament over n states. Words 0..n have their costs and one, n..2n their steps, 3n..4n its nodes. Node i of 1..n names the state that comes
 // first below it; its children are nodes 2i and 2i + 1, and nodes n..2n are the states themselves.
 ghost use Rattle.std.specs.Prelude.{◌+◌, ◌*◌, ◌≤◌, ◌<◌, ◌≡◌, length, set};
-ghost use Rattle.state_queue.specs.Inner.Queue.{queue-cost, key, winner, better, queued, Roomy, Sets, Siblings, Waits, Nearly, Climbs, Climbed, Played};
+ghost use Rattle.state_queue.specs.Inner.Queue.{queue_cost, key, winner, better, queued, Roomy, Sets, Siblings, Waits, Nearly, Climbs, Climbed, Played};
 
 use crate::NOT_REACHED;
 
@@ -10,7 +10,7 @@ const ABOVE_STEPS: u64 = 4294967296;
 
 // The cost by which a state is queued: one that was taken comes last, one that was not reached before it. Constant time, as are all up to the node.
 fn queue_cost(word: u32) -> u32
-    ensures { result ≡ queue-cost word }
+    ensures { result ≡ queue_cost word }
 {
     if word == 0 { 4294967295 } else { word - 1 }
 }

@@ -10,54 +10,54 @@ use borrow.Author.Tests.{eq-eqb, ne_eqb, eqb-true, le-leb, lt-leb, leb-true}
 use Rattle.task.specs.Bounded.{every}
 use Rattle.task.specs.Table.{Lent}
 use Rattle.task.specs.Check.{refusal, unless}
-use Rattle.task.proofs.Bounded.{and_left, and_right, every-at}
+use Rattle.task.proofs.Bounded.{and_left, and_right, every_at}
 use Rattle.task.proofs.Held.{length-initial, length-formulas, length-effects, length-operators, formula-held, effect-held, operator-held, goal-held}
 use Rattle.task.proofs.Kept.{kept-rules}
 use Rattle.operator_step.specs.Inner.Steps.{TablesReady, Ready}
-use Rattle.stepper.specs.Stepped.{state-kept, step-scratch-kept, first_of, early-refusal}
+use Rattle.stepper.specs.Stepped.{state_kept, step_scratch_kept, first_of, early_refusal}
 
 pub first : (n rest : ℕ) → (n ≡ 0 → ⊥) → n ≡ first_of n rest
 first zero rest d = absurd (d refl)
 first (suc n) rest d = refl
 
-pub first-none : (n rest : ℕ) → first_of n rest ≡ 0 → n ≡ 0
-first-none zero rest e = refl
-first-none (suc n) rest e = e
+pub first_none : (n rest : ℕ) → first_of n rest ≡ 0 → n ≡ 0
+first_none zero rest e = refl
+first_none (suc n) rest e = e
 
-pub rest-none : (n rest : ℕ) → first_of n rest ≡ 0 → rest ≡ 0
-rest-none zero rest e = e
-rest-none (suc n) rest e = absurd (omega arith)
+pub rest_none : (n rest : ℕ) → first_of n rest ≡ 0 → rest ≡ 0
+rest_none zero rest e = e
+rest_none (suc n) rest e = absurd (omega arith)
 
-pub unless-kept : (b : Bool) (n rest : ℕ) → (n ≡ 0 → ⊥) → unless b n rest ≡ 0 → b ≡ true
-unless-kept true n rest d e = refl
-unless-kept false n rest d e = absurd (d e)
+pub unless_kept : (b : Bool) (n rest : ℕ) → (n ≡ 0 → ⊥) → unless b n rest ≡ 0 → b ≡ true
+unless_kept true n rest d e = refl
+unless_kept false n rest d e = absurd (d e)
 
-unless-rest : (b : Bool) (n rest : ℕ) → (n ≡ 0 → ⊥) → unless b n rest ≡ 0 → rest ≡ 0
-unless-rest true n rest d e = e
-unless-rest false n rest d e = absurd (d e)
+unless_rest : (b : Bool) (n rest : ℕ) → (n ≡ 0 → ⊥) → unless b n rest ≡ 0 → rest ≡ 0
+unless_rest true n rest d e = e
+unless_rest false n rest d e = absurd (d e)
 
 -- the ways out of `refused_early`
 module _ (l : Lent) (s scratch : List ℕ) (n : ℕ) (checked : n ≡ refusal l) where
-  pub refused-tables : (n ≡ 0 → ⊥) → n ≡ early-refusal l s scratch
-  unfolding early-refusal
+  pub refused-tables : (n ≡ 0 → ⊥) → n ≡ early_refusal l s scratch
+  unfolding early_refusal
   refused-tables d = rw (← checked)
-      (first n (unless (state-kept l.head.variables s) 16 (unless (step-scratch-kept l.head scratch) 14 0)) d)
+      (first n (unless (state_kept l.head.variables s) 16 (unless (step_scratch_kept l.head scratch) 14 0)) d)
 
   module _ (passed : n ≡ 0) where
     none : refusal l ≡ 0
     none = sym checked ∙ passed
 
-    pub refused-length : (length s ≡ l.head.variables → ⊥) → 16 ≡ early-refusal l s scratch
-    unfolding early-refusal state-kept
+    pub refused-length : (length s ≡ l.head.variables → ⊥) → 16 ≡ early_refusal l s scratch
+    unfolding early_refusal state_kept
     refused-length d = rw (none, ne_eqb (length s) l.head.variables d)
 
     module _ (size : length s ≡ l.head.variables) (told : Bool) (bits : told ≡ every (length s) (λ v. leb (get_or s v 0) 1)) where
-      pub refused-bits : told ≡ false → 16 ≡ early-refusal l s scratch
-      unfolding early-refusal state-kept
+      pub refused-bits : told ≡ false → 16 ≡ early_refusal l s scratch
+      unfolding early_refusal state_kept
       refused-bits e = rw (none, eq-eqb (length s) l.head.variables size, ← bits, e)
 
-      pub refused-room : told ≡ true → length scratch < l.head.formulas + l.head.effects → 14 ≡ early-refusal l s scratch
-      unfolding early-refusal state-kept step-scratch-kept
+      pub refused-room : told ≡ true → length scratch < l.head.formulas + l.head.effects → 14 ≡ early_refusal l s scratch
+      unfolding early_refusal state_kept step_scratch_kept
       refused-room e h =
           rw (
             none,
@@ -67,9 +67,9 @@ module _ (l : Lent) (s scratch : List ℕ) (n : ℕ) (checked : n ≡ refusal l)
             lt-leb (l.head.formulas + l.head.effects) (length scratch) h,
           )
 
-      pub not-refused : told ≡ true → l.head.formulas + l.head.effects ≤ length scratch → 0 ≡ early-refusal l s scratch
-      unfolding early-refusal state-kept step-scratch-kept
-      not-refused e h =
+      pub not_refused : told ≡ true → l.head.formulas + l.head.effects ≤ length scratch → 0 ≡ early_refusal l s scratch
+      unfolding early_refusal state_kept step_scratch_kept
+      not_refused e h =
           rw (
             none,
             eq-eqb (length s) l.head.variables size,
@@ -85,9 +85,9 @@ module _ (l : Lent) (passed : refusal l ≡ 0) where
       let long = (kept-rules l passed).0 in
       let rules = (kept-rules l passed).1 in
       record {
-        formulas-there = long.formulas;
-        effects-there = long.effects;
-        operators-there = long.operators;
+        formulas_there = long.formulas;
+        effects_there = long.effects;
+        operators_there = long.operators;
         formula =
             λ i h. rw (formula-held l i h, length-initial l long) at (rules.formula i (rw (length-formulas l) h));
         effect =
@@ -97,25 +97,25 @@ module _ (l : Lent) (passed : refusal l ≡ 0) where
             λ i h.
             rw (operator-held l i h, length-formulas l, length-effects l) at
             (rules.operator i (rw (length-operators l) h));
-        goal = rw (goal-held l, length-formulas l) at rules.goal-is-formula;
+        goal = rw (goal-held l, length-formulas l) at rules.goal_is_formula;
       }
 
-module _ (l : Lent) (s scratch : List ℕ) (passed : early-refusal l s scratch ≡ 0) where
+module _ (l : Lent) (s scratch : List ℕ) (passed : early_refusal l s scratch ≡ 0) where
   later : ℕ
-  later = unless (state-kept l.head.variables s) 16 (unless (step-scratch-kept l.head scratch) 14 0)
+  later = unless (state_kept l.head.variables s) 16 (unless (step_scratch_kept l.head scratch) 14 0)
 
   tables-passed : refusal l ≡ 0
-  unfolding early-refusal later
-  tables-passed = first-none (refusal l) later passed
+  unfolding early_refusal later
+  tables-passed = first_none (refusal l) later passed
 
   pub ready : Ready l.head l.formulas l.effects l.operators s scratch
-  unfolding early-refusal later state-kept step-scratch-kept
+  unfolding early_refusal later state_kept step_scratch_kept
   ready =
-      let rest = rest-none (refusal l) later passed in
-      let room = unless (step-scratch-kept l.head scratch) 14 0 in
+      let rest = rest_none (refusal l) later passed in
+      let room = unless (step_scratch_kept l.head scratch) 14 0 in
       let size = eqb (length s) l.head.variables in
       let bits = every (length s) (λ v. leb (get_or s v 0) 1) in
-      let both : (size && bits) ≡ true = unless-kept (state-kept l.head.variables s) 16 room (omega arith) rest in
+      let both : (size && bits) ≡ true = unless_kept (state_kept l.head.variables s) 16 room (omega arith) rest in
       record {
         tables = tables-ready l tables-passed;
         state =
@@ -124,10 +124,10 @@ module _ (l : Lent) (s scratch : List ℕ) (passed : early-refusal l s scratch �
               bits =
                   λ v h.
                   leb-true (get_or s v 0) 1
-                  (every-at (length s) (λ w. leb (get_or s w 0) 1) (and_right size bits both) v h);
+                  (every_at (length s) (λ w. leb (get_or s w 0) 1) (and_right size bits both) v h);
             };
         room =
             leb-true (l.head.formulas + l.head.effects) (length scratch)
-            (unless-kept (step-scratch-kept l.head scratch) 14 0 (omega arith)
-            (unless-rest (state-kept l.head.variables s) 16 room (omega arith) rest));
+            (unless_kept (step_scratch_kept l.head scratch) 14 0 (omega arith)
+            (unless_rest (state_kept l.head.variables s) 16 room (omega arith) rest));
       }

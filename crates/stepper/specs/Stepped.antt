@@ -2,15 +2,15 @@
 -- exit, from the inputs alone.
 use Rattle.std.specs.Prelude.{ℕ, zero, suc, ◌+◌, ◌≡◌, Bool, false, List, [], ◌∷◌, length, replicate, leb}
 use Rattle.task.specs.declared.Head.{Head}
-use Rattle.task.specs.Table.{Lent, task-of}
-unfoldable pub use Rattle.task.specs.Check.{state-kept}
+use Rattle.task.specs.Table.{Lent, task_of}
+unfoldable pub use Rattle.task.specs.Check.{state_kept}
 use Rattle.task.specs.Check.{refusal, unless}
-use Rattle.task.specs.Run.{Run, Stop, ended, stopped, plain-run}
+use Rattle.task.specs.Run.{Run, Stop, ended, stopped, plain_run}
 use Rattle.stepper.specs.declared.StepOutcome.{StepOutcome}
 
 -- 14: F + E bytes, of any content. One byte fewer is refused even if the operator's own rows would fit.
-unfoldable pub step-scratch-kept : Head → List ℕ → Bool
-step-scratch-kept h scratch = leb (h.formulas + h.effects) (length scratch)
+unfoldable pub step_scratch_kept : Head → List ℕ → Bool
+step_scratch_kept h scratch = leb (h.formulas + h.effects) (length scratch)
 
 -- the first number, unless it is 0
 abbrev pub first_of : ℕ → ℕ → ℕ
@@ -18,9 +18,9 @@ first_of zero rest = rest
 first_of (suc n) rest = suc n
 
 -- what refuses a step before its operator is looked at: the tables' own, 16, 14. A wrong state with too short a scratch is 16.
-unfoldable pub early-refusal : Lent → (state scratch : List ℕ) → ℕ
-early-refusal l s scratch =
-    first_of (refusal l) (unless (state-kept l.head.variables s) 16 (unless (step-scratch-kept l.head scratch) 14 0))
+unfoldable pub early_refusal : Lent → (state scratch : List ℕ) → ℕ
+early_refusal l s scratch =
+    first_of (refusal l) (unless (state_kept l.head.variables s) 16 (unless (step_scratch_kept l.head scratch) 14 0))
 
 -- What a call of `step` leaves.
 pub record Stepped : Type 0 where
@@ -33,8 +33,8 @@ abbrev pub cleared : List ℕ → List ℕ
 cleared scratch = replicate (length scratch) 0
 
 -- a refusal: 0 steps, cost 0, no goal, and the state as it was
-unfoldable pub step-refused : ℕ → (state scratch : List ℕ) → Stepped
-step-refused number s scratch =
+unfoldable pub step_refused : ℕ → (state scratch : List ℕ) → Stepped
+step_refused number s scratch =
     record {
       answer = record { refusal = number; steps = 0; cost = 0; goal = false };
       state = s;
@@ -42,24 +42,24 @@ step-refused number s scratch =
     }
 
 -- a step is the plain run of its one number; its 17 and 18 are refusals, so a step that is not applicable in a goal state tells no goal
-unfoldable pub step-told : Stop → Run → (state scratch : List ℕ) → Stepped
-step-told ended r s scratch =
+unfoldable pub step_told : Stop → Run → (state scratch : List ℕ) → Stepped
+step_told ended r s scratch =
     record {
       answer = record { refusal = 0; steps = r.steps; cost = r.cost; goal = r.goal };
       state = r.state;
       scratch = cleared scratch;
     }
-step-told (stopped number) r s scratch = step-refused number s scratch
+step_told (stopped number) r s scratch = step_refused number s scratch
 
 -- the outcome of `step`, by its early refusal
 unfoldable pub step_by : ℕ → Lent → (state : List ℕ) → ℕ → (scratch : List ℕ) → Stepped
 step_by zero l s o scratch =
-    let r = plain-run (task-of l) s (o ∷ []) in
-    step-told r.stop r s scratch
-step_by (suc n) l s o scratch = step-refused (suc n) s scratch
+    let r = plain_run (task_of l) s (o ∷ []) in
+    step_told r.stop r s scratch
+step_by (suc n) l s o scratch = step_refused (suc n) s scratch
 
 unfoldable pub stepped : Lent → (state : List ℕ) → ℕ → (scratch : List ℕ) → Stepped
-stepped l s o scratch = step_by (early-refusal l s scratch) l s o scratch
+stepped l s o scratch = step_by (early_refusal l s scratch) l s o scratch
 
 -- What the contract of `step` says: the answer, the state and the scratch at exit are the definition's.
 pub record StepGives (w : Stepped) (r : StepOutcome) (after rest : List ℕ) : Type 0 where

@@ -1,7 +1,7 @@
 // What refuses a step before its operator is looked at.
 ghost use Rattle.std.specs.Prelude.{◌≡◌};
 ghost use Rattle.task.specs.Table.{lent};
-ghost use Rattle.stepper.specs.Stepped.{early-refusal};
+ghost use Rattle.stepper.specs.Stepped.{early_refusal};
 
 use task::Head;
 use task::check::{bits, check};
@@ -17,7 +17,7 @@ pub fn refused_early(
     state: &[u8],
     scratch: &[u8],
 ) -> u16
-    ensures { result ≡ early-refusal (lent head initial.now twins.now formulas.now effects.now operators.now) state.now scratch.now }
+    ensures { result ≡ early_refusal (lent head initial.now twins.now formulas.now effects.now operators.now) state.now scratch.now }
 {
     let number = check(head, initial, twins, formulas, effects, operators);
     if number != 0 {

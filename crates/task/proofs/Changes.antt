@@ -12,14 +12,14 @@ use lib.ListN.{length, get_or, set, length-set}
 use lib.Seq.{get_or-set_same, get_or-set_other, ext_get_or}
 use lib.Dec.{eqb}
 use borrow.Author.Tests.{eqb-true, eq-eqb, ne_eqb}
-use Rattle.task.specs.Table.{Row, EffectKind, empty-kind, set-kind, clear-kind, both-kind, under-kind, unknown-effect, effect-kind}
+use Rattle.task.specs.Table.{Row, EffectKind, empty_kind, set_kind, clear_kind, both_kind, under_kind, unknown_effect, effect_kind}
 use Rattle.task.specs.Rules.{no_row}
 use Rattle.task.specs.Semantics.{Atom, sets, clears, effcond, value_after, apply}
 use Rattle.task.specs.Tree.{effect_of}
 use Rattle.task.proofs.Bounded.{and_left, and_right, and_both, length-upto, getD-upto}
 use Rattle.task.specs.Inner.Rows.{EffectsDown}
 use Rattle.task.specs.Inner.Values.{told, bit}
-use Rattle.task.proofs.Marks.{or_left, or_right, or_cases, kind-is, row_is, Marked, Found, marked-in, effcond-marked}
+use Rattle.task.proofs.Marks.{or_left, or_right, or_cases, kind_is, row_is, Marked, Found, marked-in, effcond-marked}
 
 -- one of the marked rows below n is the atom
 unfoldable pub acted : (marks : List ℕ) → List Row → Atom → ℕ → Bool
@@ -27,75 +27,75 @@ acted marks effects l zero = false
 acted marks effects l (suc n) = acted marks effects l n || (told marks n && row_is l (get_or effects n no_row))
 
 -- sets, or clears, by polarity
-unfoldable pub atom-of : Bool → ℕ → Atom
-atom-of true v = sets v
-atom-of false v = clears v
+unfoldable pub atom_of : Bool → ℕ → Atom
+atom_of true v = sets v
+atom_of false v = clears v
 
-unfoldable pub kind-acts : Bool → EffectKind → Bool
-kind-acts p empty-kind = false
-kind-acts p set-kind = p
-kind-acts p clear-kind = cond p false true
-kind-acts p both-kind = false
-kind-acts p under-kind = false
-kind-acts p unknown-effect = false
+unfoldable pub kind_acts : Bool → EffectKind → Bool
+kind_acts p empty_kind = false
+kind_acts p set_kind = p
+kind_acts p clear_kind = cond p false true
+kind_acts p both_kind = false
+kind_acts p under_kind = false
+kind_acts p unknown_effect = false
 
 -- row i, if it is marked and an atom of this polarity, is stored into the state
-unfoldable pub row-changes : Bool → (marks : List ℕ) → Row → ℕ → List ℕ → List ℕ
-row-changes p marks r i state = cond (told marks i && kind-acts p (effect-kind r.kind)) (set state r.a (bit p)) state
+unfoldable pub row_changes : Bool → (marks : List ℕ) → Row → ℕ → List ℕ → List ℕ
+row_changes p marks r i state = cond (told marks i && kind_acts p (effect_kind r.kind)) (set state r.a (bit p)) state
 
 -- so are the rows below n, the lowest first
 unfoldable pub changes : Bool → (marks : List ℕ) → List Row → ℕ → List ℕ → List ℕ
 changes p marks effects zero state = state
 changes p marks effects (suc n) state =
-    row-changes p marks (get_or effects n no_row) n (changes p marks effects n state)
+    row_changes p marks (get_or effects n no_row) n (changes p marks effects n state)
 
 -- one more row, for a loop that counts by `+ 1`
-pub changes-none : (p : Bool) (marks : List ℕ) (effects : List Row) (state : List ℕ) → changes p marks effects 0 state ≡ state
+pub changes_none : (p : Bool) (marks : List ℕ) (effects : List Row) (state : List ℕ) → changes p marks effects 0 state ≡ state
 unfolding changes
-changes-none p marks effects state = refl
+changes_none p marks effects state = refl
 
-pub changes-more :
+pub changes_more :
     (p : Bool) (marks : List ℕ) (effects : List Row) (n : ℕ) (state : List ℕ)
     → changes p marks effects (n + 1) state
-    ≡ row-changes p marks (get_or effects n no_row) n (changes p marks effects n state)
+    ≡ row_changes p marks (get_or effects n no_row) n (changes p marks effects n state)
 unfolding changes
-changes-more p marks effects n state = rw (add-one n)
+changes_more p marks effects n state = rw (add-one n)
 
-pub length-row-changes :
+pub length_row_changes :
     (p : Bool) (marks : List ℕ) (r : Row) (i : ℕ) (state : List ℕ)
-    → length (row-changes p marks r i state) ≡ length state
-unfolding row-changes
-length-row-changes p marks r i state = go (told marks i && kind-acts p (effect-kind r.kind))
+    → length (row_changes p marks r i state) ≡ length state
+unfolding row_changes
+length_row_changes p marks r i state = go (told marks i && kind_acts p (effect_kind r.kind))
   where
     go : (t : Bool) → length (cond t (set state r.a (bit p)) state) ≡ length state
     go true = length-set state r.a (bit p)
     go false = refl
 
-pub length-changes :
+pub length_changes :
     (p : Bool) (marks : List ℕ) (effects : List Row) (n : ℕ) (state : List ℕ)
     → length (changes p marks effects n state) ≡ length state
 unfolding changes
-length-changes p marks effects zero state = refl
-length-changes p marks effects (suc n) state =
-    length-row-changes p marks (get_or effects n no_row) n (changes p marks effects n state)
-    ∙ length-changes p marks effects n state
+length_changes p marks effects zero state = refl
+length_changes p marks effects (suc n) state =
+    length_row_changes p marks (get_or effects n no_row) n (changes p marks effects n state)
+    ∙ length_changes p marks effects n state
 
 -- a row is the atom of this polarity and variable exactly if its kind has the polarity and it names the variable
-row-is-atom :
-    (p : Bool) (v : ℕ) (k : EffectKind) (a : ℕ) → kind-is (atom-of p v) k a ≡ (kind-acts p k && eqb v a)
-unfolding kind-is atom-of kind-acts
-row-is-atom true v empty-kind a = refl
-row-is-atom true v set-kind a = refl
-row-is-atom true v clear-kind a = refl
-row-is-atom true v both-kind a = refl
-row-is-atom true v under-kind a = refl
-row-is-atom true v unknown-effect a = refl
-row-is-atom false v empty-kind a = refl
-row-is-atom false v set-kind a = refl
-row-is-atom false v clear-kind a = refl
-row-is-atom false v both-kind a = refl
-row-is-atom false v under-kind a = refl
-row-is-atom false v unknown-effect a = refl
+row_is_atom :
+    (p : Bool) (v : ℕ) (k : EffectKind) (a : ℕ) → kind_is (atom_of p v) k a ≡ (kind_acts p k && eqb v a)
+unfolding kind_is atom_of kind_acts
+row_is_atom true v empty_kind a = refl
+row_is_atom true v set_kind a = refl
+row_is_atom true v clear_kind a = refl
+row_is_atom true v both_kind a = refl
+row_is_atom true v under_kind a = refl
+row_is_atom true v unknown_effect a = refl
+row_is_atom false v empty_kind a = refl
+row_is_atom false v set_kind a = refl
+row_is_atom false v clear_kind a = refl
+row_is_atom false v both_kind a = refl
+row_is_atom false v under_kind a = refl
+row_is_atom false v unknown_effect a = refl
 
 -- one row's store, at variable v
 stored_at :
@@ -113,19 +113,19 @@ stored_at true true z p v a state old h e = go (ℕ_discrete v a)
         (ap (λ (x : ℕ). get_or (set state x (bit p)) v 0) (sym q) ∙ get_or-set_same state v (bit p) 0 h)
     go (no m) = rw (ne_eqb v a m, or-false z) (get_or-set_other state a v (bit p) 0 m ∙ e)
 
-pub change-at :
+pub change_at :
     (p : Bool) (marks : List ℕ) (effects : List Row) (n : ℕ) (state : List ℕ) (v : ℕ)
     → v < length state
     → get_or (changes p marks effects n state) v 0
-    ≡ cond (acted marks effects (atom-of p v) n) (bit p) (get_or state v 0)
-unfolding changes row-changes acted row_is
-change-at p marks effects zero state v h = refl
-change-at p marks effects (suc n) state v h =
+    ≡ cond (acted marks effects (atom_of p v) n) (bit p) (get_or state v 0)
+unfolding changes row_changes acted row_is
+change_at p marks effects zero state v h = refl
+change_at p marks effects (suc n) state v h =
     let r = get_or effects n no_row in
-    rw (row-is-atom p v (effect-kind r.kind) r.a)
-    (stored_at (told marks n) (kind-acts p (effect-kind r.kind)) (acted marks effects (atom-of p v) n) p v r.a
-    (changes p marks effects n state) (get_or state v 0) (rw (length-changes p marks effects n state) h)
-    (change-at p marks effects n state v h))
+    rw (row_is_atom p v (effect_kind r.kind) r.a)
+    (stored_at (told marks n) (kind_acts p (effect_kind r.kind)) (acted marks effects (atom_of p v) n) p v r.a
+    (changes p marks effects n state) (get_or state v 0) (rw (length_changes p marks effects n state) h)
+    (change_at p marks effects n state v h))
 
 -- Two tests that pass together are equal.
 same_test : (a b : Bool) → (a ≡ true → b ≡ true) → (b ≡ true → a ≡ true) → a ≡ b
@@ -192,13 +192,13 @@ module _ (s : List ℕ) (formulas effects : List Row) (root v f : ℕ) (down : E
       → let n = length effects in
       get_or (changes true marks effects n (changes false marks effects n s)) w 0
       ≡ value_after s (effect_of formulas effects root) w
-  unfolding value_after atom-of bit
+  unfolding value_after atom_of bit
   value-changed w b =
       let n = length effects in
       rw (
-        change-at true marks effects n (changes false marks effects n s) w
-            (rw (length-changes false marks effects n s) b),
-        change-at false marks effects n s w b,
+        change_at true marks effects n (changes false marks effects n s) w
+            (rw (length_changes false marks effects n s) b),
+        change_at false marks effects n s w b,
         acted-agrees (sets w),
         acted-agrees (clears w),
       )
@@ -213,7 +213,7 @@ module _ (s : List ℕ) (formulas effects : List Row) (root v f : ℕ) (down : E
       let e = effect_of formulas effects root in
       let cleared = changes false marks effects n s in
       let long : length (changes true marks effects n cleared) ≡ length s =
-      length-changes true marks effects n cleared ∙ length-changes false marks effects n s in
+      length_changes true marks effects n cleared ∙ length_changes false marks effects n s in
       ext_get_or 0 (changes true marks effects n cleared) (apply s e)
       (long ∙ sym (length-upto (length s) (value_after s e)))
       (λ w h.

@@ -13,8 +13,8 @@ pub record Cleared (table now : List ℕ) (i : ℕ) : Type 0 where
   pub zeros : now ≡ replicate i 0 ++ drop i table
 
 module _ (table : List ℕ) where
-  pub cleared-none : Cleared table table 0
-  cleared-none = record { bound = omega arith; same = refl; zeros = fill_none table 0 }
+  pub cleared_none : Cleared table table 0
+  cleared_none = record { bound = omega arith; same = refl; zeros = fill_none table 0 }
 
   pub cleared_more : (now : List ℕ) (i : ℕ) → Cleared table now i → i < length now → Cleared table (set now i 0) (i + 1)
   cleared_more now i c h =

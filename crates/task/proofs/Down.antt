@@ -7,7 +7,7 @@ use mathlib.Core.List.{List, [], ◌∷◌, ◌++◌}
 use native.Mathlib.Decide.{dec_lt}
 use lib.ListN.{length, get_or, length-append, get_or-append}
 use lib.Seq.{get_or_at}
-use Rattle.task.specs.Table.{Row, FormulaKind, false-kind, true-kind, variable-kind, not-kind, and-kind, or-kind, implies-kind, equivalent-kind, unknown-formula, formula-kind, EffectKind, empty-kind, set-kind, clear-kind, both-kind, under-kind, unknown-effect, effect-kind}
+use Rattle.task.specs.Table.{Row, FormulaKind, false_kind, true_kind, variable_kind, not_kind, and_kind, or_kind, implies_kind, equivalent_kind, unknown_formula, formula_kind, EffectKind, empty_kind, set_kind, clear_kind, both_kind, under_kind, unknown_effect, effect_kind}
 use Rattle.task.specs.Rules.{no_row, FormulaRule, EffectRule}
 use Rattle.task.specs.Inner.Rows.{FormulaKept, FormulasDown, EffectKept, EffectsDown}
 
@@ -27,61 +27,61 @@ one_more P rows r each last i h = go (dec_lt i (length rows))
         let e : length rows ≡ i = omega (arith, length-append rows (r ∷ [])) in
         rw (get_or_at rows r [] no_row i e) (subst (λ (k : ℕ). P k r) e last)
 
-formula-wider : (v w i : ℕ) (k : FormulaKind) (a b : ℕ) → v ≤ w → FormulaRule v i k a b → FormulaRule w i k a b
-formula-wider v w i false-kind a b h r = r
-formula-wider v w i true-kind a b h r = r
-formula-wider v w i variable-kind a b h r = (omega arith, r.1)
-formula-wider v w i not-kind a b h r = r
-formula-wider v w i and-kind a b h r = r
-formula-wider v w i or-kind a b h r = r
-formula-wider v w i implies-kind a b h r = r
-formula-wider v w i equivalent-kind a b h r = r
-formula-wider v w i unknown-formula a b h r = r
+formula_wider : (v w i : ℕ) (k : FormulaKind) (a b : ℕ) → v ≤ w → FormulaRule v i k a b → FormulaRule w i k a b
+formula_wider v w i false_kind a b h r = r
+formula_wider v w i true_kind a b h r = r
+formula_wider v w i variable_kind a b h r = (omega arith, r.1)
+formula_wider v w i not_kind a b h r = r
+formula_wider v w i and_kind a b h r = r
+formula_wider v w i or_kind a b h r = r
+formula_wider v w i implies_kind a b h r = r
+formula_wider v w i equivalent_kind a b h r = r
+formula_wider v w i unknown_formula a b h r = r
 
-effect-wider :
+effect_wider :
     (v w f g i : ℕ) (k : EffectKind) (a b : ℕ) → v ≤ w → f ≤ g → EffectRule v f i k a b → EffectRule w g i k a b
-effect-wider v w f g i empty-kind a b h m r = r
-effect-wider v w f g i set-kind a b h m r = (omega arith, r.1)
-effect-wider v w f g i clear-kind a b h m r = (omega arith, r.1)
-effect-wider v w f g i both-kind a b h m r = r
-effect-wider v w f g i under-kind a b h m r = (omega arith, r.1)
-effect-wider v w f g i unknown-effect a b h m r = r
+effect_wider v w f g i empty_kind a b h m r = r
+effect_wider v w f g i set_kind a b h m r = (omega arith, r.1)
+effect_wider v w f g i clear_kind a b h m r = (omega arith, r.1)
+effect_wider v w f g i both_kind a b h m r = r
+effect_wider v w f g i under_kind a b h m r = (omega arith, r.1)
+effect_wider v w f g i unknown_effect a b h m r = r
 
-pub formulas-none : (v : ℕ) → FormulasDown v []
-formulas-none v = record { row = λ i h. absurd (not-suc-le-zero h) }
+pub formulas_none : (v : ℕ) → FormulasDown v []
+formulas_none v = record { row = λ i h. absurd (not-suc-le-zero h) }
 
-pub formulas-more :
+pub formulas_more :
     (v : ℕ) (rows : List Row) (r : Row)
     → FormulasDown v rows
     → FormulaKept v (length rows) r
     → FormulasDown v (rows ++ (r ∷ []))
-formulas-more v rows r down last = record { row = one_more (FormulaKept v) rows r down.row last }
+formulas_more v rows r down last = record { row = one_more (FormulaKept v) rows r down.row last }
 
-pub formulas-wider : {v : ℕ} {rows : List Row} (w : ℕ) → v ≤ w → FormulasDown v rows → FormulasDown w rows
-formulas-wider {v} {rows} w h down =
+pub formulas_wider : {v : ℕ} {rows : List Row} (w : ℕ) → v ≤ w → FormulasDown v rows → FormulasDown w rows
+formulas_wider {v} {rows} w h down =
     record {
       row =
           λ i b.
           let r = get_or rows i no_row in
-          formula-wider v w i (formula-kind r.kind) r.a r.b h (down.row i b);
+          formula_wider v w i (formula_kind r.kind) r.a r.b h (down.row i b);
     }
 
-pub effects-none : (v f : ℕ) → EffectsDown v f []
-effects-none v f = record { row = λ i h. absurd (not-suc-le-zero h) }
+pub effects_none : (v f : ℕ) → EffectsDown v f []
+effects_none v f = record { row = λ i h. absurd (not-suc-le-zero h) }
 
-pub effects-more :
+pub effects_more :
     (v f : ℕ) (rows : List Row) (r : Row)
     → EffectsDown v f rows
     → EffectKept v f (length rows) r
     → EffectsDown v f (rows ++ (r ∷ []))
-effects-more v f rows r down last = record { row = one_more (EffectKept v f) rows r down.row last }
+effects_more v f rows r down last = record { row = one_more (EffectKept v f) rows r down.row last }
 
-pub effects-wider :
+pub effects_wider :
     {v f : ℕ} {rows : List Row} (w g : ℕ) → v ≤ w → f ≤ g → EffectsDown v f rows → EffectsDown w g rows
-effects-wider {v} {f} {rows} w g h m down =
+effects_wider {v} {f} {rows} w g h m down =
     record {
       row =
           λ i b.
           let r = get_or rows i no_row in
-          effect-wider v w f g i (effect-kind r.kind) r.a r.b h m (down.row i b);
+          effect_wider v w f g i (effect_kind r.kind) r.a r.b h m (down.row i b);
     }

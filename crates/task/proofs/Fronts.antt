@@ -8,13 +8,13 @@ use mathlib.Core.List.{List, [], ◌∷◌, ◌++◌, append-nil}
 use lib.ListN.{length, get_or, take, drop}
 use lib.Seq.{take-add, drop-cons}
 use Rattle.task.specs.Bounded.{upto}
-use Rattle.task.specs.Table.{operator-width, row_at, operator-at}
-use Rattle.task.specs.Words.{joined, row_words, operator-row-words, words_of, operator-words}
-use Rattle.task.proofs.Words.{joined-append}
+use Rattle.task.specs.Table.{operator_width, row_at, operator_at}
+use Rattle.task.specs.Words.{joined, row_words, operator_row_words, words_of, operator_words}
+use Rattle.task.proofs.Words.{joined_append}
 
 -- the words of a row that is inside
-three-words : (t : List ℕ) (k : ℕ) → k + 3 ≤ length t → get_or t k 0 ∷ get_or t (k + 1) 0 ∷ get_or t (k + 2) 0 ∷ [] ≡ take 3 (drop k t)
-three-words t k h =
+three_words : (t : List ℕ) (k : ℕ) → k + 3 ≤ length t → get_or t k 0 ∷ get_or t (k + 1) 0 ∷ get_or t (k + 2) 0 ∷ [] ≡ take 3 (drop k t)
+three_words t k h =
     let two : k + 2 ≡ suc (suc k) = omega arith in
     rw (
       add-one k,
@@ -24,11 +24,11 @@ three-words t k h =
       drop-cons t (suc (suc k)) 0 (omega arith),
     )
 
-four-words :
+four_words :
     (t : List ℕ) (k : ℕ)
     → k + 4 ≤ length t
     → get_or t k 0 ∷ get_or t (k + 1) 0 ∷ get_or t (k + 2) 0 ∷ get_or t (k + 3) 0 ∷ [] ≡ take 4 (drop k t)
-four-words t k h =
+four_words t k h =
     let two : k + 2 ≡ suc (suc k) = omega arith in
     let three : k + 3 ≡ suc (suc (suc k)) = omega arith in
     rw (
@@ -55,12 +55,12 @@ module _
         ∙ take-add (w * n) w t
         ∙ rw (joined-front n (omega arith), ← words n (omega arith))
         (sym
-        (joined-append f (upto n at) (at n ∷ []) ∙ ap (λ (l : List ℕ). joined f (upto n at) ++ l) (append-nil (f (at n)))))
+        (joined_append f (upto n at) (at n ∷ []) ∙ ap (λ (l : List ℕ). joined f (upto n at) ++ l) (append-nil (f (at n)))))
 
-pub rows-front : (t : List ℕ) (n : ℕ) → 3 * n ≤ length t → take (3 * n) t ≡ words_of (upto n (row_at t))
+pub rows_front : (t : List ℕ) (n : ℕ) → 3 * n ≤ length t → take (3 * n) t ≡ words_of (upto n (row_at t))
 unfolding words_of row_words row_at
-rows-front t n h = joined-front row_words (row_at t) t 3 (λ i b. three-words t (3 * i) b) n h
+rows_front t n h = joined-front row_words (row_at t) t 3 (λ i b. three_words t (3 * i) b) n h
 
-pub operators-front : (t : List ℕ) (n : ℕ) → operator-width * n ≤ length t → take (operator-width * n) t ≡ operator-words (upto n (operator-at t))
-unfolding operator-words operator-row-words operator-at
-operators-front t n h = joined-front operator-row-words (operator-at t) t operator-width (λ i b. four-words t (operator-width * i) b) n h
+pub operators_front : (t : List ℕ) (n : ℕ) → operator_width * n ≤ length t → take (operator_width * n) t ≡ operator_words (upto n (operator_at t))
+unfolding operator_words operator_row_words operator_at
+operators_front t n h = joined-front operator_row_words (operator_at t) t operator_width (λ i b. four_words t (operator_width * i) b) n h

@@ -8,10 +8,10 @@ use mathlib.Core.Logic.{◌↔◌}
 use mathlib.Core.Bool.{Bool, true, false, ◌||◌, or-true, false≢true}
 use mathlib.Core.List.{List}
 use lib.ListN.{length, get_or}
-use Rattle.task.specs.Table.{Row, EffectKind, empty-kind, set-kind, clear-kind, both-kind, under-kind, unknown-effect, effect-kind}
+use Rattle.task.specs.Table.{Row, EffectKind, empty_kind, set_kind, clear_kind, both_kind, under_kind, unknown_effect, effect_kind}
 use Rattle.task.specs.Rules.{no_row, EffectRule}
-use Rattle.task.specs.Semantics.{Formula, Effect, Atom, sets, clears, holds, same-atom, effcond}
-use Rattle.task.specs.Tree.{formula-of, effect-node, effect_of}
+use Rattle.task.specs.Semantics.{Formula, Effect, Atom, sets, clears, holds, same_atom, effcond}
+use Rattle.task.specs.Tree.{formula_of, effect_node, effect_of}
 use Rattle.task.proofs.Bounded.{and_left, and_right, and_both}
 use Rattle.task.proofs.Trees.{effect-unfolds}
 use Rattle.task.specs.Inner.Rows.{EffectsDown}
@@ -28,27 +28,27 @@ or_cases true b P e first second = first refl
 or_cases false b P e first second = second e
 
 -- a row of this kind and word a is the atom
-unfoldable pub kind-is : Atom → EffectKind → ℕ → Bool
-kind-is l empty-kind a = false
-kind-is l set-kind a = same-atom l (sets a)
-kind-is l clear-kind a = same-atom l (clears a)
-kind-is l both-kind a = false
-kind-is l under-kind a = false
-kind-is l unknown-effect a = false
+unfoldable pub kind_is : Atom → EffectKind → ℕ → Bool
+kind_is l empty_kind a = false
+kind_is l set_kind a = same_atom l (sets a)
+kind_is l clear_kind a = same_atom l (clears a)
+kind_is l both_kind a = false
+kind_is l under_kind a = false
+kind_is l unknown_effect a = false
 
 unfoldable pub row_is : Atom → Row → Bool
-row_is l r = kind-is l (effect-kind r.kind) r.a
+row_is l r = kind_is l (effect_kind r.kind) r.a
 
 module _ (s : List ℕ) (formulas effects : List Row) (root : ℕ) where
   pub data Marked : ℕ → Type 0 where
-    at-root : Marked root
-    left : (i : ℕ) → Marked i → effect-kind (get_or effects i no_row).kind ≡ both-kind → Marked (get_or effects i no_row).a
-    right : (i : ℕ) → Marked i → effect-kind (get_or effects i no_row).kind ≡ both-kind → Marked (get_or effects i no_row).b
+    at_root : Marked root
+    left : (i : ℕ) → Marked i → effect_kind (get_or effects i no_row).kind ≡ both_kind → Marked (get_or effects i no_row).a
+    right : (i : ℕ) → Marked i → effect_kind (get_or effects i no_row).kind ≡ both_kind → Marked (get_or effects i no_row).b
     inner :
         (i : ℕ)
         → Marked i
-        → effect-kind (get_or effects i no_row).kind ≡ under-kind
-        → holds s (formula-of formulas (get_or effects i no_row).a) ≡ true
+        → effect_kind (get_or effects i no_row).kind ≡ under_kind
+        → holds s (formula_of formulas (get_or effects i no_row).a) ≡ true
         → Marked (get_or effects i no_row).b
 
   -- a marked row that is the atom
@@ -61,23 +61,23 @@ module _ (s : List ℕ) (formulas effects : List Row) (root : ℕ) where
     rule-at :
         (i : ℕ) (k : EffectKind)
         → i < length effects
-        → effect-kind (get_or effects i no_row).kind ≡ k
+        → effect_kind (get_or effects i no_row).kind ≡ k
         → EffectRule v f i k (get_or effects i no_row).a (get_or effects i no_row).b
     rule-at i k b e =
         subst (λ (x : EffectKind). EffectRule v f i x (get_or effects i no_row).a (get_or effects i no_row).b) e
         (down.row i b)
 
     pub marked-below : (i : ℕ) → Marked i → i ≤ root
-    marked-below i at-root = omega arith
+    marked-below i at_root = omega arith
     marked-below i (left j m e) =
         let h = marked-below j m in
-        omega (arith, rule-at j both-kind (omega arith) e)
+        omega (arith, rule-at j both_kind (omega arith) e)
     marked-below i (right j m e) =
         let h = marked-below j m in
-        omega (arith, rule-at j both-kind (omega arith) e)
+        omega (arith, rule-at j both_kind (omega arith) e)
     marked-below i (inner j m e holding) =
         let h = marked-below j m in
-        omega (arith, rule-at j under-kind (omega arith) e)
+        omega (arith, rule-at j under_kind (omega arith) e)
 
     pub marked-in : (i : ℕ) → Marked i → i < length effects
     marked-in i m = omega (arith, marked-below i m)
@@ -86,10 +86,10 @@ module _ (s : List ℕ) (formulas effects : List Row) (root : ℕ) where
     tree-at :
         (i : ℕ) (k : EffectKind)
         → i < length effects
-        → effect-kind (get_or effects i no_row).kind ≡ k
+        → effect_kind (get_or effects i no_row).kind ≡ k
         → let r = get_or effects i no_row in
         effect_of formulas effects i
-        ≡ effect-node k r.a (formula-of formulas r.a) (effect_of formulas effects r.a)
+        ≡ effect_node k r.a (formula_of formulas r.a) (effect_of formulas effects r.a)
         (effect_of formulas effects r.b)
     tree-at i k b e = rw (← e) (effect-unfolds v f formulas effects down i b)
 
@@ -99,32 +99,32 @@ module _ (s : List ℕ) (formulas effects : List Row) (root : ℕ) where
         → Marked i
         → effcond s l (effect_of formulas effects i) ≡ true
         → effcond s l (effect_of formulas effects root) ≡ true
-    unfolding effect-node effcond
-    climbs l i at-root e = e
+    unfolding effect_node effcond
+    climbs l i at_root e = e
     climbs l i (left j m k) e =
         let r = get_or effects j no_row in
         climbs l j m
-        (ap (effcond s l) (tree-at j both-kind (marked-in j m) k)
+        (ap (effcond s l) (tree-at j both_kind (marked-in j m) k)
         ∙ or_left (effcond s l (effect_of formulas effects r.a)) (effcond s l (effect_of formulas effects r.b)) e)
     climbs l i (right j m k) e =
         let r = get_or effects j no_row in
         climbs l j m
-        (ap (effcond s l) (tree-at j both-kind (marked-in j m) k)
+        (ap (effcond s l) (tree-at j both_kind (marked-in j m) k)
         ∙ or_right (effcond s l (effect_of formulas effects r.a)) (effcond s l (effect_of formulas effects r.b)) e)
     climbs l i (inner j m k h) e =
-        climbs l j m (ap (effcond s l) (tree-at j under-kind (marked-in j m) k) ∙ and_both h e)
+        climbs l j m (ap (effcond s l) (tree-at j under_kind (marked-in j m) k) ∙ and_both h e)
 
     is-acts :
         (l : Atom) (k : EffectKind) (a : ℕ) (p : Formula) (e g : Effect)
-        → kind-is l k a ≡ true
-        → effcond s l (effect-node k a p e g) ≡ true
-    unfolding kind-is effect-node effcond
-    is-acts l empty-kind a p e g h = h
-    is-acts l set-kind a p e g h = h
-    is-acts l clear-kind a p e g h = h
-    is-acts l both-kind a p e g h = absurd (false≢true h)
-    is-acts l under-kind a p e g h = absurd (false≢true h)
-    is-acts l unknown-effect a p e g h = absurd (false≢true h)
+        → kind_is l k a ≡ true
+        → effcond s l (effect_node k a p e g) ≡ true
+    unfolding kind_is effect_node effcond
+    is-acts l empty_kind a p e g h = h
+    is-acts l set_kind a p e g h = h
+    is-acts l clear_kind a p e g h = h
+    is-acts l both_kind a p e g h = absurd (false≢true h)
+    is-acts l under_kind a p e g h = absurd (false≢true h)
+    is-acts l unknown_effect a p e g h = absurd (false≢true h)
 
     pub found-acts : (l : Atom) → Found l → effcond s l (effect_of formulas effects root) ≡ true
     unfolding row_is
@@ -133,45 +133,45 @@ module _ (s : List ℕ) (formulas effects : List Row) (root : ℕ) where
         let r = get_or effects i no_row in
         climbs l i found.marked
         (ap (effcond s l) (effect-unfolds v f formulas effects down i (marked-in i found.marked))
-        ∙ is-acts l (effect-kind r.kind) r.a (formula-of formulas r.a) (effect_of formulas effects r.a)
+        ∙ is-acts l (effect_kind r.kind) r.a (formula_of formulas r.a) (effect_of formulas effects r.a)
         (effect_of formulas effects r.b) found.is-atom)
 
     -- a row whose condition holds is the atom, or a row below it, also marked, has the condition
     finds-at :
         (l : Atom) (i : ℕ) (k : EffectKind)
         → Marked i
-        → effect-kind (get_or effects i no_row).kind ≡ k
+        → effect_kind (get_or effects i no_row).kind ≡ k
         → let r = get_or effects i no_row in
         EffectRule v f i k r.a r.b
         → effcond s l
-        (effect-node k r.a (formula-of formulas r.a) (effect_of formulas effects r.a)
+        (effect_node k r.a (formula_of formulas r.a) (effect_of formulas effects r.a)
         (effect_of formulas effects r.b))
         ≡ true
         → ((j : ℕ) → j < i → Marked j → effcond s l (effect_of formulas effects j) ≡ true → Found l)
         → Found l
-    unfolding row_is kind-is effect-node effcond
-    finds-at l i empty-kind m k rule e lower = absurd (false≢true e)
-    finds-at l i set-kind m k rule e lower = record { at = i; marked = m; is-atom = rw k e }
-    finds-at l i clear-kind m k rule e lower = record { at = i; marked = m; is-atom = rw k e }
-    finds-at l i both-kind m k rule e lower =
+    unfolding row_is kind_is effect_node effcond
+    finds-at l i empty_kind m k rule e lower = absurd (false≢true e)
+    finds-at l i set_kind m k rule e lower = record { at = i; marked = m; is-atom = rw k e }
+    finds-at l i clear_kind m k rule e lower = record { at = i; marked = m; is-atom = rw k e }
+    finds-at l i both_kind m k rule e lower =
         let r = get_or effects i no_row in
         or_cases (effcond s l (effect_of formulas effects r.a)) (effcond s l (effect_of formulas effects r.b)) (Found l) e
         (λ h. lower r.a rule.0 (left i m k) h)
         (λ h. lower r.b rule.1 (right i m k) h)
-    finds-at l i under-kind m k rule e lower =
+    finds-at l i under_kind m k rule e lower =
         let r = get_or effects i no_row in
-        let p = holds s (formula-of formulas r.a) in
+        let p = holds s (formula_of formulas r.a) in
         let inside = effcond s l (effect_of formulas effects r.b) in
         lower r.b rule.1 (inner i m k (and_left p inside e)) (and_right p inside e)
-    finds-at l i unknown-effect m k rule e lower = absurd rule
+    finds-at l i unknown_effect m k rule e lower = absurd rule
 
     finds : (l : Atom) (d i : ℕ) → i < d → Marked i → effcond s l (effect_of formulas effects i) ≡ true → Found l
     finds l zero i h m e = absurd (not-suc-le-zero h)
     finds l (suc d) i h m e =
-        finds-at l i (effect-kind (get_or effects i no_row).kind) m refl (down.row i (marked-in i m))
+        finds-at l i (effect_kind (get_or effects i no_row).kind) m refl (down.row i (marked-in i m))
         (ap (effcond s l) (sym (effect-unfolds v f formulas effects down i (marked-in i m))) ∙ e)
         (λ j lower. finds l d j (omega arith))
 
     -- The law of the stepper: the condition of an atom holds exactly if a marked row is that atom.
     pub effcond-marked : (l : Atom) → effcond s l (effect_of formulas effects root) ≡ true ↔ Found l
-    effcond-marked l = (finds l (suc root) root (omega arith) at-root, found-acts l)
+    effcond-marked l = (finds l (suc root) root (omega arith) at_root, found-acts l)

@@ -3,15 +3,15 @@ use Prim.Native.Nat.{ℕ, zero, suc, ◌+◌, ◌≤◌, ◌<◌}
 use native.Mathlib.Numerals.{add-one}
 use native.Mathlib.Omega.{arith}
 use mathlib.Core.Path.{◌≡◌, refl, sym, ap, ◌∙◌}
-use mathlib.Core.Bool.{Bool, true, false, not, ◌&&◌, and-true, and-false}
+use mathlib.Core.Bool.{Bool, true, false, not, ◌&&◌, and-true, and_false}
 use mathlib.Core.List.{List}
 use lib.ListN.{length, get_or, set, replicate, length-set, length-replicate, get_or-replicate}
 use lib.Seq.{get_or-set_same, get_or-set_other}
 use lib.Dec.{eqb}
 use borrow.Author.Tests.{eqb-true, eqb-false, eq-eqb, ne_eqb}
 use Rattle.task.specs.Bounded.{every}
-use Rattle.task.specs.Check.{twin-kept}
-use Rattle.task.proofs.Bounded.{every-same}
+use Rattle.task.specs.Check.{twin_kept}
+use Rattle.task.proofs.Bounded.{every_same}
 use Rattle.task.proofs.Refusals.{twin-again, twin-fine}
 
 pub record NamedBy (twins : List ℕ) (k : ℕ) (named : List ℕ) : Type 0 where
@@ -47,7 +47,7 @@ module _ (twins : List ℕ) (k : ℕ) (named : List ℕ) (m : NamedBy twins k na
           let one : get_or (set named (get_or twins k 0) 1) x 0 ≡ 1 =
           ap (λ (y : ℕ). get_or (set named (get_or twins k 0) 1) y 0) same ∙ get_or-set_same named (get_or twins k 0) 1 0 (omega (arith, m.size))
           in
-          rw (one, add-one k, e) (ne_eqb 1 0 (λ q. omega arith) ∙ sym (and-false (every k (λ j. not (eqb (get_or twins j 0) x)))))
+          rw (one, add-one k, e) (ne_eqb 1 0 (λ q. omega arith) ∙ sym (and_false (every k (λ j. not (eqb (get_or twins j 0) x)))))
       go x l false e =
           let other : get_or (set named (get_or twins k 0) 1) x 0 ≡ get_or named x 0 =
           get_or-set_other named (get_or twins k 0) x 1 0 (λ q. eqb-false (get_or twins k 0) x e (sym q))
@@ -62,14 +62,14 @@ module _ (twins : List ℕ) (k : ℕ) (named : List ℕ) (m : NamedBy twins k na
         tells =
             λ x l.
             m.tells x l
-            ∙ every-same k (λ j. not (eqb (get_or twins j 0) x)) (λ j. not (eqb (get_or (set twins k w) j 0) x))
+            ∙ every_same k (λ j. not (eqb (get_or twins j 0) x)) (λ j. not (eqb (get_or (set twins k w) j 0) x))
             (λ j h. ap (λ (y : ℕ). not (eqb y x)) (sym (get_or-set_other twins k j w 0 (λ q. omega arith))));
       }
 
   -- row k's test
   module _ (bound : ℕ) (few : bound ≤ 512) (below : get_or twins k 0 < bound) where
-    pub named-before : (get_or named (get_or twins k 0) 0 ≡ 0 → ⊥) → twin-kept bound twins k ≡ false
+    pub named-before : (get_or named (get_or twins k 0) 0 ≡ 0 → ⊥) → twin_kept bound twins k ≡ false
     named-before n = twin-again bound twins k (sym (m.tells (get_or twins k 0) (omega arith)) ∙ ne_eqb (get_or named (get_or twins k 0) 0) 0 n)
 
-    pub named-now : get_or named (get_or twins k 0) 0 ≡ 0 → twin-kept bound twins k ≡ true
-    named-now z = twin-fine bound twins k below (sym (m.tells (get_or twins k 0) (omega arith)) ∙ eq-eqb (get_or named (get_or twins k 0) 0) 0 z)
+    pub named_now : get_or named (get_or twins k 0) 0 ≡ 0 → twin_kept bound twins k ≡ true
+    named_now z = twin-fine bound twins k below (sym (m.tells (get_or twins k 0) (omega arith)) ∙ eq-eqb (get_or named (get_or twins k 0) 0) 0 z)

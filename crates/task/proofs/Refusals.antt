@@ -3,7 +3,7 @@ use Prim.Native.Nat.{ℕ, zero, suc, ◌+◌, ◌-◌, ◌*◌, ◌/◌, ◌≤�
 use native.Mathlib.Nat.{mul-le-mul, mul-suc, mul-div-le, lt-mul-div-succ}
 use native.Mathlib.Omega.{arith}
 use mathlib.Core.Path.{◌≡◌, refl, sym, ap, ◌∙◌}
-use mathlib.Core.Bool.{Bool, true, false, not, ◌&&◌, and-false}
+use mathlib.Core.Bool.{Bool, true, false, not, ◌&&◌, and_false}
 use mathlib.Core.List.{List, []}
 use lib.ListN.{length, get_or, take, drop}
 use lib.Dec.{leb, ltb, eqb}
@@ -12,57 +12,57 @@ use Rattle.task.specs.Bounded.{every}
 use Rattle.task.specs.declared.Head.{Head}
 use Rattle.task.specs.declared.Table.{Table}
 use Rattle.task.specs.declared.Table.TheVariants.{Formulas, Effects, Operators}
-use Rattle.task.specs.Table.{Lent, operator-width, formula-kind, effect-kind, row_at, operator-at, row-part, part}
-use Rattle.task.specs.Inner.Tables.{words-at, words-number, row_number}
-use Rattle.task.specs.Check.{counts-kept, long-enough, room, twin-kept, formula-words-kept, effect-words-kept}
+use Rattle.task.specs.Table.{Lent, operator_width, formula_kind, effect_kind, row_at, operator_at, row_part, part}
+use Rattle.task.specs.Inner.Tables.{words_at, words_number, row_number}
+use Rattle.task.specs.Check.{counts_kept, long_enough, room, twin_kept, formula_words_kept, effect_words_kept}
 use Rattle.task.proofs.Bounded.{and_both}
 use Rattle.task.specs.declared.TableRow.{TableRow}
 
 -- a conjunction fails with either half
-pub fails-left : (a b : Bool) → a ≡ false → (a && b) ≡ false
-fails-left a b p = rw p
+pub fails_left : (a b : Bool) → a ≡ false → (a && b) ≡ false
+fails_left a b p = rw p
 
-pub fails-right : (a b : Bool) → b ≡ false → (a && b) ≡ false
-fails-right a b p = rw p (and-false a)
+pub fails_right : (a b : Bool) → b ≡ false → (a && b) ≡ false
+fails_right a b p = rw p (and_false a)
 
 module _ (bound : ℕ) (twins : List ℕ) (k : ℕ) where
-  pub twin-outside : bound ≤ get_or twins k 0 → twin-kept bound twins k ≡ false
-  unfolding twin-kept
-  twin-outside h = fails-left (ltb (get_or twins k 0) bound) (every k (λ j. not (eqb (get_or twins j 0) (get_or twins k 0)))) (le-ltb (get_or twins k 0) bound h)
+  pub twin-outside : bound ≤ get_or twins k 0 → twin_kept bound twins k ≡ false
+  unfolding twin_kept
+  twin-outside h = fails_left (ltb (get_or twins k 0) bound) (every k (λ j. not (eqb (get_or twins j 0) (get_or twins k 0)))) (le-ltb (get_or twins k 0) bound h)
 
   pub twin-again :
-      every k (λ j. not (eqb (get_or twins j 0) (get_or twins k 0))) ≡ false → twin-kept bound twins k ≡ false
-  unfolding twin-kept
-  twin-again e = fails-right (ltb (get_or twins k 0) bound) (every k (λ j. not (eqb (get_or twins j 0) (get_or twins k 0)))) e
+      every k (λ j. not (eqb (get_or twins j 0) (get_or twins k 0))) ≡ false → twin_kept bound twins k ≡ false
+  unfolding twin_kept
+  twin-again e = fails_right (ltb (get_or twins k 0) bound) (every k (λ j. not (eqb (get_or twins j 0) (get_or twins k 0)))) e
 
   pub twin-fine :
       get_or twins k 0 < bound
       → every k (λ j. not (eqb (get_or twins j 0) (get_or twins k 0))) ≡ true
-      → twin-kept bound twins k ≡ true
-  unfolding twin-kept
+      → twin_kept bound twins k ≡ true
+  unfolding twin_kept
   twin-fine h e = and_both (lt-ltb (get_or twins k 0) bound h) e
 
 -- a formula row by its kind
 module _ (v i a b : ℕ) where
-  abbrev Formula-words : ℕ → Bool
-  Formula-words kind = formula-words-kept v i (formula-kind kind) a b
+  abbrev Formula_words : ℕ → Bool
+  Formula_words kind = formula_words_kept v i (formula_kind kind) a b
 
-  pub formula-constant : (kind : ℕ) → kind ≤ 1 → (eqb a 0 && eqb b 0) ≡ Formula-words kind
-  unfolding formula-words-kept formula-kind
+  pub formula-constant : (kind : ℕ) → kind ≤ 1 → (eqb a 0 && eqb b 0) ≡ Formula_words kind
+  unfolding formula_words_kept formula_kind
   formula-constant zero h = refl
   formula-constant (suc zero) h = refl
   formula-constant (suc (suc n)) h = absurd (omega arith)
 
-  pub formula-variable : (kind : ℕ) → kind ≡ 2 → (ltb a v && eqb b 0) ≡ Formula-words kind
-  unfolding formula-words-kept formula-kind
+  pub formula-variable : (kind : ℕ) → kind ≡ 2 → (ltb a v && eqb b 0) ≡ Formula_words kind
+  unfolding formula_words_kept formula_kind
   formula-variable kind e = rw e
 
-  pub formula-not : (kind : ℕ) → kind ≡ 3 → (ltb a i && eqb b 0) ≡ Formula-words kind
-  unfolding formula-words-kept formula-kind
+  pub formula-not : (kind : ℕ) → kind ≡ 3 → (ltb a i && eqb b 0) ≡ Formula_words kind
+  unfolding formula_words_kept formula_kind
   formula-not kind e = rw e
 
-  pub formula-pair : (kind : ℕ) → 4 ≤ kind → kind ≤ 7 → (ltb a i && ltb b i) ≡ Formula-words kind
-  unfolding formula-words-kept formula-kind
+  pub formula-pair : (kind : ℕ) → 4 ≤ kind → kind ≤ 7 → (ltb a i && ltb b i) ≡ Formula_words kind
+  unfolding formula_words_kept formula_kind
   formula-pair zero l h = absurd (omega arith)
   formula-pair (suc zero) l h = absurd (omega arith)
   formula-pair (suc (suc zero)) l h = absurd (omega arith)
@@ -73,8 +73,8 @@ module _ (v i a b : ℕ) where
   formula-pair (suc (suc (suc (suc (suc (suc (suc zero))))))) l h = refl
   formula-pair (suc (suc (suc (suc (suc (suc (suc (suc n)))))))) l h = absurd (omega arith)
 
-  pub formula-unknown : (kind : ℕ) → 8 ≤ kind → false ≡ Formula-words kind
-  unfolding formula-words-kept formula-kind
+  pub formula-unknown : (kind : ℕ) → 8 ≤ kind → false ≡ Formula_words kind
+  unfolding formula_words_kept formula_kind
   formula-unknown zero l = absurd (omega arith)
   formula-unknown (suc zero) l = absurd (omega arith)
   formula-unknown (suc (suc zero)) l = absurd (omega arith)
@@ -87,30 +87,30 @@ module _ (v i a b : ℕ) where
 
 -- an effect row by its kind
 module _ (v f i a b : ℕ) where
-  abbrev Effect-words : ℕ → Bool
-  Effect-words kind = effect-words-kept v f i (effect-kind kind) a b
+  abbrev Effect_words : ℕ → Bool
+  Effect_words kind = effect_words_kept v f i (effect_kind kind) a b
 
-  pub effect-empty : (kind : ℕ) → kind ≡ 0 → (eqb a 0 && eqb b 0) ≡ Effect-words kind
-  unfolding effect-words-kept effect-kind
+  pub effect-empty : (kind : ℕ) → kind ≡ 0 → (eqb a 0 && eqb b 0) ≡ Effect_words kind
+  unfolding effect_words_kept effect_kind
   effect-empty kind e = rw e
 
-  pub effect-atom : (kind : ℕ) → 1 ≤ kind → kind ≤ 2 → (ltb a v && eqb b 0) ≡ Effect-words kind
-  unfolding effect-words-kept effect-kind
+  pub effect-atom : (kind : ℕ) → 1 ≤ kind → kind ≤ 2 → (ltb a v && eqb b 0) ≡ Effect_words kind
+  unfolding effect_words_kept effect_kind
   effect-atom zero l h = absurd (omega arith)
   effect-atom (suc zero) l h = refl
   effect-atom (suc (suc zero)) l h = refl
   effect-atom (suc (suc (suc n))) l h = absurd (omega arith)
 
-  pub effect-both : (kind : ℕ) → kind ≡ 3 → (ltb a i && ltb b i) ≡ Effect-words kind
-  unfolding effect-words-kept effect-kind
+  pub effect-both : (kind : ℕ) → kind ≡ 3 → (ltb a i && ltb b i) ≡ Effect_words kind
+  unfolding effect_words_kept effect_kind
   effect-both kind e = rw e
 
-  pub effect-under : (kind : ℕ) → kind ≡ 4 → (ltb a f && ltb b i) ≡ Effect-words kind
-  unfolding effect-words-kept effect-kind
+  pub effect-under : (kind : ℕ) → kind ≡ 4 → (ltb a f && ltb b i) ≡ Effect_words kind
+  unfolding effect_words_kept effect_kind
   effect-under kind e = rw e
 
-  pub effect-unknown : (kind : ℕ) → 5 ≤ kind → false ≡ Effect-words kind
-  unfolding effect-words-kept effect-kind
+  pub effect-unknown : (kind : ℕ) → 5 ≤ kind → false ≡ Effect_words kind
+  unfolding effect_words_kept effect_kind
   effect-unknown zero l = absurd (omega arith)
   effect-unknown (suc zero) l = absurd (omega arith)
   effect-unknown (suc (suc zero)) l = absurd (omega arith)
@@ -119,29 +119,29 @@ module _ (v f i a b : ℕ) where
   effect-unknown (suc (suc (suc (suc (suc n))))) l = refl
 
 -- a row of any of the three tables is tested by its words
-pub row-tested :
+pub row_tested :
     (t : Table) (h : Head) (words : List ℕ) (i : ℕ) {r : TableRow} {n : ℕ}
-    → r ≡ words-at t words i
-    → n ≡ words-number t h i r
+    → r ≡ words_at t words i
+    → n ≡ words_number t h i r
     → row_number t h words i ≡ n
-row-tested t h words i read tested = sym (tested ∙ ap (words-number t h i) read ∙ same t)
+row_tested t h words i read tested = sym (tested ∙ ap (words_number t h i) read ∙ same t)
   where
-    same : (t : Table) → words-number t h i (words-at t words i) ≡ row_number t h words i
+    same : (t : Table) → words_number t h i (words_at t words i) ≡ row_number t h words i
     same Formulas = unfold row_at in refl
     same Effects = unfold row_at in refl
-    same Operators = unfold operator-at in refl
+    same Operators = unfold operator_at in refl
 
 -- the last tests of the counts and of the lengths, where those before them passed
-pub counts-last :
+pub counts_last :
     (h : Head)
     → h.variables ≤ 512
     → h.twins + h.twins ≤ h.variables
     → 1 ≤ h.formulas
     → h.formulas ≤ 4096
     → h.effects ≤ 4096
-    → leb h.operators 256 ≡ counts-kept h
-unfolding counts-kept
-counts-last h a b c d e =
+    → leb h.operators 256 ≡ counts_kept h
+unfolding counts_kept
+counts_last h a b c d e =
     rw (
       le-leb h.variables 512 a,
       le-leb (h.twins + h.twins) h.variables b,
@@ -150,15 +150,15 @@ counts-last h a b c d e =
       le-leb h.effects 4096 e,
     )
 
-pub lengths-last :
+pub lengths_last :
     (l : Lent)
     → l.head.variables ≤ length l.initial
     → l.head.twins ≤ length l.twins
     → 3 * l.head.formulas ≤ length l.formulas
     → 3 * l.head.effects ≤ length l.effects
-    → leb (operator-width * l.head.operators) (length l.operators) ≡ long-enough l
-unfolding long-enough room
-lengths-last l a b c d =
+    → leb (operator_width * l.head.operators) (length l.operators) ≡ long_enough l
+unfolding long_enough room
+lengths_last l a b c d =
     rw (
       le-leb l.head.variables (length l.initial) a,
       le-leb l.head.twins (length l.twins) b,
@@ -172,8 +172,8 @@ row_fits w l n h =
     let a : w * (n + 1) ≤ w * (l / w) = mul-le-mul {n₁ = w} {m₁ = n + 1} {n₂ = w} {m₂ = l / w} (omega arith) (omega arith) in
     omega (arith, mul-div-le l w, mul-suc w n)
 
-pub row-past : (w l n : ℕ) → 1 ≤ w → l / w ≤ n → l < w * n + w
-row-past w l n some h =
+pub row_past : (w l n : ℕ) → 1 ≤ w → l / w ≤ n → l < w * n + w
+row_past w l n some h =
     let a : w * (l / w + 1) ≤ w * (n + 1) = mul-le-mul {n₁ = w} {m₁ = l / w + 1} {n₂ = w} {m₂ = n + 1} (omega arith) (omega arith) in
     omega (arith, lt-mul-div-succ l some, mul-suc w n)
 
@@ -187,6 +187,6 @@ row_inside w words i h =
     let wide : w * i + w - w * i ≡ w = omega arith in
     rw (le-leb (w * i + w) (length words) h, wide)
 
-pub row-outside : (w : ℕ) (words : List ℕ) (i : ℕ) → length words < w * i + w → [] ≡ part w words i
+pub row_outside : (w : ℕ) (words : List ℕ) (i : ℕ) → length words < w * i + w → [] ≡ part w words i
 unfolding part
-row-outside w words i h = rw (lt-leb (w * i + w) (length words) h)
+row_outside w words i h = rw (lt-leb (w * i + w) (length words) h)

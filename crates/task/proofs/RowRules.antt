@@ -5,8 +5,8 @@ use mathlib.Core.Path.{◌≡◌, refl}
 use mathlib.Core.Bool.{Bool, true, false, ◌&&◌, false≢true}
 use lib.Dec.{leb, ltb, eqb}
 use borrow.Author.Tests.{leb-true, ltb-true, eqb-true, le-leb, lt-leb, lt-ltb, eq-eqb}
-use Rattle.task.specs.Table.{Operator, FormulaKind, false-kind, true-kind, variable-kind, not-kind, and-kind, or-kind, implies-kind, equivalent-kind, unknown-formula, EffectKind, empty-kind, set-kind, clear-kind, both-kind, under-kind, unknown-effect}
-use Rattle.task.specs.Check.{unless, formula-words-kept, effect-words-kept, operator-kept, percent_kept, operator-number}
+use Rattle.task.specs.Table.{Operator, FormulaKind, false_kind, true_kind, variable_kind, not_kind, and_kind, or_kind, implies_kind, equivalent_kind, unknown_formula, EffectKind, empty_kind, set_kind, clear_kind, both_kind, under_kind, unknown_effect}
+use Rattle.task.specs.Check.{unless, formula_words_kept, effect_words_kept, operator_kept, percent_kept, operator_number}
 use Rattle.task.specs.Rules.{FormulaRule, EffectRule, OperatorRule}
 use Rattle.task.proofs.Bounded.{and_left, and_right, and_both}
 
@@ -27,55 +27,55 @@ one_passes : (a m b : ℕ) → (a < m) × (b ≡ 0) → (ltb a m && eqb b 0) ≡
 one_passes a m b r = and_both (lt-ltb a m r.0) (eq-eqb b 0 r.1)
 
 -- each word is below a bound
-two-told : (a m b n : ℕ) → (ltb a m && ltb b n) ≡ true → (a < m) × (b < n)
-two-told a m b n e =
+two_told : (a m b n : ℕ) → (ltb a m && ltb b n) ≡ true → (a < m) × (b < n)
+two_told a m b n e =
     (ltb-true a m (and_left (ltb a m) (ltb b n) e), ltb-true b n (and_right (ltb a m) (ltb b n) e))
 
-two-passes : (a m b n : ℕ) → (a < m) × (b < n) → (ltb a m && ltb b n) ≡ true
-two-passes a m b n r = and_both (lt-ltb a m r.0) (lt-ltb b n r.1)
+two_passes : (a m b n : ℕ) → (a < m) × (b < n) → (ltb a m && ltb b n) ≡ true
+two_passes a m b n r = and_both (lt-ltb a m r.0) (lt-ltb b n r.1)
 
-pub formula-told : (v i : ℕ) (k : FormulaKind) (a b : ℕ) → formula-words-kept v i k a b ≡ true → FormulaRule v i k a b
-unfolding formula-words-kept
-formula-told v i false-kind a b e = none_told a b e
-formula-told v i true-kind a b e = none_told a b e
-formula-told v i variable-kind a b e = one_told a v b e
-formula-told v i not-kind a b e = one_told a i b e
-formula-told v i and-kind a b e = two-told a i b i e
-formula-told v i or-kind a b e = two-told a i b i e
-formula-told v i implies-kind a b e = two-told a i b i e
-formula-told v i equivalent-kind a b e = two-told a i b i e
-formula-told v i unknown-formula a b e = false≢true e
+pub formula_told : (v i : ℕ) (k : FormulaKind) (a b : ℕ) → formula_words_kept v i k a b ≡ true → FormulaRule v i k a b
+unfolding formula_words_kept
+formula_told v i false_kind a b e = none_told a b e
+formula_told v i true_kind a b e = none_told a b e
+formula_told v i variable_kind a b e = one_told a v b e
+formula_told v i not_kind a b e = one_told a i b e
+formula_told v i and_kind a b e = two_told a i b i e
+formula_told v i or_kind a b e = two_told a i b i e
+formula_told v i implies_kind a b e = two_told a i b i e
+formula_told v i equivalent_kind a b e = two_told a i b i e
+formula_told v i unknown_formula a b e = false≢true e
 
-pub formula-passes : (v i : ℕ) (k : FormulaKind) (a b : ℕ) → FormulaRule v i k a b → formula-words-kept v i k a b ≡ true
-unfolding formula-words-kept
-formula-passes v i false-kind a b r = none_passes a b r
-formula-passes v i true-kind a b r = none_passes a b r
-formula-passes v i variable-kind a b r = one_passes a v b r
-formula-passes v i not-kind a b r = one_passes a i b r
-formula-passes v i and-kind a b r = two-passes a i b i r
-formula-passes v i or-kind a b r = two-passes a i b i r
-formula-passes v i implies-kind a b r = two-passes a i b i r
-formula-passes v i equivalent-kind a b r = two-passes a i b i r
-formula-passes v i unknown-formula a b r = absurd r
+pub formula_passes : (v i : ℕ) (k : FormulaKind) (a b : ℕ) → FormulaRule v i k a b → formula_words_kept v i k a b ≡ true
+unfolding formula_words_kept
+formula_passes v i false_kind a b r = none_passes a b r
+formula_passes v i true_kind a b r = none_passes a b r
+formula_passes v i variable_kind a b r = one_passes a v b r
+formula_passes v i not_kind a b r = one_passes a i b r
+formula_passes v i and_kind a b r = two_passes a i b i r
+formula_passes v i or_kind a b r = two_passes a i b i r
+formula_passes v i implies_kind a b r = two_passes a i b i r
+formula_passes v i equivalent_kind a b r = two_passes a i b i r
+formula_passes v i unknown_formula a b r = absurd r
 
-pub effect-told : (v f i : ℕ) (k : EffectKind) (a b : ℕ) → effect-words-kept v f i k a b ≡ true → EffectRule v f i k a b
-unfolding effect-words-kept
-effect-told v f i empty-kind a b e = none_told a b e
-effect-told v f i set-kind a b e = one_told a v b e
-effect-told v f i clear-kind a b e = one_told a v b e
-effect-told v f i both-kind a b e = two-told a i b i e
-effect-told v f i under-kind a b e = two-told a f b i e
-effect-told v f i unknown-effect a b e = false≢true e
+pub effect_told : (v f i : ℕ) (k : EffectKind) (a b : ℕ) → effect_words_kept v f i k a b ≡ true → EffectRule v f i k a b
+unfolding effect_words_kept
+effect_told v f i empty_kind a b e = none_told a b e
+effect_told v f i set_kind a b e = one_told a v b e
+effect_told v f i clear_kind a b e = one_told a v b e
+effect_told v f i both_kind a b e = two_told a i b i e
+effect_told v f i under_kind a b e = two_told a f b i e
+effect_told v f i unknown_effect a b e = false≢true e
 
-pub effect-passes :
-    (v f i : ℕ) (k : EffectKind) (a b : ℕ) → EffectRule v f i k a b → effect-words-kept v f i k a b ≡ true
-unfolding effect-words-kept
-effect-passes v f i empty-kind a b r = none_passes a b r
-effect-passes v f i set-kind a b r = one_passes a v b r
-effect-passes v f i clear-kind a b r = one_passes a v b r
-effect-passes v f i both-kind a b r = two-passes a i b i r
-effect-passes v f i under-kind a b r = two-passes a f b i r
-effect-passes v f i unknown-effect a b r = absurd r
+pub effect_passes :
+    (v f i : ℕ) (k : EffectKind) (a b : ℕ) → EffectRule v f i k a b → effect_words_kept v f i k a b ≡ true
+unfolding effect_words_kept
+effect_passes v f i empty_kind a b r = none_passes a b r
+effect_passes v f i set_kind a b r = one_passes a v b r
+effect_passes v f i clear_kind a b r = one_passes a v b r
+effect_passes v f i both_kind a b r = two_passes a i b i r
+effect_passes v f i under_kind a b r = two_passes a f b i r
+effect_passes v f i unknown_effect a b r = absurd r
 
 -- a test passes whose number is not given, and so the rest is
 pub passes : (b : Bool) (number rest : ℕ) → unless b (suc number) rest ≡ 0 → b ≡ true
@@ -86,30 +86,30 @@ pub rest_of : (b : Bool) (number rest : ℕ) → unless b (suc number) rest ≡ 
 rest_of true number rest e = e
 rest_of false number rest e = absurd (suc-ne-zero number e)
 
-pub operator-told : (f e : ℕ) (o : Operator) → operator-number f e o ≡ 0 → OperatorRule f e o
-unfolding operator-number operator-kept percent_kept
-operator-told f e o t =
+pub operator_told : (f e : ℕ) (o : Operator) → operator_number f e o ≡ 0 → OperatorRule f e o
+unfolding operator_number operator_kept percent_kept
+operator_told f e o t =
     let right = ltb o.precondition f && ltb o.effect e in
     let low = leb o.percent 200 in
-    let both = two-told o.precondition f o.effect e (passes right 11 (unless low 24 0) t) in
+    let both = two_told o.precondition f o.effect e (passes right 11 (unless low 24 0) t) in
     let percent = leb-true o.percent 200 (passes low 23 0 (rest_of right 11 (unless low 24 0) t)) in
     record { formula = both.0; changes = both.1; percent = percent }
 
-pub operator-passes : (f e : ℕ) (o : Operator) → OperatorRule f e o → operator-number f e o ≡ 0
-unfolding operator-number operator-kept percent_kept
-operator-passes f e o r =
-    rw (two-passes o.precondition f o.effect e (r.formula, r.changes), le-leb o.percent 200 r.percent) refl
+pub operator_passes : (f e : ℕ) (o : Operator) → OperatorRule f e o → operator_number f e o ≡ 0
+unfolding operator_number operator_kept percent_kept
+operator_passes f e o r =
+    rw (two_passes o.precondition f o.effect e (r.formula, r.changes), le-leb o.percent 200 r.percent) refl
 
 -- the number of an operator, way by way
 module _ (f e : ℕ) (o : Operator) where
-  pub number-12 : operator-kept f e o ≡ false → 12 ≡ operator-number f e o
-  unfolding operator-number
+  pub number-12 : operator_kept f e o ≡ false → 12 ≡ operator_number f e o
+  unfolding operator_number
   number-12 a = rw a
 
-  pub number-24 : operator-kept f e o ≡ true → 200 < o.percent → 24 ≡ operator-number f e o
-  unfolding operator-number percent_kept
+  pub number-24 : operator_kept f e o ≡ true → 200 < o.percent → 24 ≡ operator_number f e o
+  unfolding operator_number percent_kept
   number-24 a h = rw (a, lt-leb o.percent 200 h)
 
-  pub number-none : operator-kept f e o ≡ true → o.percent ≤ 200 → 0 ≡ operator-number f e o
-  unfolding operator-number percent_kept
+  pub number-none : operator_kept f e o ≡ true → o.percent ≤ 200 → 0 ≡ operator_number f e o
+  unfolding operator_number percent_kept
   number-none a h = rw (a, le-leb o.percent 200 h)

@@ -9,19 +9,19 @@ use mathlib.Core.List.{List, [], ◌∷◌, ◌++◌, append-nil}
 use lib.ListN.{length, get_or}
 use borrow.Author.Tests.{lt-ltb, le-ltb}
 use Rattle.task.specs.Table.{Task}
-use Rattle.task.specs.Rules.{no-operator}
+use Rattle.task.specs.Rules.{no_operator}
 use Rattle.task.specs.Semantics.{Effect, sets, clears, holds, effcond, value_after, apply}
-use Rattle.task.specs.Tree.{formula-of}
-use Rattle.task.specs.Run.{operator-of, goal-holds, applicable, charge-of, charge, Progress, after-step, Stop, ended, stopped, Run, answer, run_on, plain-run, unstopped, is-plan}
+use Rattle.task.specs.Tree.{formula_of}
+use Rattle.task.specs.Run.{operator_of, goal_holds, applicable, charge_of, charge, Progress, after_step, Stop, ended, stopped, Run, answer, run_on, plain_run, unstopped, is_plan}
 use Rattle.task.proofs.Bounded.{length-upto, getD-upto}
 
 -- the precondition of operator o holds in state s
 abbrev pub permits : Task → List ℕ → ℕ → Bool
-permits t s o = holds s (formula-of t.formulas (get_or t.operators o no-operator).precondition)
+permits t s o = holds s (formula_of t.formulas (get_or t.operators o no_operator).precondition)
 
 -- what a step is charged is told by the operator's row
-pub charged : (t : Task) (s : List ℕ) (o : ℕ) → charge t s o ≡ charge-of (get_or t.operators o no-operator)
-unfolding charge operator-of
+pub charged : (t : Task) (s : List ℕ) (o : ℕ) → charge t s o ≡ charge_of (get_or t.operators o no_operator)
+unfolding charge operator_of
 charged t s o = refl
 
 -- one number: it stops the run, or it is done
@@ -31,14 +31,14 @@ module _ (t : Task) (p : Progress) (o : ℕ) (rest : List ℕ) where
   outside past = rw (le-ltb o (length t.operators) past)
 
   forbidden : o < length t.operators → permits t p.state o ≡ false → run_on t p (o ∷ rest) ≡ answer t p (stopped 18)
-  unfolding run_on applicable operator-of
+  unfolding run_on applicable operator_of
   forbidden below e = rw (lt-ltb o (length t.operators) below, e)
 
   goes_on :
       o < length t.operators
       → permits t p.state o ≡ true
-      → run_on t p (o ∷ rest) ≡ run_on t (after-step t p o) rest
-  unfolding run_on applicable operator-of
+      → run_on t p (o ∷ rest) ≡ run_on t (after_step t p o) rest
+  unfolding run_on applicable operator_of
   goes_on below e = rw (lt-ltb o (length t.operators) below, e)
 
 -- the numbers are done one after another, each on the state that the last one left
@@ -48,7 +48,7 @@ pub data Does (t : Task) : Progress → List ℕ → Progress → Type 0 where
       {p q : Progress} {o : ℕ} {rest : List ℕ}
       → o < length t.operators
       → permits t p.state o ≡ true
-      → Does t (after-step t p o) rest q
+      → Does t (after_step t p o) rest q
       → Does t p (o ∷ rest) q
 
 -- what is left of the run is the run of the numbers that are left
@@ -72,13 +72,13 @@ halfway (o ∷ front) (more below e d) =
     let h = halfway front d in
     record { at = h.at; first = more below e h.first; then = h.then }
 
-pub steps-done :
+pub steps_done :
     {t : Task} {p q : Progress} {front : List ℕ}
     → Does t p front q
     → q.steps ≡ p.steps + length front
-unfolding after-step
-steps-done none = omega arith
-steps-done (more below e d) = omega (arith, steps-done d)
+unfolding after_step
+steps_done none = omega arith
+steps_done (more below e d) = omega (arith, steps_done d)
 
 -- Where and why a run stops: the numbers in front are done, and the next one is not below O or its precondition is false.
 pub record Stops (t : Task) (p : Progress) (numbers : List ℕ) (n : ℕ) : Type 0 where
@@ -98,13 +98,13 @@ pub data Ways (t : Task) (p : Progress) (numbers : List ℕ) : Type 0 where
 
 pub ways : (t : Task) (numbers : List ℕ) (p : Progress) → Ways t p numbers
 ways t [] p = ends none
-ways t (o ∷ rest) p = go (dec_lt o (length t.operators)) (permits t p.state o) refl (ways t rest (after-step t p o))
+ways t (o ∷ rest) p = go (dec_lt o (length t.operators)) (permits t p.state o) refl (ways t rest (after_step t p o))
   where
     go :
         Dec (o < length t.operators)
         → (b : Bool)
         → permits t p.state o ≡ b
-        → Ways t (after-step t p o) rest
+        → Ways t (after_step t p o) rest
         → Ways t p (o ∷ rest)
     go (no m) b e later =
         halts
@@ -126,15 +126,15 @@ ways t (o ∷ rest) p = go (dec_lt o (length t.operators)) (permits t p.state o)
         })
 
 -- what the run answers then
-pub does-answer : {t : Task} {p q : Progress} {numbers : List ℕ} → Does t p numbers q → run_on t p numbers ≡ answer t q ended
+pub does_answer : {t : Task} {p q : Progress} {numbers : List ℕ} → Does t p numbers q → run_on t p numbers ≡ answer t q ended
 unfolding run_on
-does-answer {t} {p} {q} {numbers} d = ap (run_on t p) (sym (append-nil numbers)) ∙ runs_on d []
+does_answer {t} {p} {q} {numbers} d = ap (run_on t p) (sym (append-nil numbers)) ∙ runs_on d []
 
-pub stops-answer :
+pub stops_answer :
     {t : Task} {p : Progress} {numbers : List ℕ} {n : ℕ}
     → (h : Stops t p numbers n)
     → run_on t p numbers ≡ answer t h.at (stopped n)
-stops-answer {t} {p} {numbers} {n} h =
+stops_answer {t} {p} {numbers} {n} h =
     ap (run_on t p) h.split ∙ runs_on h.done (h.next ∷ h.rest) ∙ go h.reason
   where
     go :
@@ -151,12 +151,12 @@ start s = record { state = s; steps = 0; cost = 0 }
 pub record Ends (t : Task) (s numbers : List ℕ) : Type 0 where
   pub at : Progress
   pub done : Does t (start s) numbers at
-  pub answers : plain-run t s numbers ≡ answer t at ended
+  pub answers : plain_run t s numbers ≡ answer t at ended
 
 pub record Halts (t : Task) (s numbers : List ℕ) (n : ℕ) : Type 0 where
   pub stops : Stops t (start s) numbers n
-  pub answers : plain-run t s numbers ≡ answer t stops.at (stopped n)
-  pub alone : plain-run t s stops.front ≡ answer t stops.at ended
+  pub answers : plain_run t s numbers ≡ answer t stops.at (stopped n)
+  pub alone : plain_run t s stops.front ≡ answer t stops.at ended
 
 -- Number o is done behind these: it is below O, and its precondition holds in the state that they leave.
 pub record Follows (t : Task) (s front : List ℕ) (o : ℕ) : Type 0 where
@@ -166,15 +166,15 @@ pub record Follows (t : Task) (s front : List ℕ) (o : ℕ) : Type 0 where
 
 module _ (t : Task) (s numbers : List ℕ) where
   ends_by : {q : Progress} → Does t (start s) numbers q → Ends t s numbers
-  unfolding plain-run
-  ends_by {q} d = record { at = q; done = d; answers = does-answer d }
+  unfolding plain_run
+  ends_by {q} d = record { at = q; done = d; answers = does_answer d }
 
   halts_by : {n : ℕ} → Stops t (start s) numbers n → Halts t s numbers n
-  unfolding plain-run
-  halts_by h = record { stops = h; answers = stops-answer h; alone = does-answer h.done }
+  unfolding plain_run
+  halts_by h = record { stops = h; answers = stops_answer h; alone = does_answer h.done }
 
   -- by the stop that it tells
-  pub ended-run : (plain-run t s numbers).stop ≡ ended → Ends t s numbers
+  pub ended-run : (plain_run t s numbers).stop ≡ ended → Ends t s numbers
   unfolding answer
   ended-run e = go (ways t numbers (start s))
     where
@@ -185,7 +185,7 @@ module _ (t : Task) (s numbers : List ℕ) where
           let z : ◌≡◌ {A = ℕ} 0 1 = cc in
           absurd (omega arith)
 
-  pub stopped-run : {n : ℕ} → (plain-run t s numbers).stop ≡ stopped n → Halts t s numbers n
+  pub stopped-run : {n : ℕ} → (plain_run t s numbers).stop ≡ stopped n → Halts t s numbers n
   unfolding answer
   stopped-run {n} e = go (ways t numbers (start s))
     where
@@ -200,19 +200,19 @@ module _ (t : Task) (s numbers : List ℕ) where
           halts_by (rw same at h)
 
   -- whether the goal holds is told of the last state, after a stop too
-  pub goal-told : (plain-run t s numbers).goal ≡ holds (plain-run t s numbers).state (formula-of t.formulas t.goal)
-  unfolding answer goal-holds
-  goal-told = go (ways t numbers (start s))
+  pub goal_told : (plain_run t s numbers).goal ≡ holds (plain_run t s numbers).state (formula_of t.formulas t.goal)
+  unfolding answer goal_holds
+  goal_told = go (ways t numbers (start s))
     where
       go :
           Ways t (start s) numbers
-          → (plain-run t s numbers).goal ≡ holds (plain-run t s numbers).state (formula-of t.formulas t.goal)
+          → (plain_run t s numbers).goal ≡ holds (plain_run t s numbers).state (formula_of t.formulas t.goal)
       go (ends d) = rw (ends_by d).answers
       go (halts h) = rw (halts_by h).answers
 
 module _ (t : Task) (s front : List ℕ) (o : ℕ) where
   -- each number of a run that is not stopped was done so
-  pub each-follows : (rest : List ℕ) → (plain-run t s (front ++ (o ∷ rest))).stop ≡ ended → Follows t s front o
+  pub each-follows : (rest : List ℕ) → (plain_run t s (front ++ (o ∷ rest))).stop ≡ ended → Follows t s front o
   unfolding ends_by
   each-follows rest e =
       let h = halfway front (ended-run t s (front ++ (o ∷ rest)) e).done in
@@ -222,16 +222,16 @@ module _ (t : Task) (s front : List ℕ) (o : ℕ) where
       go first (more below p d) = record { before = ends_by t s front first; below = below; permitted = p }
 
   -- and it is done there, if it is the last
-  pub one_more : (f : Follows t s front o) → plain-run t s (front ++ (o ∷ [])) ≡ answer t (after-step t f.before.at o) ended
-  unfolding plain-run run_on
+  pub one_more : (f : Follows t s front o) → plain_run t s (front ++ (o ∷ [])) ≡ answer t (after_step t f.before.at o) ended
+  unfolding plain_run run_on
   one_more f = runs_on f.before.done (o ∷ []) ∙ goes_on t f.before.at o [] f.below f.permitted
 
 -- A plan is an unstopped run that ends with the goal true.
-pub plan-exactly-if : (r : Run) → is-plan r ≡ true ↔ (r.stop ≡ ended) × (r.goal ≡ true)
-unfolding is-plan unstopped
-plan-exactly-if r = go r.stop refl
+pub plan_exactly_if : (r : Run) → is_plan r ≡ true ↔ (r.stop ≡ ended) × (r.goal ≡ true)
+unfolding is_plan unstopped
+plan_exactly_if r = go r.stop refl
   where
-    go : (q : Stop) → r.stop ≡ q → is-plan r ≡ true ↔ (r.stop ≡ ended) × (r.goal ≡ true)
+    go : (q : Stop) → r.stop ≡ q → is_plan r ≡ true ↔ (r.stop ≡ ended) × (r.goal ≡ true)
     go ended e = (λ p. (e, rw e at p), λ p. rw e p.1)
     go (stopped n) e = (λ p. absurd (false≢true (rw e at p)), λ p. let z : ◌≡◌ {A = ℕ} 0 1 = cc in absurd (omega arith))
 

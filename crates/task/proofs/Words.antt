@@ -7,18 +7,18 @@ use mathlib.Core.List.{List, [], ◌∷◌, ◌++◌, append_assoc, append-nil}
 use lib.ListN.{length, get_or, length-append, get_or-append}
 use lib.Seq.{ext_get_or, get_or-append-add, take-append_seam}
 use Rattle.task.specs.Bounded.{upto}
-use Rattle.task.specs.Table.{Row, Operator, operator-width, operator, Lent, Task, row_at, operator-at, task-of}
+use Rattle.task.specs.Table.{Row, Operator, operator_width, operator, Lent, Task, row_at, operator_at, task_of}
 use Rattle.task.specs.Check.{refusal}
-use Rattle.task.specs.Rules.{no_row, no-operator, Checked, LongEnough}
-use Rattle.task.specs.Words.{joined, row_words, operator-row-words, words_of, operator-words, head_of, lent_of}
+use Rattle.task.specs.Rules.{no_row, no_operator, Checked, LongEnough}
+use Rattle.task.specs.Words.{joined, row_words, operator_row_words, words_of, operator_words, head_of, lent_of}
 use Rattle.task.proofs.Bounded.{length-upto, getD-upto}
 use Rattle.task.proofs.Kept.{rules-kept}
 
-pub joined-append :
+pub joined_append :
     {A : Type 0} (f : A → List ℕ) (xs ys : List A) → joined f (xs ++ ys) ≡ joined f xs ++ joined f ys
 unfolding joined
-joined-append f [] ys = refl
-joined-append f (x ∷ xs) ys = rw (joined-append f xs ys) (sym (append_assoc (f x) (joined f xs) (joined f ys)))
+joined_append f [] ys = refl
+joined_append f (x ∷ xs) ys = rw (joined_append f xs ys) (sym (append_assoc (f x) (joined f xs) (joined f ys)))
 
 -- Rows of w words.
 module _ {A : Type 0} (f : A → List ℕ) (w : ℕ) (wide : (x : A) → length (f x) ≡ w) where
@@ -45,18 +45,18 @@ module _ {A : Type 0} (f : A → List ℕ) (w : ℕ) (wide : (x : A) → length 
       (get_or-append-add (f x) (joined f xs ++ tail) (w * i + k) 0
       ∙ joined_at xs tail d i k (w * i + k) (omega arith) b refl)
 
-pub length-words : (rows : List Row) → length (words_of rows) ≡ 3 * length rows
+pub length_words : (rows : List Row) → length (words_of rows) ≡ 3 * length rows
 unfolding words_of row_words
-length-words rows = length-joined row_words 3 (λ r. refl) rows
+length_words rows = length-joined row_words 3 (λ r. refl) rows
 
-pub length-operator-words : (operators : List Operator) → length (operator-words operators) ≡ operator-width * length operators
-unfolding operator-words operator-row-words
-length-operator-words operators = length-joined operator-row-words operator-width (λ o. refl) operators
+pub length_operator_words : (operators : List Operator) → length (operator_words operators) ≡ operator_width * length operators
+unfolding operator_words operator_row_words
+length_operator_words operators = length-joined operator_row_words operator_width (λ o. refl) operators
 
 -- an operator is what its words say
-pub operator-by-words : {p e c r : ℕ} (o : Operator) → operator-row-words o ≡ p ∷ e ∷ c ∷ r ∷ [] → o ≡ operator p e c r
-unfolding operator-row-words
-operator-by-words {p} {e} {c} {r} o q =
+pub operator_by_words : {p e c r : ℕ} (o : Operator) → operator_row_words o ≡ p ∷ e ∷ c ∷ r ∷ [] → o ≡ operator p e c r
+unfolding operator_row_words
+operator_by_words {p} {e} {c} {r} o q =
     let a : o.precondition ≡ p = cc in
     let b : o.effect ≡ e = cc in
     let d : o.cost ≡ c = cc in
@@ -65,13 +65,13 @@ operator-by-words {p} {e} {c} {r} o q =
 
 pub words_append : (rows more : List Row) → words_of (rows ++ more) ≡ words_of rows ++ words_of more
 unfolding words_of
-words_append rows more = joined-append row_words rows more
+words_append rows more = joined_append row_words rows more
 
-pub operator-words-append :
+pub operator_words_append :
     (operators more : List Operator)
-    → operator-words (operators ++ more) ≡ operator-words operators ++ operator-words more
-unfolding operator-words
-operator-words-append operators more = joined-append operator-row-words operators more
+    → operator_words (operators ++ more) ≡ operator_words operators ++ operator_words more
+unfolding operator_words
+operator_words_append operators more = joined_append operator_row_words operators more
 
 pub row_read :
     (rows : List Row) (tail : List ℕ) (i : ℕ)
@@ -86,12 +86,12 @@ row_read rows tail i h =
       b = joined_at row_words 3 (λ r. refl) rows tail no_row i 2 (3 * i + 2) h (omega arith) refl j;
     }
 
-pub operator-read :
+pub operator_read :
     (operators : List Operator) (tail : List ℕ) (i : ℕ)
     → i < length operators
-    → operator-at (operator-words operators ++ tail) i ≡ get_or operators i no-operator
-unfolding operator-at operator-words operator-row-words
-operator-read operators tail i h =
+    → operator_at (operator_words operators ++ tail) i ≡ get_or operators i no_operator
+unfolding operator_at operator_words operator_row_words
+operator_read operators tail i h =
     λ j.
     record {
       precondition = word 0 at (omega arith) (omega arith) j;
@@ -101,74 +101,74 @@ operator-read operators tail i h =
     }
   where
     at : ℕ
-    at = operator-width * i
+    at = operator_width * i
 
     word :
         (k n : ℕ)
-        → k < operator-width
+        → k < operator_width
         → n ≡ at + k
-        → get_or (operator-words operators ++ tail) n 0 ≡ get_or (operator-row-words (get_or operators i no-operator)) k 0
-    word k n b e = unfold operator-words operator-row-words in joined_at operator-row-words operator-width (λ o. refl) operators tail no-operator i k n h b e
+        → get_or (operator_words operators ++ tail) n 0 ≡ get_or (operator_row_words (get_or operators i no_operator)) k 0
+    word k n b e = unfold operator_words operator_row_words in joined_at operator_row_words operator_width (λ o. refl) operators tail no_operator i k n h b e
 
 -- a list is made again from its elements
-upto-getD : {A : Type 0} (xs : List A) (f : ℕ → A) (d : A) → ((i : ℕ) → i < length xs → f i ≡ get_or xs i d) → upto (length xs) f ≡ xs
-upto-getD xs f d same =
+upto_getD : {A : Type 0} (xs : List A) (f : ℕ → A) (d : A) → ((i : ℕ) → i < length xs → f i ≡ get_or xs i d) → upto (length xs) f ≡ xs
+upto_getD xs f d same =
     ext_get_or d (upto (length xs) f) xs (length-upto (length xs) f) (λ i h.
     let b : i < length xs = rw (length-upto (length xs) f) at h in
     getD-upto (length xs) f i d b ∙ same i b)
 
-pub rows-read : (rows : List Row) (tail : List ℕ) → upto (length rows) (row_at (words_of rows ++ tail)) ≡ rows
-rows-read rows tail = upto-getD rows (row_at (words_of rows ++ tail)) no_row (row_read rows tail)
+pub rows_read : (rows : List Row) (tail : List ℕ) → upto (length rows) (row_at (words_of rows ++ tail)) ≡ rows
+rows_read rows tail = upto_getD rows (row_at (words_of rows ++ tail)) no_row (row_read rows tail)
 
-pub operators-read :
+pub operators_read :
     (operators : List Operator) (tail : List ℕ)
-    → upto (length operators) (operator-at (operator-words operators ++ tail)) ≡ operators
-operators-read operators tail =
-    upto-getD operators (operator-at (operator-words operators ++ tail)) no-operator (operator-read operators tail)
+    → upto (length operators) (operator_at (operator_words operators ++ tail)) ≡ operators
+operators_read operators tail =
+    upto_getD operators (operator_at (operator_words operators ++ tail)) no_operator (operator_read operators tail)
 
 -- A task in tables that may be longer than it needs.
 module _ (t : Task) (i w f e o : List ℕ) where
-  unfoldable pub lent-in : Lent
-  lent-in =
+  unfoldable pub lent_in : Lent
+  lent_in =
       record {
         head = head_of t;
         initial = t.initial ++ i;
         twins = t.originals ++ w;
         formulas = words_of t.formulas ++ f;
         effects = words_of t.effects ++ e;
-        operators = operator-words t.operators ++ o;
+        operators = operator_words t.operators ++ o;
       }
 
-  pub task-in : task-of lent-in ≡ t
-  unfolding task-of lent-in head_of
+  pub task-in : task_of lent_in ≡ t
+  unfolding task_of lent_in head_of
   task-in =
       λ j.
       record {
         initial = take-append_seam t.initial i j;
         originals = take-append_seam t.originals w j;
-        formulas = rows-read t.formulas f j;
-        effects = rows-read t.effects e j;
-        operators = operators-read t.operators o j;
+        formulas = rows_read t.formulas f j;
+        effects = rows_read t.effects e j;
+        operators = operators_read t.operators o j;
         goal = t.goal;
       }
 
-  pub long-in : LongEnough lent-in
-  unfolding lent-in head_of
+  pub long-in : LongEnough lent_in
+  unfolding lent_in head_of
   long-in =
       record {
         initial = omega (arith, length-append t.initial i);
         twins = omega (arith, length-append t.originals w);
-        formulas = omega (arith, length-append (words_of t.formulas) f, length-words t.formulas);
-        effects = omega (arith, length-append (words_of t.effects) e, length-words t.effects);
-        operators = omega (arith, length-append (operator-words t.operators) o, length-operator-words t.operators);
+        formulas = omega (arith, length-append (words_of t.formulas) f, length_words t.formulas);
+        effects = omega (arith, length-append (words_of t.effects) e, length_words t.effects);
+        operators = omega (arith, length-append (operator_words t.operators) o, length_operator_words t.operators);
       }
 
-  pub kept_in : Checked t → refusal lent-in ≡ 0
-  kept_in r = rules-kept lent-in long-in (rw task-in r)
+  pub kept_in : Checked t → refusal lent_in ≡ 0
+  kept_in r = rules-kept lent_in long-in (rw task-in r)
 
-pub lent-exactly : (t : Task) → lent-in t [] [] [] [] [] ≡ lent_of t
-unfolding lent-in lent_of
-lent-exactly t =
+pub lent_exactly : (t : Task) → lent_in t [] [] [] [] [] ≡ lent_of t
+unfolding lent_in lent_of
+lent_exactly t =
     λ j.
     record {
       head = head_of t;
@@ -176,11 +176,11 @@ lent-exactly t =
       twins = append-nil t.originals j;
       formulas = append-nil (words_of t.formulas) j;
       effects = append-nil (words_of t.effects) j;
-      operators = append-nil (operator-words t.operators) j;
+      operators = append-nil (operator_words t.operators) j;
     }
 
-pub task-of-lent : (t : Task) → task-of (lent_of t) ≡ t
-task-of-lent t = ap task-of (sym (lent-exactly t)) ∙ task-in t [] [] [] [] []
+pub task_of_lent : (t : Task) → task_of (lent_of t) ≡ t
+task_of_lent t = ap task_of (sym (lent_exactly t)) ∙ task-in t [] [] [] [] []
 
-pub lent-kept : (t : Task) → Checked t → refusal (lent_of t) ≡ 0
-lent-kept t r = ap refusal (sym (lent-exactly t)) ∙ kept_in t [] [] [] [] [] r
+pub lent_kept : (t : Task) → Checked t → refusal (lent_of t) ≡ 0
+lent_kept t r = ap refusal (sym (lent_exactly t)) ∙ kept_in t [] [] [] [] [] r

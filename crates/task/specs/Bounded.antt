@@ -16,6 +16,6 @@ unfoldable pub or_else : ℕ → ℕ → ℕ
 or_else zero rest = rest
 or_else (suc number) rest = suc number
 
-unfoldable pub first-number : ℕ → (ℕ → ℕ) → ℕ
-first-number zero f = 0
-first-number (suc n) f = or_else (first-number n f) (f n)
+unfoldable pub first_number : ℕ → (ℕ → ℕ) → ℕ
+first_number zero f = 0
+first_number (suc n) f = or_else (first_number n f) (f n)

@@ -35,16 +35,16 @@ holds s (disjunction p q) = holds s p || holds s q
 holds s (implication p q) = not (holds s p) || holds s q
 holds s (equivalence p q) = beq (holds s p) (holds s q)
 
-abbrev pub same-atom : Atom → Atom → Bool
-same-atom (sets v) (sets w) = eqb v w
-same-atom (sets v) (clears w) = false
-same-atom (clears v) (sets w) = false
-same-atom (clears v) (clears w) = eqb v w
+abbrev pub same_atom : Atom → Atom → Bool
+same_atom (sets v) (sets w) = eqb v w
+same_atom (sets v) (clears w) = false
+same_atom (clears v) (sets w) = false
+same_atom (clears v) (clears w) = eqb v w
 
 -- s ⊨ effcond(l, e) (002, "Effect Condition for an Effect")
 unfoldable pub effcond : List ℕ → Atom → Effect → Bool
 effcond s l empty = false
-effcond s l (atomic m) = same-atom l m
+effcond s l (atomic m) = same_atom l m
 effcond s l (both e f) = effcond s l e || effcond s l f
 effcond s l (under p e) = holds s p && effcond s l e
 

@@ -11,29 +11,29 @@ pub record Row : Type 0 where
 
 -- 01, "Formula kinds": the number of a kind is its place in the list.
 pub data FormulaKind : Type 0 where
-  false-kind true-kind variable-kind not-kind and-kind or-kind implies-kind equivalent-kind unknown-formula : FormulaKind
+  false_kind true_kind variable_kind not_kind and_kind or_kind implies_kind equivalent_kind unknown_formula : FormulaKind
 
-unfoldable pub formula-kind : ℕ → FormulaKind
-formula-kind n =
+unfoldable pub formula_kind : ℕ → FormulaKind
+formula_kind n =
     get_or
-    (false-kind
-    ∷ true-kind
-    ∷ variable-kind
-    ∷ not-kind
-    ∷ and-kind
-    ∷ or-kind
-    ∷ implies-kind
-    ∷ equivalent-kind
+    (false_kind
+    ∷ true_kind
+    ∷ variable_kind
+    ∷ not_kind
+    ∷ and_kind
+    ∷ or_kind
+    ∷ implies_kind
+    ∷ equivalent_kind
     ∷ [])
     n
-    unknown-formula
+    unknown_formula
 
 -- 01, "Effect kinds"
 pub data EffectKind : Type 0 where
-  empty-kind set-kind clear-kind both-kind under-kind unknown-effect : EffectKind
+  empty_kind set_kind clear_kind both_kind under_kind unknown_effect : EffectKind
 
-unfoldable pub effect-kind : ℕ → EffectKind
-effect-kind n = get_or (empty-kind ∷ set-kind ∷ clear-kind ∷ both-kind ∷ under-kind ∷ []) n unknown-effect
+unfoldable pub effect_kind : ℕ → EffectKind
+effect_kind n = get_or (empty_kind ∷ set_kind ∷ clear_kind ∷ both_kind ∷ under_kind ∷ []) n unknown_effect
 
 -- An operator's row: four words (02, K2).
 pub record Operator : Type 0 where
@@ -42,16 +42,16 @@ pub record Operator : Type 0 where
   pub cost : ℕ
   pub percent : ℕ
 
-abbrev pub operator-width : ℕ
-operator-width = 4
+abbrev pub operator_width : ℕ
+operator_width = 4
 
 -- the operator whose row has these words, in their order
 abbrev pub operator : (precondition effect cost percent : ℕ) → Operator
 operator p e c r = record { precondition = p; effect = e; cost = c; percent = r }
 
 -- the same operator with another precondition and effect: cost and percent are kept
-abbrev pub with-parts : Operator → (precondition effect : ℕ) → Operator
-with-parts o p e = record { precondition = p; effect = e; cost = o.cost; percent = o.percent }
+abbrev pub with_parts : Operator → (precondition effect : ℕ) → Operator
+with_parts o p e = record { precondition = p; effect = e; cost = o.cost; percent = o.percent }
 
 -- What a caller lends: the head, and for each table at least as many words (of the initial state: bytes) as the head counts.
 pub record Lent : Type 0 where
@@ -76,33 +76,33 @@ pub record Task : Type 0 where
 unfoldable pub row_at : List ℕ → ℕ → Row
 row_at words i = record { kind = get_or words (3 * i) 0; a = get_or words (3 * i + 1) 0; b = get_or words (3 * i + 2) 0 }
 
-unfoldable pub operator-at : List ℕ → ℕ → Operator
-operator-at words i =
-    let at = operator-width * i in
+unfoldable pub operator_at : List ℕ → ℕ → Operator
+operator_at words i =
+    let at = operator_width * i in
     operator (get_or words at 0) (get_or words (at + 1) 0) (get_or words (at + 2) 0) (get_or words (at + 3) 0)
 
 -- A row on request: that part of the lent table, its words; where the row is not wholly inside it, the empty part. Only the range is looked at.
 unfoldable pub part : (width : ℕ) → List ℕ → ℕ → List ℕ
 part width words i = cond (leb (width * i + width) (length words)) (take width (drop (width * i) words)) []
 
-abbrev pub row-part : List ℕ → ℕ → List ℕ
-row-part words i = part 3 words i
+abbrev pub row_part : List ℕ → ℕ → List ℕ
+row_part words i = part 3 words i
 
-abbrev pub operator-part : List ℕ → ℕ → List ℕ
-operator-part words i = part operator-width words i
+abbrev pub operator_part : List ℕ → ℕ → List ℕ
+operator_part words i = part operator_width words i
 
 -- what a call on tables is lent, from its arguments
 abbrev pub lent : Head → (initial twins formulas effects operators : List ℕ) → Lent
 lent h i w f e o = record { head = h; initial = i; twins = w; formulas = f; effects = e; operators = o }
 
 -- The task that lent tables hold. What is lent beyond the counts does not belong to it.
-unfoldable pub task-of : Lent → Task
-task-of l =
+unfoldable pub task_of : Lent → Task
+task_of l =
     record {
       initial = take l.head.variables l.initial;
       originals = take l.head.twins l.twins;
       formulas = upto l.head.formulas (row_at l.formulas);
       effects = upto l.head.effects (row_at l.effects);
-      operators = upto l.head.operators (operator-at l.operators);
+      operators = upto l.head.operators (operator_at l.operators);
       goal = l.head.goal;
     }

@@ -17,16 +17,16 @@ unfoldable pub row_words : Row → List ℕ
 row_words r = r.kind ∷ r.a ∷ r.b ∷ []
 
 -- an operator's row: its four words
-unfoldable pub operator-row-words : Operator → List ℕ
-operator-row-words o = o.precondition ∷ o.effect ∷ o.cost ∷ o.percent ∷ []
+unfoldable pub operator_row_words : Operator → List ℕ
+operator_row_words o = o.precondition ∷ o.effect ∷ o.cost ∷ o.percent ∷ []
 
 -- a table of formulas or of effects, flat
 unfoldable pub words_of : List Row → List ℕ
 words_of rows = joined row_words rows
 
 -- a table of operators, flat
-unfoldable pub operator-words : List Operator → List ℕ
-operator-words operators = joined operator-row-words operators
+unfoldable pub operator_words : List Operator → List ℕ
+operator_words operators = joined operator_row_words operators
 
 -- the counts of a task, and its goal
 unfoldable pub head_of : Task → Head
@@ -49,5 +49,5 @@ lent_of t =
       twins = t.originals;
       formulas = words_of t.formulas;
       effects = words_of t.effects;
-      operators = operator-words t.operators;
+      operators = operator_words t.operators;
     }

@@ -1,9 +1,9 @@
 // The check of lent tables: 0, or the scope's first number in order.
 ghost use Rattle.std.specs.Prelude.{ℕ, ◌*◌, ◌≤◌, ◌≡◌, length, get_or, leb};
-ghost use Rattle.task.specs.Bounded.{every, first-number};
+ghost use Rattle.task.specs.Bounded.{every, first_number};
 ghost use Rattle.task.specs.Table.{lent};
-ghost use Rattle.task.specs.Check.{twin-kept, unless as unless-kept, refusal};
-ghost use Rattle.task.specs.Inner.Tables.{width, words-number, row_number};
+ghost use Rattle.task.specs.Check.{twin_kept, unless as unless_kept, refusal};
+ghost use Rattle.task.specs.Inner.Tables.{width, words_number, row_number};
 
 use crate::rows::{effect_kept, formula_kept, operator_number};
 use crate::table_rows::row_at;
@@ -35,7 +35,7 @@ fn bits_kept(initial: &[u8], count: usize) -> bool
 // row has named it.
 fn twins_kept(twins: &[u16], count: usize, bound: usize) -> bool
     requires { (count ≤ length twins.now) × (bound ≤ 512) }
-    ensures { result ≡ every count (twin-kept bound twins.now) }
+    ensures { result ≡ every count (twin_kept bound twins.now) }
 {
     let mut named = [0u8; 512];
     let mut k = 0;
@@ -55,14 +55,14 @@ fn twins_kept(twins: &[u16], count: usize, bound: usize) -> bool
 
 // The number, unless the rule is kept.
 fn unless(kept: bool, number: u16) -> u16
-    ensures { result ≡ unless-kept kept number 0 }
+    ensures { result ≡ unless_kept kept number 0 }
 {
     if kept { 0 } else { number }
 }
 
 // The number of row i of a table: 0, or that of the rule which it breaks. Constant time.
 fn row_number(table: Table, head: Head, i: usize, row: TableRow) -> u16
-    ensures { result ≡ words-number table head i row }
+    ensures { result ≡ words_number table head i row }
 {
     let variables = head.variables as usize;
     let formulas = head.formulas as usize;
@@ -89,7 +89,7 @@ fn row_number(table: Table, head: Head, i: usize, row: TableRow) -> u16
 // The first number among the first `count` rows of a table, 0 if all keep their rule. Linear.
 fn rows_number(table: Table, head: Head, words: &[u16], count: usize) -> u16
     requires { width table * count ≤ length words.now }
-    ensures { result ≡ first-number count (row_number table head words.now) }
+    ensures { result ≡ first_number count (row_number table head words.now) }
 {
     let mut i = 0;
     while i < count {

@@ -1,10 +1,10 @@
 // The head's own rules: 6 and 7.
 ghost use Rattle.std.specs.Prelude.{◌≡◌};
-ghost use Rattle.task.specs.Check.{counts-kept, goal-kept};
+ghost use Rattle.task.specs.Check.{counts_kept, goal_kept};
 
 // Whether every count is within its limits. Constant time.
 pub fn counts_kept(head: crate::Head) -> bool
-    ensures { result ≡ counts-kept head }
+    ensures { result ≡ counts_kept head }
 {
     if crate::MOST_VARIABLES < head.variables {
         return false;
@@ -27,7 +27,7 @@ pub fn counts_kept(head: crate::Head) -> bool
 
 // Whether the goal is a formula of the table. Constant time.
 pub fn goal_kept(head: crate::Head) -> bool
-    ensures { result ≡ goal-kept head }
+    ensures { result ≡ goal_kept head }
 {
     head.goal < head.formulas
 }

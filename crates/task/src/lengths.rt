@@ -1,7 +1,7 @@
 // Whether lent tables are long enough for their counts: 5.
 ghost use Rattle.std.specs.Prelude.{◌≡◌};
 ghost use Rattle.task.specs.Table.{lent};
-ghost use Rattle.task.specs.Check.{long-enough};
+ghost use Rattle.task.specs.Check.{long_enough};
 
 use crate::operator_rows::OPERATOR_WORDS;
 
@@ -14,7 +14,7 @@ pub fn long_enough(
     effects: &[u16],
     operators: &[u16],
 ) -> bool
-    ensures { result ≡ long-enough (lent head initial.now twins.now formulas.now effects.now operators.now) }
+    ensures { result ≡ long_enough (lent head initial.now twins.now formulas.now effects.now operators.now) }
 {
     if initial.len() < head.variables as usize {
         return false;

@@ -1,4 +1,6 @@
 // The tables of a task: their limits, their rows, and the check that every call on tables makes first.
+#![tactic(auto)]
+
 pub mod check;
 pub mod clear;
 pub mod counts;
@@ -9,7 +11,7 @@ pub mod table_rows;
 
 // What stands before the tables: V variables, W twins ("twin" is the scope's word for an opposite variable), F formulas, E effects,
 // O operators, and the number of the goal's formula.
-#[derive(Drop)]
+#[derive(Clone, Copy)]
 pub struct Head {
     pub variables: u16,
     pub twins: u16,
@@ -20,7 +22,7 @@ pub struct Head {
 }
 
 // The tables of rows.
-#[derive(Drop)]
+#[derive(Clone, Copy)]
 pub enum Table {
     Formulas,
     Effects,
@@ -28,7 +30,7 @@ pub enum Table {
 }
 
 // The words of a row, in their order; a row of three has 0 behind them.
-#[derive(Drop)]
+#[derive(Clone, Copy)]
 pub struct TableRow {
     pub first: u16,
     pub second: u16,

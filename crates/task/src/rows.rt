@@ -1,7 +1,7 @@
 // The part of a table that a row is, and the rule that a row keeps.
 ghost use Rattle.std.specs.Prelude.{◌≤◌, ◌≡◌, ◌&&◌};
-ghost use Rattle.task.specs.Table.{operator, part as row-words-part, row-part, operator-part, formula-kind, effect-kind};
-ghost use Rattle.task.specs.Check.{formula-words-kept, effect-words-kept, operator-kept, operator-number};
+ghost use Rattle.task.specs.Table.{operator, part as row-words-part, row_part, operator_part, formula_kind, effect_kind};
+ghost use Rattle.task.specs.Check.{formula_words_kept, effect_words_kept, operator_kept, operator_number};
 
 use crate::MOST_PERCENT;
 use crate::operator_rows::OPERATOR_WORDS;
@@ -23,14 +23,14 @@ fn part(table: &[u16], width: usize, number: usize) -> &[u16]
 
 // A formula's or an effect's row on request. Every number is fine.
 pub fn row(table: &[u16], number: usize) -> &[u16]
-    ensures { result.now ≡ row-part table.now number }
+    ensures { result.now ≡ row_part table.now number }
 {
     part(table, 3, number)
 }
 
 // An operator's row on request. Every number is fine.
 pub fn operator_row(table: &[u16], number: usize) -> &[u16]
-    ensures { result.now ≡ operator-part table.now number }
+    ensures { result.now ≡ operator_part table.now number }
 {
     part(table, OPERATOR_WORDS, number)
 }
@@ -43,7 +43,7 @@ fn both(x: bool, y: bool) -> bool
 
 // Whether the words of formula row i are right. Constant time, as are the two below.
 pub fn formula_kept(variables: usize, i: usize, kind: u16, a: u16, b: u16) -> bool
-    ensures { result ≡ formula-words-kept variables i (formula-kind kind) a b }
+    ensures { result ≡ formula_words_kept variables i (formula_kind kind) a b }
 {
     match kind {
         0 | 1 => both(a == 0, b == 0),
@@ -56,7 +56,7 @@ pub fn formula_kept(variables: usize, i: usize, kind: u16, a: u16, b: u16) -> bo
 
 // Whether the words of effect row i are right.
 pub fn effect_kept(variables: usize, formulas: usize, i: usize, kind: u16, a: u16, b: u16) -> bool
-    ensures { result ≡ effect-words-kept variables formulas i (effect-kind kind) a b }
+    ensures { result ≡ effect_words_kept variables formulas i (effect_kind kind) a b }
 {
     match kind {
         0 => both(a == 0, b == 0),
@@ -76,7 +76,7 @@ fn operator_kept(
     cost: u16,
     percent: u16,
 ) -> bool
-    ensures { result ≡ operator-kept formulas effects (operator precondition effect cost percent) }
+    ensures { result ≡ operator_kept formulas effects (operator precondition effect cost percent) }
 {
     both(
         (precondition as usize) < formulas,
@@ -93,7 +93,7 @@ pub fn operator_number(
     cost: u16,
     percent: u16,
 ) -> u16
-    ensures { result ≡ operator-number formulas effects (operator precondition effect cost percent) }
+    ensures { result ≡ operator_number formulas effects (operator precondition effect cost percent) }
 {
     if !operator_kept(formulas, effects, precondition, effect, cost, percent) {
         return 12;

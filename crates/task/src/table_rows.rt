@@ -1,6 +1,6 @@
 // Rows of any of the three tables of rows: their words, in order. Constant time, each.
 ghost use Rattle.std.specs.Prelude.{◌+◌, ◌*◌, ◌≤◌, ◌≡◌, length};
-ghost use Rattle.task.specs.Inner.Tables.{width, words-at, row-stored};
+ghost use Rattle.task.specs.Inner.Tables.{width, words_at, row_stored};
 
 use crate::operator_rows::{cost_of, effect_of, percent_of, precondition_of, store_operator};
 use crate::{Table, TableRow};
@@ -8,7 +8,7 @@ use crate::{Table, TableRow};
 // A formula's or an effect's row.
 fn three_at(words: &[u16], i: usize) -> TableRow
     requires { 3 * i + 3 ≤ length words.now }
-    ensures { result ≡ words-at Table.Formulas words.now i }
+    ensures { result ≡ words_at Table.Formulas words.now i }
 {
     let k = 3 * i;
     TableRow {
@@ -22,7 +22,7 @@ fn three_at(words: &[u16], i: usize) -> TableRow
 // An operator's row.
 fn operator_at(words: &[u16], i: usize) -> TableRow
     requires { width Table.Operators * i + width Table.Operators ≤ length words.now }
-    ensures { result ≡ words-at Table.Operators words.now i }
+    ensures { result ≡ words_at Table.Operators words.now i }
 {
     TableRow {
         first: precondition_of(words, i),
@@ -35,7 +35,7 @@ fn operator_at(words: &[u16], i: usize) -> TableRow
 // Row i.
 pub fn row_at(table: Table, words: &[u16], i: usize) -> TableRow
     requires { width table * i + width table ≤ length words.now }
-    ensures { result ≡ words-at table words.now i }
+    ensures { result ≡ words_at table words.now i }
 {
     match table {
         Table::Formulas => three_at(words, i),
@@ -47,7 +47,7 @@ pub fn row_at(table: Table, words: &[u16], i: usize) -> TableRow
 // Stores a formula's or an effect's row.
 fn store_three(words: &mut [u16], i: usize, row: TableRow)
     requires { 3 * i + 3 ≤ length words.old }
-    ensures { words.new ≡ row-stored Table.Formulas words.old i row }
+    ensures { words.new ≡ row_stored Table.Formulas words.old i row }
 {
     let k = 3 * i;
     words[k] = row.first;
@@ -58,7 +58,7 @@ fn store_three(words: &mut [u16], i: usize, row: TableRow)
 // Stores row i.
 pub fn store_row(table: Table, words: &mut [u16], i: usize, row: TableRow)
     requires { width table * i + width table ≤ length words.old }
-    ensures { words.new ≡ row-stored table words.old i row }
+    ensures { words.new ≡ row_stored table words.old i row }
 {
     match table {
         Table::Formulas => store_three(words, i, row),

@@ -9,17 +9,17 @@ use lib.ListN.{length, take, drop}
 use Rattle.task.specs.declared.Head.{Head}
 use Rattle.task.specs.declared.Table.{Table}
 use Rattle.task.specs.declared.Table.TheVariants.{Formulas, Effects, Operators}
-use Rattle.task.specs.Words.{joined, row_words, operator-row-words, words_of, operator-words}
-use Rattle.task.proofs.Words.{joined-append}
+use Rattle.task.specs.Words.{joined, row_words, operator_row_words, words_of, operator_words}
+use Rattle.task.proofs.Words.{joined_append}
 use Rattle.task.specs.declared.TableRow.{TableRow}
-use Rattle.task.specs.Inner.Tables.{width, listed, row-stored}
-use Rattle.task.proofs.Stores.{row-there, length-row-stored, row-front, row-behind}
-use Rattle.file_format.specs.Parse.{Parsed, parsed, unparsed, next, table-read}
-use Rattle.file_format.specs.Reading.{formula-read, effect-read, operator-read}
-use Rattle.task_file.specs.Inner.Tables.{kept-words-read, words-read}
+use Rattle.task.specs.Inner.Tables.{width, listed, row_stored}
+use Rattle.task.proofs.Stores.{row_there, length_row_stored, row_front, row_behind}
+use Rattle.file_format.specs.Parse.{Parsed, parsed, unparsed, next, table_read}
+use Rattle.file_format.specs.Reading.{formula_read, effect_read, operator_read}
+use Rattle.task_file.specs.Inner.Tables.{kept_words_read, words_read}
 use Rattle.task_file.specs.declared.Place.{Place}
 use Rattle.task_file.specs.declared.Place.TheVariants.{At, Nowhere}
-use Rattle.task_file.specs.Inner.Answers.{ReadPart, place-told}
+use Rattle.task_file.specs.Inner.Answers.{ReadPart, place_told}
 
 -- a table of n rows is one of n - 1 rows and the last row
 module _ (p : ℕ → Parsed (List ℕ)) (q : ℕ → List ℕ → List ℕ → Parsed (List ℕ))
@@ -53,7 +53,7 @@ module _ (p : ℕ → Parsed (List ℕ)) (q : ℕ → List ℕ → List ℕ → 
 module _ {A : Type 0} (row : List ℕ → Parsed A) (words : A → List ℕ) where
   snoc-words : (done : List A) (r : A) → joined words (done ++ (r ∷ [])) ≡ joined words done ++ words r
   unfolding joined
-  snoc-words done r = joined-append words done (r ∷ []) ∙ ap (λ (l : List ℕ). joined words done ++ l) (append-nil (words r))
+  snoc-words done r = joined_append words done (r ∷ []) ∙ ap (λ (l : List ℕ). joined words done ++ l) (append-nil (words r))
 
   more-words :
       (o : Parsed (List A))
@@ -72,15 +72,15 @@ module _ {A : Type 0} (row : List ℕ → Parsed A) (words : A → List ℕ) whe
 
 pub rows_step :
     (h : Head) (bytes : List ℕ) (table : Table) (i : ℕ)
-    → words-read table h (suc i) bytes
-    ≡ next (words-read table h i bytes) (λ ws rest. next (kept-words-read table h i rest) (λ x. parsed (ws ++ x)))
-unfolding table-read words_of operator-words formula-read effect-read operator-read
-rows_step h bytes Formulas i = more-words (formula-read h.variables i []) row_words (table-read (formula-read h.variables) i bytes)
-rows_step h bytes Effects i = more-words (effect-read h.variables h.formulas i []) row_words (table-read (effect-read h.variables h.formulas) i bytes)
-rows_step h bytes Operators i = more-words (operator-read h.formulas h.effects i []) operator-row-words (table-read (operator-read h.formulas h.effects) i bytes)
+    → words_read table h (suc i) bytes
+    ≡ next (words_read table h i bytes) (λ ws rest. next (kept_words_read table h i rest) (λ x. parsed (ws ++ x)))
+unfolding table_read words_of operator_words formula_read effect_read operator_read
+rows_step h bytes Formulas i = more-words (formula_read h.variables i []) row_words (table_read (formula_read h.variables) i bytes)
+rows_step h bytes Effects i = more-words (effect_read h.variables h.formulas i []) row_words (table_read (effect_read h.variables h.formulas) i bytes)
+rows_step h bytes Operators i = more-words (operator_read h.formulas h.effects i []) operator_row_words (table_read (operator_read h.formulas h.effects) i bytes)
 
-pub rows_none : (h : Head) (bytes : List ℕ) (table : Table) → words-read table h 0 bytes ≡ parsed [] bytes
-unfolding table-read next words_of operator-words joined
+pub rows_none : (h : Head) (bytes : List ℕ) (table : Table) → words_read table h 0 bytes ≡ parsed [] bytes
+unfolding table_read next words_of operator_words joined
 rows_none h bytes Formulas = refl
 rows_none h bytes Effects = refl
 rows_none h bytes Operators = refl
@@ -105,7 +105,7 @@ module _ (n : ℕ → ℕ) (p : ℕ → Parsed (List ℕ)) (q : ℕ → List ℕ
       → ReadPart (n count) file (p count) r before after
   done_refused words i place d h e f after same =
       record {
-        told = ap (place-told file (take (n count) after)) f ∙ sym (stopped p q step i d.front e count h);
+        told = ap (place_told file (take (n count) after)) f ∙ sym (stopped p q step i d.front e count h);
         behind = same ∙ d.behind;
       }
 
@@ -137,16 +137,16 @@ module _ (n : ℕ → ℕ) (p : ℕ → Parsed (List ℕ)) (q : ℕ → List ℕ
 
 -- the loop over the rows of a table
 module _ (table : Table) (h : Head) (count : ℕ) (file : List ℕ) (at : ℕ) (before : List ℕ) where
-  abbrev pub rows-p : ℕ → Parsed (List ℕ)
-  rows-p i = words-read table h i (drop at file)
+  abbrev pub rows_p : ℕ → Parsed (List ℕ)
+  rows_p i = words_read table h i (drop at file)
 
-  abbrev rows-q : ℕ → List ℕ → List ℕ → Parsed (List ℕ)
-  rows-q i ws rest = kept-words-read table h i rest
+  abbrev rows_q : ℕ → List ℕ → List ℕ → Parsed (List ℕ)
+  rows_q i ws rest = kept_words_read table h i rest
 
   abbrev pub RowsDone : List ℕ → ℕ → ℕ → Type 0
-  RowsDone words i place = Done (λ i. width table * i) rows-p count file before words i place
+  RowsDone words i place = Done (λ i. width table * i) rows_p count file before words i place
 
-  none_read : (t : Table) → words-read t h 0 (drop at file) ≡ parsed (take (width t * 0) before) (drop at file)
+  none_read : (t : Table) → words_read t h 0 (drop at file) ≡ parsed (take (width t * 0) before) (drop at file)
   none_read Formulas = rows_none h (drop at file) Formulas
   none_read Effects = rows_none h (drop at file) Effects
   none_read Operators = rows_none h (drop at file) Operators
@@ -158,28 +158,28 @@ module _ (table : Table) (h : Head) (count : ℕ) (file : List ℕ) (at : ℕ) (
       (words : List ℕ) (i place : ℕ) {k : ℕ} {r : Place}
       → RowsDone words i place
       → i < count
-      → kept-words-read table h i (drop place file) ≡ unparsed k
+      → kept_words_read table h i (drop place file) ≡ unparsed k
       → r ≡ Nowhere k
-      → ReadPart (width table * count) file (words-read table h count (drop at file)) r before words
+      → ReadPart (width table * count) file (words_read table h count (drop at file)) r before words
   rows-refused words i place d l e f =
-      done_refused (λ i. width table * i) rows-p rows-q (rows_step h (drop at file) table) count file before words i place d l e f words refl
+      done_refused (λ i. width table * i) rows_p rows_q (rows_step h (drop at file) table) count file before words i place d l e f words refl
 
   pub rows_end :
       (words : List ℕ) (i place : ℕ)
       → RowsDone words i place
       → count ≤ i
-      → ReadPart (width table * count) file (words-read table h count (drop at file)) (At place) before words
-  rows_end words i place d l = done_end (λ i. width table * i) rows-p rows-q (rows_step h (drop at file) table) count file before words i place d l
+      → ReadPart (width table * count) file (words_read table h count (drop at file)) (At place) before words
+  rows_end words i place d l = done_end (λ i. width table * i) rows_p rows_q (rows_step h (drop at file) table) count file before words i place d l
 
   pub rows_more :
       (words : List ℕ) (i place : ℕ) {next_place : ℕ} (r : TableRow)
       → width table * count ≤ length before
       → RowsDone words i place
       → i < count
-      → kept-words-read table h i (drop place file) ≡ parsed (listed table r) (drop next_place file)
-      → RowsDone (row-stored table words i r) (i + 1) next_place
+      → kept_words_read table h i (drop place file) ≡ parsed (listed table r) (drop next_place file)
+      → RowsDone (row_stored table words i r) (i + 1) next_place
   rows_more words i place {next_place} r long d l e =
-      done_more (λ i. width table * i) rows-p rows-q (rows_step h (drop at file) table) count file before words (row-stored table words i r) i place d l e
-      (length-row-stored table words i r)
-      (row-front table words i r (omega (arith, row-there table l long, d.size)))
-      (row-behind table words i r count l)
+      done_more (λ i. width table * i) rows_p rows_q (rows_step h (drop at file) table) count file before words (row_stored table words i r) i place d l e
+      (length_row_stored table words i r)
+      (row_front table words i r (omega (arith, row_there table l long, d.size)))
+      (row_behind table words i r count l)

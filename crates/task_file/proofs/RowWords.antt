@@ -9,35 +9,35 @@ use Rattle.task.specs.declared.Head.{Head}
 use Rattle.task.specs.declared.Table.{Table}
 use Rattle.task.specs.declared.Table.TheVariants.{Formulas, Effects, Operators}
 use Rattle.task.specs.Table.{Row, Operator, operator}
-use Rattle.task.specs.Check.{formula-kept, effect-kept, operator-number}
-use Rattle.task.specs.Words.{row_words, operator-row-words}
-use Rattle.task.proofs.Words.{operator-by-words}
-use Rattle.file_format.specs.Bytes.{zeros, row-defaults, operator-defaults}
-use Rattle.file_format.specs.Parse.{Parsed, parsed, unparsed, next, kept, byte-read, field-read, fields_read, mapped-read}
-use Rattle.file_format.specs.Reading.{row_read, operator-fields-read, formula-read, effect-read, operator-right, operator-read}
-use Rattle.task_file.specs.Inner.Tables.{row-words-read, kept-words-read}
+use Rattle.task.specs.Check.{formula_kept, effect_kept, operator_number}
+use Rattle.task.specs.Words.{row_words, operator_row_words}
+use Rattle.task.proofs.Words.{operator_by_words}
+use Rattle.file_format.specs.Bytes.{zeros, row_defaults, operator_defaults}
+use Rattle.file_format.specs.Parse.{Parsed, parsed, unparsed, next, kept, byte_read, field_read, fields_read, mapped_read}
+use Rattle.file_format.specs.Reading.{row_read, operator_fields_read, formula_read, effect_read, operator_right, operator_read}
+use Rattle.task_file.specs.Inner.Tables.{row_words_read, kept_words_read}
 use Rattle.file_format.proofs.Parse.{parsed-value, parsed-rest, refused-parsed}
 
 -- three fields
 module _ (m : ℕ) (bytes : List ℕ) where
-  pub first-refused : {n : ℕ} → field-read 0 (m % 2) bytes ≡ unparsed n → fields_read zeros m bytes ≡ unparsed n
+  pub first-refused : {n : ℕ} → field_read 0 (m % 2) bytes ≡ unparsed n → fields_read zeros m bytes ≡ unparsed n
   unfolding fields_read next
   first-refused e = rw e
 
-  module _ {a : ℕ} {r1 : List ℕ} (e1 : field-read 0 (m % 2) bytes ≡ parsed a r1) where
-    pub second-refused : {n : ℕ} → field-read 0 (m / 2 % 2) r1 ≡ unparsed n → fields_read zeros m bytes ≡ unparsed n
+  module _ {a : ℕ} {r1 : List ℕ} (e1 : field_read 0 (m % 2) bytes ≡ parsed a r1) where
+    pub second-refused : {n : ℕ} → field_read 0 (m / 2 % 2) r1 ≡ unparsed n → fields_read zeros m bytes ≡ unparsed n
     unfolding fields_read next
     second-refused e = rw (e1, e)
 
-    module _ {b : ℕ} {r2 : List ℕ} (e2 : field-read 0 (m / 2 % 2) r1 ≡ parsed b r2) where
+    module _ {b : ℕ} {r2 : List ℕ} (e2 : field_read 0 (m / 2 % 2) r1 ≡ parsed b r2) where
       quarter : m / 2 / 2 ≡ m / 4
       quarter = omega arith
 
-      pub third-refused : {n : ℕ} → field-read 0 (m / 4 % 2) r2 ≡ unparsed n → fields_read zeros m bytes ≡ unparsed n
+      pub third-refused : {n : ℕ} → field_read 0 (m / 4 % 2) r2 ≡ unparsed n → fields_read zeros m bytes ≡ unparsed n
       unfolding fields_read next
       third-refused e = rw (e1, e2, quarter, e)
 
-      pub three-there : {c : ℕ} {r3 : List ℕ} → field-read 0 (m / 4 % 2) r2 ≡ parsed c r3 → fields_read zeros m bytes ≡ parsed (a ∷ b ∷ c ∷ []) r3
+      pub three-there : {c : ℕ} {r3 : List ℕ} → field_read 0 (m / 4 % 2) r2 ≡ parsed c r3 → fields_read zeros m bytes ≡ parsed (a ∷ b ∷ c ∷ []) r3
       unfolding fields_read next
       three-there e = rw (e1, e2, quarter, e)
 
@@ -56,36 +56,36 @@ module _ (m : ℕ) (bytes : List ℕ) (clear : m / 4 % 4 ≡ 0) where
   third-clear : m / 2 / 2 % 2 ≡ 0
   third-clear = omega arith
 
-  two-of-three : (o1 : Parsed ℕ) → field-read 0 (m % 2) bytes ≡ o1 → fields_read zeros m bytes ≡ next (fields_read row-defaults m bytes) (λ ws. parsed (ws ++ (0 ∷ [])))
-  unfolding fields_read next field-read
+  two-of-three : (o1 : Parsed ℕ) → field_read 0 (m % 2) bytes ≡ o1 → fields_read zeros m bytes ≡ next (fields_read row_defaults m bytes) (λ ws. parsed (ws ++ (0 ∷ [])))
+  unfolding fields_read next field_read
   two-of-three (unparsed n) e = rw e
-  two-of-three (parsed a r1) e = go (field-read 0 (m / 2 % 2) r1) refl
+  two-of-three (parsed a r1) e = go (field_read 0 (m / 2 % 2) r1) refl
     where
-      go : (o2 : Parsed ℕ) → field-read 0 (m / 2 % 2) r1 ≡ o2 → fields_read zeros m bytes ≡ next (fields_read row-defaults m bytes) (λ ws. parsed (ws ++ (0 ∷ [])))
+      go : (o2 : Parsed ℕ) → field_read 0 (m / 2 % 2) r1 ≡ o2 → fields_read zeros m bytes ≡ next (fields_read row_defaults m bytes) (λ ws. parsed (ws ++ (0 ∷ [])))
       go (unparsed n) e2 = rw (e, e2)
       go (parsed b r2) e2 = rw (e, e2, third-clear)
 
-  two-refused : {n : ℕ} → fields_read zeros m bytes ≡ unparsed n → fields_read row-defaults m bytes ≡ unparsed n
+  two-refused : {n : ℕ} → fields_read zeros m bytes ≡ unparsed n → fields_read row_defaults m bytes ≡ unparsed n
   unfolding next
-  two-refused {n} e = go (fields_read row-defaults m bytes) refl (sym (two-of-three (field-read 0 (m % 2) bytes) refl) ∙ e)
+  two-refused {n} e = go (fields_read row_defaults m bytes) refl (sym (two-of-three (field_read 0 (m % 2) bytes) refl) ∙ e)
     where
       go :
           (o : Parsed (List ℕ))
-          → fields_read row-defaults m bytes ≡ o
-          → next (fields_read row-defaults m bytes) (λ ws. parsed (ws ++ (0 ∷ []))) ≡ unparsed n
-          → fields_read row-defaults m bytes ≡ unparsed n
+          → fields_read row_defaults m bytes ≡ o
+          → next (fields_read row_defaults m bytes) (λ ws. parsed (ws ++ (0 ∷ []))) ≡ unparsed n
+          → fields_read row_defaults m bytes ≡ unparsed n
       go (unparsed k) e f = e ∙ (rw e at f ∙ cc)
       go (parsed ws rest) e f = absurd (refused-parsed (sym (rw e at f)))
 
-  two-there : {a b c : ℕ} {rest : List ℕ} → fields_read zeros m bytes ≡ parsed (a ∷ b ∷ c ∷ []) rest → fields_read row-defaults m bytes ≡ parsed (a ∷ b ∷ []) rest
+  two-there : {a b c : ℕ} {rest : List ℕ} → fields_read zeros m bytes ≡ parsed (a ∷ b ∷ c ∷ []) rest → fields_read row_defaults m bytes ≡ parsed (a ∷ b ∷ []) rest
   unfolding next
-  two-there {a} {b} {c} {rest} e = go (fields_read row-defaults m bytes) refl (sym (two-of-three (field-read 0 (m % 2) bytes) refl) ∙ e)
+  two-there {a} {b} {c} {rest} e = go (fields_read row_defaults m bytes) refl (sym (two-of-three (field_read 0 (m % 2) bytes) refl) ∙ e)
     where
       go :
           (o : Parsed (List ℕ))
-          → fields_read row-defaults m bytes ≡ o
-          → next (fields_read row-defaults m bytes) (λ ws. parsed (ws ++ (0 ∷ []))) ≡ parsed (a ∷ b ∷ c ∷ []) rest
-          → fields_read row-defaults m bytes ≡ parsed (a ∷ b ∷ []) rest
+          → fields_read row_defaults m bytes ≡ o
+          → next (fields_read row_defaults m bytes) (λ ws. parsed (ws ++ (0 ∷ []))) ≡ parsed (a ∷ b ∷ c ∷ []) rest
+          → fields_read row_defaults m bytes ≡ parsed (a ∷ b ∷ []) rest
       go (unparsed k) e f = absurd (refused-parsed (rw e at f))
       go (parsed ws r) e f =
           let g : parsed (ws ++ (0 ∷ [])) r ≡ parsed (a ∷ b ∷ c ∷ []) rest = rw e at f in
@@ -99,7 +99,7 @@ pub fields_split :
     → fields_read (0 ∷ 0 ∷ 0 ∷ ds) m bytes
     ≡ next (fields_read zeros m bytes) (λ ws rest. next (fields_read ds (m / 2 / 2 / 2) rest) (λ vs. parsed (ws ++ vs)))
 unfolding fields_read next
-fields_split ds m bytes = go1 (field-read 0 (m % 2) bytes) refl
+fields_split ds m bytes = go1 (field_read 0 (m % 2) bytes) refl
   where
     Goal : Type 0
     Goal =
@@ -108,11 +108,11 @@ fields_split ds m bytes = go1 (field-read 0 (m % 2) bytes) refl
 
     go4 :
         (a : ℕ) (r1 : List ℕ)
-        → field-read 0 (m % 2) bytes ≡ parsed a r1
+        → field_read 0 (m % 2) bytes ≡ parsed a r1
         → (b : ℕ) (r2 : List ℕ)
-        → field-read 0 (m / 2 % 2) r1 ≡ parsed b r2
+        → field_read 0 (m / 2 % 2) r1 ≡ parsed b r2
         → (c : ℕ) (r3 : List ℕ)
-        → field-read 0 (m / 2 / 2 % 2) r2 ≡ parsed c r3
+        → field_read 0 (m / 2 / 2 % 2) r2 ≡ parsed c r3
         → (o : Parsed (List ℕ))
         → fields_read ds (m / 2 / 2 / 2) r3 ≡ o
         → Goal
@@ -121,33 +121,33 @@ fields_split ds m bytes = go1 (field-read 0 (m % 2) bytes) refl
 
     go3 :
         (a : ℕ) (r1 : List ℕ)
-        → field-read 0 (m % 2) bytes ≡ parsed a r1
+        → field_read 0 (m % 2) bytes ≡ parsed a r1
         → (b : ℕ) (r2 : List ℕ)
-        → field-read 0 (m / 2 % 2) r1 ≡ parsed b r2
+        → field_read 0 (m / 2 % 2) r1 ≡ parsed b r2
         → (o : Parsed ℕ)
-        → field-read 0 (m / 2 / 2 % 2) r2 ≡ o
+        → field_read 0 (m / 2 / 2 % 2) r2 ≡ o
         → Goal
     go3 a r1 e1 b r2 e2 (unparsed n) e = rw (e1, e2, e)
     go3 a r1 e1 b r2 e2 (parsed c r3) e = go4 a r1 e1 b r2 e2 c r3 e (fields_read ds (m / 2 / 2 / 2) r3) refl
 
-    go2 : (a : ℕ) (r1 : List ℕ) → field-read 0 (m % 2) bytes ≡ parsed a r1 → (o : Parsed ℕ) → field-read 0 (m / 2 % 2) r1 ≡ o → Goal
+    go2 : (a : ℕ) (r1 : List ℕ) → field_read 0 (m % 2) bytes ≡ parsed a r1 → (o : Parsed ℕ) → field_read 0 (m / 2 % 2) r1 ≡ o → Goal
     go2 a r1 e1 (unparsed n) e = rw (e1, e)
-    go2 a r1 e1 (parsed b r2) e = go3 a r1 e1 b r2 e (field-read 0 (m / 2 / 2 % 2) r2) refl
+    go2 a r1 e1 (parsed b r2) e = go3 a r1 e1 b r2 e (field_read 0 (m / 2 / 2 % 2) r2) refl
 
-    go1 : (o : Parsed ℕ) → field-read 0 (m % 2) bytes ≡ o → Goal
+    go1 : (o : Parsed ℕ) → field_read 0 (m % 2) bytes ≡ o → Goal
     go1 (unparsed n) e = rw e
-    go1 (parsed a r1) e = go2 a r1 e (field-read 0 (m / 2 % 2) r1) refl
+    go1 (parsed a r1) e = go2 a r1 e (field_read 0 (m / 2 % 2) r1) refl
 
 -- an operator's four: three of default 0, and the percent
 module _ (m : ℕ) (bytes : List ℕ) where
   four-split :
-      fields_read operator-defaults m bytes
+      fields_read operator_defaults m bytes
       ≡ next (fields_read zeros m bytes) (λ ws rest. next (fields_read (100 ∷ []) (m / 8) rest) (λ vs. parsed (ws ++ vs)))
   four-split =
       let e : m / 2 / 2 / 2 ≡ m / 8 = omega arith in
       rw e at (fields_split (100 ∷ []) m bytes)
 
-  pub four-refused : {n : ℕ} → fields_read zeros m bytes ≡ unparsed n → fields_read operator-defaults m bytes ≡ unparsed n
+  pub four-refused : {n : ℕ} → fields_read zeros m bytes ≡ unparsed n → fields_read operator_defaults m bytes ≡ unparsed n
   unfolding next
   four-refused e = rw (four-split, e)
 
@@ -155,60 +155,60 @@ module _ (m : ℕ) (bytes : List ℕ) where
     one_bit : m / 8 % 2 ≡ m / 8
     one_bit = omega arith
 
-    pub percent-refused : {n : ℕ} → field-read 100 (m / 8) rest ≡ unparsed n → fields_read operator-defaults m bytes ≡ unparsed n
+    pub percent-refused : {n : ℕ} → field_read 100 (m / 8) rest ≡ unparsed n → fields_read operator_defaults m bytes ≡ unparsed n
     unfolding next fields_read
     percent-refused e = rw (four-split, three, one_bit, e)
 
     pub four-there :
-        {d : ℕ} {rest' : List ℕ} → field-read 100 (m / 8) rest ≡ parsed d rest' → fields_read operator-defaults m bytes ≡ parsed (a ∷ b ∷ c ∷ d ∷ []) rest'
+        {d : ℕ} {rest' : List ℕ} → field_read 100 (m / 8) rest ≡ parsed d rest' → fields_read operator_defaults m bytes ≡ parsed (a ∷ b ∷ c ∷ d ∷ []) rest'
     unfolding next fields_read
     four-there e = rw (four-split, three, one_bit, e)
 
 -- a formula's or an effect's row without its own number
 module _ (bytes : List ℕ) where
-  pub kind-ends : {n : ℕ} → byte-read bytes ≡ unparsed n → row-words-read Formulas bytes ≡ unparsed n
-  unfolding row_read mapped-read next
+  pub kind-ends : {n : ℕ} → byte_read bytes ≡ unparsed n → row_words_read Formulas bytes ≡ unparsed n
+  unfolding row_read mapped_read next
   kind-ends e = rw e
 
-  module _ {m : ℕ} {rest : List ℕ} (first : byte-read bytes ≡ parsed m rest) where
-    pub kind-unclear : (m / 4 % 4 ≡ 0 → ⊥) → row-words-read Formulas bytes ≡ unparsed 2
-    unfolding row_read mapped-read next kept
+  module _ {m : ℕ} {rest : List ℕ} (first : byte_read bytes ≡ parsed m rest) where
+    pub kind-unclear : (m / 4 % 4 ≡ 0 → ⊥) → row_words_read Formulas bytes ≡ unparsed 2
+    unfolding row_read mapped_read next kept
     kind-unclear ne = rw (first, ne_eqb (m / 4 % 4) 0 ne)
 
     module _ (clear : m / 4 % 4 ≡ 0) where
-      pub kind-refused : {n : ℕ} → fields_read zeros m rest ≡ unparsed n → row-words-read Formulas bytes ≡ unparsed n
-      unfolding row_read mapped-read next kept
+      pub kind-refused : {n : ℕ} → fields_read zeros m rest ≡ unparsed n → row_words_read Formulas bytes ≡ unparsed n
+      unfolding row_read mapped_read next kept
       kind-refused e = rw (first, eq-eqb (m / 4 % 4) 0 clear, two-refused m rest clear e)
 
       pub kind-there :
           {a b c : ℕ} {rest' : List ℕ}
           → fields_read zeros m rest ≡ parsed (a ∷ b ∷ c ∷ []) rest'
-          → row-words-read Formulas bytes ≡ parsed (m / 16 ∷ a ∷ b ∷ []) rest'
-      unfolding row_read mapped-read next kept row_words
+          → row_words_read Formulas bytes ≡ parsed (m / 16 ∷ a ∷ b ∷ []) rest'
+      unfolding row_read mapped_read next kept row_words
       kind-there e = rw (first, eq-eqb (m / 4 % 4) 0 clear, two-there m rest clear e)
 
 -- an operator's
 module _ (bytes : List ℕ) where
-  pub four-ends : {n : ℕ} → byte-read bytes ≡ unparsed n → row-words-read Operators bytes ≡ unparsed n
-  unfolding operator-fields-read mapped-read next
+  pub four-ends : {n : ℕ} → byte_read bytes ≡ unparsed n → row_words_read Operators bytes ≡ unparsed n
+  unfolding operator_fields_read mapped_read next
   four-ends e = rw e
 
-  module _ {m : ℕ} {rest : List ℕ} (first : byte-read bytes ≡ parsed m rest) where
-    pub four-unclear : 16 ≤ m → row-words-read Operators bytes ≡ unparsed 2
-    unfolding operator-fields-read mapped-read next kept
+  module _ {m : ℕ} {rest : List ℕ} (first : byte_read bytes ≡ parsed m rest) where
+    pub four-unclear : 16 ≤ m → row_words_read Operators bytes ≡ unparsed 2
+    unfolding operator_fields_read mapped_read next kept
     four-unclear h = rw (first, le-ltb m 16 h)
 
     module _ (clear : m < 16) where
-      pub row-refused : {n : ℕ} → fields_read operator-defaults m rest ≡ unparsed n → row-words-read Operators bytes ≡ unparsed n
-      unfolding operator-fields-read mapped-read next kept
+      pub row-refused : {n : ℕ} → fields_read operator_defaults m rest ≡ unparsed n → row_words_read Operators bytes ≡ unparsed n
+      unfolding operator_fields_read mapped_read next kept
       row-refused e = rw (first, lt-ltb m 16 clear, e)
 
-      pub row-there :
+      pub row_there :
           {a b c d : ℕ} {rest' : List ℕ}
-          → fields_read operator-defaults m rest ≡ parsed (a ∷ b ∷ c ∷ d ∷ []) rest'
-          → row-words-read Operators bytes ≡ parsed (a ∷ b ∷ c ∷ d ∷ []) rest'
-      unfolding operator-fields-read mapped-read next kept operator-row-words
-      row-there e = rw (first, lt-ltb m 16 clear, e)
+          → fields_read operator_defaults m rest ≡ parsed (a ∷ b ∷ c ∷ d ∷ []) rest'
+          → row_words_read Operators bytes ≡ parsed (a ∷ b ∷ c ∷ d ∷ []) rest'
+      unfolding operator_fields_read mapped_read next kept operator_row_words
+      row_there e = rw (first, lt-ltb m 16 clear, e)
 
 -- a row with its own number: a test of its words
 module _ {A : Type 0} (p : List ℕ → Parsed A) (words : A → List ℕ) (rule : A → Bool) (n : A → ℕ) (bytes : List ℕ) where
@@ -252,70 +252,70 @@ same_row rule f s t r e =
     let b : r.b ≡ t = cc in
     ap rule (λ j. record { kind = k j; a = a j; b = b j })
 
-same-operator :
+same_operator :
     {B : Type 0} (rule : Operator → B) (f s t u : ℕ) (o : Operator)
-    → operator-row-words o ≡ f ∷ s ∷ t ∷ u ∷ []
+    → operator_row_words o ≡ f ∷ s ∷ t ∷ u ∷ []
     → rule o ≡ rule (operator f s t u)
-same-operator rule f s t u o e = ap rule (operator-by-words o e)
+same_operator rule f s t u o e = ap rule (operator_by_words o e)
 
 module _ (h : Head) (i : ℕ) (bytes : List ℕ) where
-  pub kept-refused : (table : Table) {n : ℕ} → row-words-read table bytes ≡ unparsed n → kept-words-read table h i bytes ≡ unparsed n
-  unfolding ruled-words formula-read effect-read operator-read
-  kept-refused Formulas e = ruled-refused row_read row_words (formula-kept h.variables i) (λ x. 10) bytes e
-  kept-refused Effects e = ruled-refused row_read row_words (effect-kept h.variables h.formulas i) (λ x. 11) bytes e
+  pub kept-refused : (table : Table) {n : ℕ} → row_words_read table bytes ≡ unparsed n → kept_words_read table h i bytes ≡ unparsed n
+  unfolding ruled-words formula_read effect_read operator_read
+  kept-refused Formulas e = ruled-refused row_read row_words (formula_kept h.variables i) (λ x. 10) bytes e
+  kept-refused Effects e = ruled-refused row_read row_words (effect_kept h.variables h.formulas i) (λ x. 11) bytes e
   kept-refused Operators e =
-      ruled-refused operator-fields-read operator-row-words (operator-right h.formulas h.effects) (operator-number h.formulas h.effects) bytes e
+      ruled-refused operator_fields_read operator_row_words (operator_right h.formulas h.effects) (operator_number h.formulas h.effects) bytes e
 
   module _ {f s t : ℕ} {rest : List ℕ} where
     pub formula-broken :
-        row-words-read Formulas bytes ≡ parsed (f ∷ s ∷ t ∷ []) rest
-        → formula-kept h.variables i (record { kind = f; a = s; b = t }) ≡ false
-        → kept-words-read Formulas h i bytes ≡ unparsed 10
-    unfolding ruled-words formula-read
+        row_words_read Formulas bytes ≡ parsed (f ∷ s ∷ t ∷ []) rest
+        → formula_kept h.variables i (record { kind = f; a = s; b = t }) ≡ false
+        → kept_words_read Formulas h i bytes ≡ unparsed 10
+    unfolding ruled-words formula_read
     formula-broken e q =
-        broken row_read row_words (formula-kept h.variables i) (λ x. 10) bytes e _ (same_row (formula-kept h.variables i) f s t) q 10 (λ x w. refl)
+        broken row_read row_words (formula_kept h.variables i) (λ x. 10) bytes e _ (same_row (formula_kept h.variables i) f s t) q 10 (λ x w. refl)
 
     pub formula-there :
-        row-words-read Formulas bytes ≡ parsed (f ∷ s ∷ t ∷ []) rest
-        → formula-kept h.variables i (record { kind = f; a = s; b = t }) ≡ true
-        → kept-words-read Formulas h i bytes ≡ parsed (f ∷ s ∷ t ∷ []) rest
-    unfolding ruled-words formula-read
+        row_words_read Formulas bytes ≡ parsed (f ∷ s ∷ t ∷ []) rest
+        → formula_kept h.variables i (record { kind = f; a = s; b = t }) ≡ true
+        → kept_words_read Formulas h i bytes ≡ parsed (f ∷ s ∷ t ∷ []) rest
+    unfolding ruled-words formula_read
     formula-there e q =
-        unbroken row_read row_words (formula-kept h.variables i) (λ x. 10) bytes e _ (same_row (formula-kept h.variables i) f s t) q
+        unbroken row_read row_words (formula_kept h.variables i) (λ x. 10) bytes e _ (same_row (formula_kept h.variables i) f s t) q
 
     pub effect-broken :
-        row-words-read Effects bytes ≡ parsed (f ∷ s ∷ t ∷ []) rest
-        → effect-kept h.variables h.formulas i (record { kind = f; a = s; b = t }) ≡ false
-        → kept-words-read Effects h i bytes ≡ unparsed 11
-    unfolding ruled-words effect-read
+        row_words_read Effects bytes ≡ parsed (f ∷ s ∷ t ∷ []) rest
+        → effect_kept h.variables h.formulas i (record { kind = f; a = s; b = t }) ≡ false
+        → kept_words_read Effects h i bytes ≡ unparsed 11
+    unfolding ruled-words effect_read
     effect-broken e q =
-        broken row_read row_words (effect-kept h.variables h.formulas i) (λ x. 11) bytes e _
-        (same_row (effect-kept h.variables h.formulas i) f s t) q 11 (λ x w. refl)
+        broken row_read row_words (effect_kept h.variables h.formulas i) (λ x. 11) bytes e _
+        (same_row (effect_kept h.variables h.formulas i) f s t) q 11 (λ x w. refl)
 
     pub effect-there :
-        row-words-read Effects bytes ≡ parsed (f ∷ s ∷ t ∷ []) rest
-        → effect-kept h.variables h.formulas i (record { kind = f; a = s; b = t }) ≡ true
-        → kept-words-read Effects h i bytes ≡ parsed (f ∷ s ∷ t ∷ []) rest
-    unfolding ruled-words effect-read
+        row_words_read Effects bytes ≡ parsed (f ∷ s ∷ t ∷ []) rest
+        → effect_kept h.variables h.formulas i (record { kind = f; a = s; b = t }) ≡ true
+        → kept_words_read Effects h i bytes ≡ parsed (f ∷ s ∷ t ∷ []) rest
+    unfolding ruled-words effect_read
     effect-there e q =
-        unbroken row_read row_words (effect-kept h.variables h.formulas i) (λ x. 11) bytes e _
-        (same_row (effect-kept h.variables h.formulas i) f s t) q
+        unbroken row_read row_words (effect_kept h.variables h.formulas i) (λ x. 11) bytes e _
+        (same_row (effect_kept h.variables h.formulas i) f s t) q
 
-  module _ {f s t u : ℕ} {rest : List ℕ} (e : row-words-read Operators bytes ≡ parsed (f ∷ s ∷ t ∷ u ∷ []) rest) where
+  module _ {f s t u : ℕ} {rest : List ℕ} (e : row_words_read Operators bytes ≡ parsed (f ∷ s ∷ t ∷ u ∷ []) rest) where
     pub operator-broken :
-        {n : ℕ} → n ≡ operator-number h.formulas h.effects (operator f s t u) → (n ≡ 0 → ⊥) → kept-words-read Operators h i bytes ≡ unparsed n
-    unfolding ruled-words operator-read
+        {n : ℕ} → n ≡ operator_number h.formulas h.effects (operator f s t u) → (n ≡ 0 → ⊥) → kept_words_read Operators h i bytes ≡ unparsed n
+    unfolding ruled-words operator_read
     operator-broken {n} is some =
-        broken operator-fields-read operator-row-words (operator-right h.formulas h.effects) (operator-number h.formulas h.effects) bytes e _
-        (same-operator (operator-right h.formulas h.effects) f s t u)
-        (ne_eqb (operator-number h.formulas h.effects (operator f s t u)) 0 (λ z. some (is ∙ z)))
+        broken operator_fields_read operator_row_words (operator_right h.formulas h.effects) (operator_number h.formulas h.effects) bytes e _
+        (same_operator (operator_right h.formulas h.effects) f s t u)
+        (ne_eqb (operator_number h.formulas h.effects (operator f s t u)) 0 (λ z. some (is ∙ z)))
         n
-        (λ o w. same-operator (operator-number h.formulas h.effects) f s t u o w ∙ sym is)
+        (λ o w. same_operator (operator_number h.formulas h.effects) f s t u o w ∙ sym is)
 
     pub operator-there :
-        {n : ℕ} → n ≡ operator-number h.formulas h.effects (operator f s t u) → n ≡ 0 → kept-words-read Operators h i bytes ≡ parsed (f ∷ s ∷ t ∷ u ∷ []) rest
-    unfolding ruled-words operator-read
+        {n : ℕ} → n ≡ operator_number h.formulas h.effects (operator f s t u) → n ≡ 0 → kept_words_read Operators h i bytes ≡ parsed (f ∷ s ∷ t ∷ u ∷ []) rest
+    unfolding ruled-words operator_read
     operator-there {n} is none =
-        unbroken operator-fields-read operator-row-words (operator-right h.formulas h.effects) (operator-number h.formulas h.effects) bytes e _
-        (same-operator (operator-right h.formulas h.effects) f s t u)
-        (eq-eqb (operator-number h.formulas h.effects (operator f s t u)) 0 (sym is ∙ none))
+        unbroken operator_fields_read operator_row_words (operator_right h.formulas h.effects) (operator_number h.formulas h.effects) bytes e _
+        (same_operator (operator_right h.formulas h.effects) f s t u)
+        (eq-eqb (operator_number h.formulas h.effects (operator f s t u)) 0 (sym is ∙ none))

@@ -9,30 +9,30 @@ use lib.ListN.{length, get_or, take, drop, set, length-set}
 use lib.Seq.{take-suc-set, drop-set-lt, get_or-take, get_or-set_same}
 use lib.Dec.{eqb}
 use Rattle.task.specs.Bounded.{every}
-use Rattle.task.specs.Check.{twin-kept}
-use Rattle.task.proofs.Bounded.{every-same}
+use Rattle.task.specs.Check.{twin_kept}
+use Rattle.task.proofs.Bounded.{every_same}
 use Rattle.task.proofs.Refusals.{twin-outside}
-use Rattle.task.proofs.Named.{NamedBy, named-stored, named_more, named-before, named-now}
+use Rattle.task.proofs.Named.{NamedBy, named-stored, named_more, named-before, named_now}
 use Rattle.task_file.specs.declared.Place.{Place}
 use Rattle.task_file.specs.declared.Place.TheVariants.{At, Nowhere}
-use Rattle.file_format.specs.Parse.{Parsed, parsed, unparsed, next, kept, word_read, table-read}
-use Rattle.file_format.specs.Reading.{twin-read}
+use Rattle.file_format.specs.Parse.{Parsed, parsed, unparsed, next, kept, word_read, table_read}
+use Rattle.file_format.specs.Reading.{twin_read}
 use Rattle.task_file.specs.Inner.Answers.{ReadPart}
 use Rattle.task_file.proofs.Loops.{Done, done_refused, done_end, done_more}
 
 -- it looks at the rows up to its own
-twin-same : (bound : ℕ) (xs ys : List ℕ) (k : ℕ) → ((j : ℕ) → j < suc k → get_or xs j 0 ≡ get_or ys j 0) → twin-kept bound xs k ≡ twin-kept bound ys k
-unfolding twin-kept
-twin-same bound xs ys k h =
+twin_same : (bound : ℕ) (xs ys : List ℕ) (k : ℕ) → ((j : ℕ) → j < suc k → get_or xs j 0 ≡ get_or ys j 0) → twin_kept bound xs k ≡ twin_kept bound ys k
+unfolding twin_kept
+twin_same bound xs ys k h =
     let e = h k (omega arith) in
     let rest : every k (λ j. not (eqb (get_or xs j 0) (get_or xs k 0))) ≡ every k (λ j. not (eqb (get_or ys j 0) (get_or ys k 0))) =
-    every-same k (λ j. not (eqb (get_or xs j 0) (get_or xs k 0))) (λ j. not (eqb (get_or ys j 0) (get_or ys k 0))) (λ j l. rw (h j (omega arith), e))
+    every_same k (λ j. not (eqb (get_or xs j 0) (get_or xs k 0))) (λ j. not (eqb (get_or ys j 0) (get_or ys k 0))) (λ j l. rw (h j (omega arith), e))
     in
     rw (rest, e)
 
-twin-stored : (bound : ℕ) (twins : List ℕ) (k w : ℕ) → k < length twins → twin-kept bound (take k twins ++ (w ∷ [])) k ≡ twin-kept bound (set twins k w) k
-twin-stored bound twins k w h =
-    twin-same bound (take k twins ++ (w ∷ [])) (set twins k w) k
+twin_stored : (bound : ℕ) (twins : List ℕ) (k w : ℕ) → k < length twins → twin_kept bound (take k twins ++ (w ∷ [])) k ≡ twin_kept bound (set twins k w) k
+twin_stored bound twins k w h =
+    twin_same bound (take k twins ++ (w ∷ [])) (set twins k w) k
     (λ j l.
     ap (λ (x : List ℕ). get_or x j 0) (sym (take-suc-set twins k w h)) ∙ get_or-take (suc k) (set twins k w) j 0 l)
 
@@ -41,15 +41,15 @@ module _ (bound : ℕ) (few : bound ≤ 512) (twins : List ℕ) (k w : ℕ) (fit
   stored-word : get_or (set twins k w) k 0 ≡ w
   stored-word = get_or-set_same twins k w 0 fits
 
-  pub twin-high : bound ≤ w → twin-kept bound (set twins k w) k ≡ false
+  pub twin-high : bound ≤ w → twin_kept bound (set twins k w) k ≡ false
   twin-high h = twin-outside bound (set twins k w) k (rw stored-word h)
 
   module _ (named : List ℕ) (m : NamedBy twins k named) (below : w < bound) where
-    pub twin-before : (get_or named w 0 ≡ 0 → ⊥) → twin-kept bound (set twins k w) k ≡ false
+    pub twin-before : (get_or named w 0 ≡ 0 → ⊥) → twin_kept bound (set twins k w) k ≡ false
     twin-before n = named-before (set twins k w) k named (named-stored twins k named m w) bound few (rw stored-word below) (rw stored-word n)
 
-    pub twin-now : get_or named w 0 ≡ 0 → twin-kept bound (set twins k w) k ≡ true
-    twin-now z = named-now (set twins k w) k named (named-stored twins k named m w) bound few (rw stored-word below) (rw stored-word z)
+    pub twin-now : get_or named w 0 ≡ 0 → twin_kept bound (set twins k w) k ≡ true
+    twin-now z = named_now (set twins k w) k named (named-stored twins k named m w) bound few (rw stored-word below) (rw stored-word z)
 
     pub twin-marked : NamedBy (set twins k w) (k + 1) (set named w 1)
     twin-marked =
@@ -60,18 +60,18 @@ abbrev pub same : ℕ → ℕ
 same k = k
 
 module _ (bound count : ℕ) (file : List ℕ) (at : ℕ) (before : List ℕ) where
-  abbrev twins-p : ℕ → Parsed (List ℕ)
-  twins-p k = table-read (twin-read bound) k (drop at file)
+  abbrev twins_p : ℕ → Parsed (List ℕ)
+  twins_p k = table_read (twin_read bound) k (drop at file)
 
-  abbrev twins-q : ℕ → List ℕ → List ℕ → Parsed (List ℕ)
-  twins-q k ws rest = next (twin-read bound k ws rest) (λ w. parsed (w ∷ []))
+  abbrev twins_q : ℕ → List ℕ → List ℕ → Parsed (List ℕ)
+  twins_q k ws rest = next (twin_read bound k ws rest) (λ w. parsed (w ∷ []))
 
   abbrev pub TwinsDone : List ℕ → ℕ → ℕ → Type 0
-  TwinsDone twins k place = Done same twins-p count file before twins k place
+  TwinsDone twins k place = Done same twins_p count file before twins k place
 
-  twins-step : (k : ℕ) → twins-p (suc k) ≡ next (twins-p k) (λ ws rest. next (twins-q k ws rest) (λ x. parsed (ws ++ x)))
-  unfolding table-read next
-  twins-step k = go (table-read (twin-read bound) k (drop at file))
+  twins-step : (k : ℕ) → twins_p (suc k) ≡ next (twins_p k) (λ ws rest. next (twins_q k ws rest) (λ x. parsed (ws ++ x)))
+  unfolding table_read next
+  twins-step k = go (table_read (twin_read bound) k (drop at file))
     where
       last : (done : List ℕ) (o : Parsed ℕ) → next o (λ r. parsed (done ++ (r ∷ []))) ≡ next (next o (λ w. parsed (w ∷ []))) (λ x. parsed (done ++ x))
       last done (unparsed n) = refl
@@ -79,13 +79,13 @@ module _ (bound count : ℕ) (file : List ℕ) (at : ℕ) (before : List ℕ) wh
 
       go :
           (o : Parsed (List ℕ))
-          → next o (λ done rest. next (twin-read bound k done rest) (λ r. parsed (done ++ (r ∷ []))))
-          ≡ next o (λ ws rest. next (next (twin-read bound k ws rest) (λ w. parsed (w ∷ []))) (λ x. parsed (ws ++ x)))
+          → next o (λ done rest. next (twin_read bound k done rest) (λ r. parsed (done ++ (r ∷ []))))
+          ≡ next o (λ ws rest. next (next (twin_read bound k ws rest) (λ w. parsed (w ∷ []))) (λ x. parsed (ws ++ x)))
       go (unparsed n) = refl
-      go (parsed done rest) = last done (twin-read bound k done rest)
+      go (parsed done rest) = last done (twin_read bound k done rest)
 
   pub twins-begin : TwinsDone before 0 at
-  unfolding table-read
+  unfolding table_read
   twins-begin = record { within = omega arith; size = refl; front = refl; behind = refl }
 
   pub twins-ended :
@@ -94,10 +94,10 @@ module _ (bound count : ℕ) (file : List ℕ) (at : ℕ) (before : List ℕ) wh
       → k < count
       → word_read (drop place file) ≡ unparsed n
       → r ≡ Nowhere n
-      → ReadPart count file (table-read (twin-read bound) count (drop at file)) r before twins
-  unfolding twin-read next
+      → ReadPart count file (table_read (twin_read bound) count (drop at file)) r before twins
+  unfolding twin_read next
   twins-ended twins k place d l e f =
-      done_refused same twins-p twins-q twins-step count file before twins k place d l (rw e) f twins refl
+      done_refused same twins_p twins_q twins-step count file before twins k place d l (rw e) f twins refl
 
   pub twins-broken :
       (twins : List ℕ) (k place : ℕ) {w : ℕ} {rest : List ℕ}
@@ -105,12 +105,12 @@ module _ (bound count : ℕ) (file : List ℕ) (at : ℕ) (before : List ℕ) wh
       → TwinsDone twins k place
       → k < count
       → word_read (drop place file) ≡ parsed w rest
-      → twin-kept bound (set twins k w) k ≡ false
-      → ReadPart count file (table-read (twin-read bound) count (drop at file)) (Nowhere 9) before (set twins k w)
-  unfolding twin-read next kept
+      → twin_kept bound (set twins k w) k ≡ false
+      → ReadPart count file (table_read (twin_read bound) count (drop at file)) (Nowhere 9) before (set twins k w)
+  unfolding twin_read next kept
   twins-broken twins k place {w} long d l e t =
       let fits : k < length twins = omega (arith, d.size) in
-      done_refused same twins-p twins-q twins-step count file before twins k place d l (rw (e, twin-stored bound twins k w fits, t)) refl (set twins k w)
+      done_refused same twins_p twins_q twins-step count file before twins k place d l (rw (e, twin_stored bound twins k w fits, t)) refl (set twins k w)
       (drop-set-lt count twins k w l)
 
   pub twins-more :
@@ -119,12 +119,12 @@ module _ (bound count : ℕ) (file : List ℕ) (at : ℕ) (before : List ℕ) wh
       → TwinsDone twins k place
       → k < count
       → word_read (drop place file) ≡ parsed w (drop next_place file)
-      → twin-kept bound (set twins k w) k ≡ true
+      → twin_kept bound (set twins k w) k ≡ true
       → TwinsDone (set twins k w) (k + 1) next_place
-  unfolding twin-read next kept
+  unfolding twin_read next kept
   twins-more twins k place {w} long d l e t =
       let fits : k < length twins = omega (arith, d.size) in
-      done_more same twins-p twins-q twins-step count file before twins (set twins k w) k place d l (rw (e, twin-stored bound twins k w fits, t))
+      done_more same twins_p twins_q twins-step count file before twins (set twins k w) k place d l (rw (e, twin_stored bound twins k w fits, t))
       (length-set twins k w)
       (ap (λ (n : ℕ). take n (set twins k w)) (add-one k) ∙ take-suc-set twins k w fits)
       (drop-set-lt count twins k w l)
@@ -133,5 +133,5 @@ module _ (bound count : ℕ) (file : List ℕ) (at : ℕ) (before : List ℕ) wh
       (twins : List ℕ) (k place : ℕ)
       → TwinsDone twins k place
       → count ≤ k
-      → ReadPart count file (table-read (twin-read bound) count (drop at file)) (At place) before twins
-  twins-end twins k place d l = done_end same twins-p twins-q twins-step count file before twins k place d l
+      → ReadPart count file (table_read (twin_read bound) count (drop at file)) (At place) before twins
+  twins-end twins k place d l = done_end same twins_p twins_q twins-step count file before twins k place d l

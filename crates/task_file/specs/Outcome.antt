@@ -1,7 +1,7 @@
 -- What the call that reads leaves: its answer and each lent table (01, "Where each number is given": after a refusal every output buffer is all 0; after
 -- success, all past the answer is 0).
 use Rattle.std.specs.Prelude.{ℕ, List, replicate}
-use Rattle.task.specs.Words.{padded, head_of, words_of, operator-words}
+use Rattle.task.specs.Words.{padded, head_of, words_of, operator_words}
 use Rattle.task_file.specs.declared.ReadAnswer.{ReadAnswer}
 use Rattle.task_file.specs.declared.ReadAnswer.TheVariants.{Read, Refused}
 use Rattle.file_format.specs.Reading.{Lengths, Verdict, accepted, rejected, reading}
@@ -14,17 +14,17 @@ pub record ReadOutcome : Type 0 where
   pub effects : List ℕ
   pub operators : List ℕ
 
-unfoldable pub outcome-of : Lengths → Verdict → ReadOutcome
-outcome-of l (accepted t) =
+unfoldable pub outcome_of : Lengths → Verdict → ReadOutcome
+outcome_of l (accepted t) =
     record {
       answer = Read (head_of t);
       initial = padded l.initial t.initial;
       twins = padded l.twins t.originals;
       formulas = padded l.formulas (words_of t.formulas);
       effects = padded l.effects (words_of t.effects);
-      operators = padded l.operators (operator-words t.operators);
+      operators = padded l.operators (operator_words t.operators);
     }
-outcome-of l (rejected n) =
+outcome_of l (rejected n) =
     record {
       answer = Refused n;
       initial = replicate l.initial 0;
@@ -35,8 +35,8 @@ outcome-of l (rejected n) =
     }
 
 -- from the lent tables' lengths and the file alone
-unfoldable pub read-outcome : Lengths → List ℕ → ReadOutcome
-read-outcome l file = outcome-of l (reading l file)
+unfoldable pub read_outcome : Lengths → List ℕ → ReadOutcome
+read_outcome l file = outcome_of l (reading l file)
 
 -- what a call left, as one value
 abbrev pub read_left : ReadAnswer → (initial twins formulas effects operators : List ℕ) → ReadOutcome

@@ -1,4 +1,6 @@
 // Reading task files: bytes become tables.
+#![tactic(auto)]
+
 pub mod clear;
 pub mod fill;
 pub mod read;
@@ -12,21 +14,21 @@ pub mod word;
 use task::Head;
 
 // What reading answers: the head of the tables that were filled, or the number of the refusal.
-#[derive(Drop)]
+#[derive(Clone, Copy)]
 pub enum ReadAnswer {
     Read(Head),
     Refused(u16),
 }
 
 // A word that was read and the place behind it, or the number of the refusal.
-#[derive(Drop)]
+#[derive(Clone, Copy)]
 pub enum Field {
     Word { word: u16, next: usize },
     NoWord(u16),
 }
 
 // Three fields and the place behind them, or the number of the refusal.
-#[derive(Drop)]
+#[derive(Clone, Copy)]
 pub enum Fields {
     Three {
         first: u16,
@@ -38,7 +40,7 @@ pub enum Fields {
 }
 
 // The words of a row, 0 behind those of a row of three, and the place behind it; or the number of the refusal.
-#[derive(Drop)]
+#[derive(Clone, Copy)]
 pub enum Row {
     Words {
         first: u16,
@@ -51,14 +53,14 @@ pub enum Row {
 }
 
 // The place behind what was read, or the number of the refusal.
-#[derive(Drop)]
+#[derive(Clone, Copy)]
 pub enum Place {
     At(usize),
     Nowhere(u16),
 }
 
 // The head and the place behind it, or the number of the refusal.
-#[derive(Drop)]
+#[derive(Clone, Copy)]
 pub enum HeadAnswer {
     Counts { head: Head, next: usize },
     NoHead(u16),

@@ -1,15 +1,15 @@
 // Reading a task file.
 ghost use Rattle.std.specs.Prelude.{◌≡◌, length};
-ghost use Rattle.task_file.specs.Inner.Answers.{no-task, lost-place};
+ghost use Rattle.task_file.specs.Inner.Answers.{no_task, lost_place};
 ghost use Rattle.task_file.specs.Outcome.{lengths};
-ghost use Rattle.task_file.specs.Outcome.{read_left, read-outcome};
+ghost use Rattle.task_file.specs.Outcome.{read_left, read_outcome};
 ghost use Rattle.task_file.specs.Inner.Filled.{Filled};
 
 use crate::{HeadAnswer, Place, ReadAnswer};
 
 // The head's refusal, as the answer. Constant time.
 fn no_head(h: HeadAnswer) -> ReadAnswer
-    ensures { result ≡ no-task h }
+    ensures { result ≡ no_task h }
 {
     match h {
         HeadAnswer::NoHead(n) => ReadAnswer::Refused(n),
@@ -19,7 +19,7 @@ fn no_head(h: HeadAnswer) -> ReadAnswer
 
 // A table's refusal, as the answer. Constant time.
 fn lost(p: Place) -> ReadAnswer
-    ensures { result ≡ lost-place p }
+    ensures { result ≡ lost_place p }
 {
     match p {
         Place::Nowhere(n) => ReadAnswer::Refused(n),
@@ -70,7 +70,7 @@ pub fn read(
     effects: &mut [u16],
     operators: &mut [u16],
 ) -> ReadAnswer
-    ensures { read_left result initial.new twins.new formulas.new effects.new operators.new ≡ read-outcome (lengths (length initial.old) (length twins.old) (length formulas.old) (length effects.old) (length operators.old)) file.now }
+    ensures { read_left result initial.new twins.new formulas.new effects.new operators.new ≡ read_outcome (lengths (length initial.old) (length twins.old) (length formulas.old) (length effects.old) (length operators.old)) file.now }
 {
     crate::clear::clear_tables(initial, twins, formulas, effects, operators);
     let r = fill(file, initial, twins, formulas, effects, operators);

@@ -1,8 +1,8 @@
 // The head of a file.
 ghost use Rattle.std.specs.Prelude.{◌≡◌};
 ghost use Rattle.file_format.specs.Parse.{next};
-ghost use Rattle.file_format.specs.Reading.{room, head_read, head-kept};
-ghost use Rattle.task_file.specs.Inner.Answers.{head-told, lost-head};
+ghost use Rattle.file_format.specs.Reading.{room, head_read, head_kept};
+ghost use Rattle.task_file.specs.Inner.Answers.{head_told, lost_head};
 ghost use Rattle.task_file.specs.Outcome.{lengths};
 
 use crate::{Fields, HeadAnswer};
@@ -11,7 +11,7 @@ use task::operator_rows::OPERATOR_WORDS;
 
 // The refusal of three fields, as that of the head. Constant time.
 fn refused(r: Fields) -> HeadAnswer
-    ensures { result ≡ lost-head r }
+    ensures { result ≡ lost_head r }
 {
     match r {
         Fields::NoFields(n) => HeadAnswer::NoHead(n),
@@ -26,7 +26,7 @@ fn refused(r: Fields) -> HeadAnswer
 
 // The six fields of the head: the lower three bits of the map, then the upper three. Constant time.
 fn read_head(file: &[u8]) -> HeadAnswer
-    ensures { head-told file.now result ≡ head_read file.now }
+    ensures { head_told file.now result ≡ head_read file.now }
 {
     if file.len() == 0 {
         return HeadAnswer::NoHead(1);
@@ -103,7 +103,7 @@ pub fn read_kept_head(
     effects: usize,
     operators: usize,
 ) -> HeadAnswer
-    ensures { head-told file.now result ≡ next (head_read file.now) (head-kept (lengths initial twins formulas effects operators)) }
+    ensures { head_told file.now result ≡ next (head_read file.now) (head_kept (lengths initial twins formulas effects operators)) }
 {
     let h = read_head(file);
     let HeadAnswer::Counts { head, next } = h else {

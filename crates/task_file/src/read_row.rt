@@ -1,7 +1,7 @@
 // Rows, as their words.
 ghost use Rattle.std.specs.Prelude.{◌≡◌, drop};
-ghost use Rattle.task_file.specs.Inner.Answers.{row_told, lost-field, lost-fields};
-ghost use Rattle.task_file.specs.Inner.Tables.{row-words-read, kept-words-read};
+ghost use Rattle.task_file.specs.Inner.Answers.{row_told, lost_field, lost_fields};
+ghost use Rattle.task_file.specs.Inner.Tables.{row_words_read, kept_words_read};
 
 use crate::word::{read_field, read_three};
 use crate::{Field, Fields, Row};
@@ -10,7 +10,7 @@ use task::{DEFAULT_PERCENT, Head, Table};
 
 // The refusal of three fields, as that of their row. Constant time, as are all below.
 fn refused(f: Fields) -> Row
-    ensures { result ≡ lost-fields f }
+    ensures { result ≡ lost_fields f }
 {
     match f {
         Fields::NoFields(n) => Row::NoRow(n),
@@ -25,7 +25,7 @@ fn refused(f: Fields) -> Row
 
 // The refusal of a field, as that of its row.
 fn no_field(f: Field) -> Row
-    ensures { result ≡ lost-field f }
+    ensures { result ≡ lost_field f }
 {
     match f {
         Field::NoWord(n) => Row::NoRow(n),
@@ -35,7 +35,7 @@ fn no_field(f: Field) -> Row
 
 // A formula's or an effect's row, without its own number.
 fn read_kind(file: &[u8], at: usize) -> Row
-    ensures { row_told Table.Formulas file.now result ≡ row-words-read Table.Formulas (drop at file.now) }
+    ensures { row_told Table.Formulas file.now result ≡ row_words_read Table.Formulas (drop at file.now) }
 {
     if file.len() <= at {
         return Row::NoRow(1);
@@ -65,7 +65,7 @@ fn read_kind(file: &[u8], at: usize) -> Row
 
 // An operator's row, without its own number: three fields, and the percent.
 fn read_four(file: &[u8], at: usize) -> Row
-    ensures { row_told Table.Operators file.now result ≡ row-words-read Table.Operators (drop at file.now) }
+    ensures { row_told Table.Operators file.now result ≡ row_words_read Table.Operators (drop at file.now) }
 {
     if file.len() <= at {
         return Row::NoRow(1);
@@ -99,7 +99,7 @@ fn read_four(file: &[u8], at: usize) -> Row
 
 // Formula row i: its words, if they keep their rule.
 fn read_formula(head: Head, i: usize, file: &[u8], at: usize) -> Row
-    ensures { row_told Table.Formulas file.now result ≡ kept-words-read Table.Formulas head i (drop at file.now) }
+    ensures { row_told Table.Formulas file.now result ≡ kept_words_read Table.Formulas head i (drop at file.now) }
 {
     let r = read_kind(file, at);
     let Row::Words {
@@ -127,7 +127,7 @@ fn read_formula(head: Head, i: usize, file: &[u8], at: usize) -> Row
 
 // Effect row i: its words, if they keep their rule.
 fn read_effect(head: Head, i: usize, file: &[u8], at: usize) -> Row
-    ensures { row_told Table.Effects file.now result ≡ kept-words-read Table.Effects head i (drop at file.now) }
+    ensures { row_told Table.Effects file.now result ≡ kept_words_read Table.Effects head i (drop at file.now) }
 {
     let r = read_kind(file, at);
     let Row::Words {
@@ -156,7 +156,7 @@ fn read_effect(head: Head, i: usize, file: &[u8], at: usize) -> Row
 
 // Operator row i: its words, if they keep their rules: 12, then 24.
 fn read_operator(head: Head, i: usize, file: &[u8], at: usize) -> Row
-    ensures { row_told Table.Operators file.now result ≡ kept-words-read Table.Operators head i (drop at file.now) }
+    ensures { row_told Table.Operators file.now result ≡ kept_words_read Table.Operators head i (drop at file.now) }
 {
     let r = read_four(file, at);
     let Row::Words {
@@ -187,7 +187,7 @@ fn read_operator(head: Head, i: usize, file: &[u8], at: usize) -> Row
 // Row i of a table: its words, if they keep their rule. The table is asked for here alone, so that a loop over rows compiles to three loops without
 // the question.
 pub fn read_kept(table: Table, head: Head, i: usize, file: &[u8], at: usize) -> Row
-    ensures { row_told table file.now result ≡ kept-words-read table head i (drop at file.now) }
+    ensures { row_told table file.now result ≡ kept_words_read table head i (drop at file.now) }
 {
     match table {
         Table::Formulas => read_formula(head, i, file, at),

@@ -1,8 +1,8 @@
 // The tables of rows.
 ghost use Rattle.std.specs.Prelude.{◌≡◌, ◌*◌, ◌≤◌, length, drop};
 ghost use Rattle.task.specs.Inner.Tables.{width};
-ghost use Rattle.task_file.specs.Inner.Answers.{lost-row, ReadPart};
-ghost use Rattle.task_file.specs.Inner.Tables.{words-read};
+ghost use Rattle.task_file.specs.Inner.Answers.{lost_row, ReadPart};
+ghost use Rattle.task_file.specs.Inner.Tables.{words_read};
 
 use crate::{Place, Row};
 use task::table_rows::store_row;
@@ -10,7 +10,7 @@ use task::{Head, Table, TableRow};
 
 // A row's refusal, as that of its table. Constant time.
 fn refused(r: Row) -> Place
-    ensures { result ≡ lost-row r }
+    ensures { result ≡ lost_row r }
 {
     match r {
         Row::NoRow(n) => Place::Nowhere(n),
@@ -34,7 +34,7 @@ pub fn read_rows(
     words: &mut [u16],
 ) -> Place
     requires { width table * count ≤ length words.old }
-    ensures { ReadPart (width table * count) file.now (words-read table head count (drop at file.now)) result words.old words.new }
+    ensures { ReadPart (width table * count) file.now (words_read table head count (drop at file.now)) result words.old words.new }
 {
     let mut i = 0;
     let mut place = at;

@@ -1,8 +1,8 @@
 // The initial state.
 ghost use Rattle.std.specs.Prelude.{◌≡◌, ◌+◌, ◌-◌, ◌≤◌, ◌<◌, length, take, drop};
 ghost use Rattle.task.specs.Bounded.{upto};
-ghost use Rattle.file_format.specs.Bytes.{bytes-for};
-ghost use Rattle.file_format.specs.Reading.{bit-of, spare-clear, initial-read};
+ghost use Rattle.file_format.specs.Bytes.{bytes_for};
+ghost use Rattle.file_format.specs.Reading.{bit_of, spare_clear, initial_read};
 ghost use Rattle.task_file.specs.Inner.Answers.{ReadPart, Unpacked};
 
 use crate::Place;
@@ -16,8 +16,8 @@ fn left(file: &[u8], at: usize) -> usize
 
 // Whether the bits behind the last of `count` variables are 0. Constant time.
 fn spare_clear(file: &[u8], at: usize, count: usize) -> bool
-    requires { bytes-for count ≤ length file.now - at }
-    ensures { result ≡ spare-clear (drop at file.now) count }
+    requires { bytes_for count ≤ length file.now - at }
+    ensures { result ≡ spare_clear (drop at file.now) count }
 {
     if count % 8 == 0 {
         return true;
@@ -28,7 +28,7 @@ fn spare_clear(file: &[u8], at: usize, count: usize) -> bool
 
 // Variable v of a packed state, from bit v mod 8 of byte v / 8, for each of `count` variables. Linear.
 fn unpack(file: &[u8], at: usize, count: usize, initial: &mut [u8])
-    requires { (bytes-for count ≤ length file.now - at) × (count ≤ length initial.old) }
+    requires { (bytes_for count ≤ length file.now - at) × (count ≤ length initial.old) }
     ensures { Unpacked count (drop at file.now) initial.old initial.new }
 {
     let mut v = 0;
@@ -42,7 +42,7 @@ fn unpack(file: &[u8], at: usize, count: usize, initial: &mut [u8])
 // The initial state of `count` variables, into the front of `initial`. Linear.
 pub fn read_state(file: &[u8], at: usize, count: usize, initial: &mut [u8]) -> Place
     requires { (count ≤ length initial.old) × (count < 65536) }
-    ensures { ReadPart count file.now (initial-read count (drop at file.now)) result initial.old initial.new }
+    ensures { ReadPart count file.now (initial_read count (drop at file.now)) result initial.old initial.new }
 {
     let bytes = (count + 7) / 8;
     if left(file, at) < bytes {

@@ -1,14 +1,14 @@
 // The originals of the twins.
 ghost use Rattle.std.specs.Prelude.{◌≡◌, ◌≤◌, length, drop};
-ghost use Rattle.file_format.specs.Parse.{table-read};
-ghost use Rattle.file_format.specs.Reading.{twin-read};
-ghost use Rattle.task_file.specs.Inner.Answers.{lost-word, ReadPart};
+ghost use Rattle.file_format.specs.Parse.{table_read};
+ghost use Rattle.file_format.specs.Reading.{twin_read};
+ghost use Rattle.task_file.specs.Inner.Answers.{lost_word, ReadPart};
 
 use crate::{Field, Place};
 
 // A word's refusal, as that of its table. Constant time.
 fn refused(f: Field) -> Place
-    ensures { result ≡ lost-word f }
+    ensures { result ≡ lost_word f }
 {
     match f {
         Field::NoWord(n) => Place::Nowhere(n),
@@ -19,7 +19,7 @@ fn refused(f: Field) -> Place
 // The originals, into the front of `twins`. Linear: a byte for each variable tells whether a row has named it.
 pub fn read_twins(file: &[u8], at: usize, count: usize, bound: usize, twins: &mut [u16]) -> Place
     requires { (count ≤ length twins.old) × (bound ≤ 512) }
-    ensures { ReadPart count file.now (table-read (twin-read bound) count (drop at file.now)) result twins.old twins.new }
+    ensures { ReadPart count file.now (table_read (twin_read bound) count (drop at file.now)) result twins.old twins.new }
 {
     let mut named = [0u8; 512];
     let mut k = 0;

@@ -1,7 +1,7 @@
 // Words and fields of a file, at a place of it.
 ghost use Rattle.std.specs.Prelude.{◌≡◌, drop};
 ghost use Rattle.file_format.specs.Bytes.{zeros};
-ghost use Rattle.file_format.specs.Parse.{word_read, field-read, fields_read};
+ghost use Rattle.file_format.specs.Parse.{word_read, field_read, fields_read};
 ghost use Rattle.task_file.specs.Inner.Answers.{field_told, fields_told, carried};
 
 use crate::{Field, Fields};
@@ -26,7 +26,7 @@ pub fn read_word(file: &[u8], at: usize) -> Field
 
 // A field by its bit: absent it is its default. Constant time.
 pub fn read_field(file: &[u8], at: usize, bit: u8, default: u16) -> Field
-    ensures { field_told file.now result ≡ field-read default bit (drop at file.now) }
+    ensures { field_told file.now result ≡ field_read default bit (drop at file.now) }
 {
     if bit == 0 {
         return Field::Word {

@@ -11,36 +11,36 @@ use lib.Dec.{leb, eqb}
 use borrow.Author.Tests.{leb-true, le-leb, eqb-true}
 use Rattle.task.specs.declared.Head.{Head}
 use Rattle.task.specs.Bounded.{upto}
-use Rattle.task.specs.Table.{Lent, Task, lent, row_at, operator-at, task-of, operator-width}
+use Rattle.task.specs.Table.{Lent, Task, lent, row_at, operator_at, task_of, operator_width}
 use Rattle.task.specs.Check.{refusal}
 use Rattle.task.specs.Rules.{LongEnough, HasRoom}
-use Rattle.task.specs.Words.{padded, head_of, words_of, operator-words}
+use Rattle.task.specs.Words.{padded, head_of, words_of, operator_words}
 use Rattle.task.proofs.Held.{length-formulas, length-effects, length-operators}
 use Rattle.task.proofs.Kept.{kept-rules}
-use Rattle.task.proofs.Words.{length-words, length-operator-words}
-use Rattle.task.proofs.Fronts.{rows-front, operators-front}
-use Rattle.file_format.specs.Bytes.{file-of}
+use Rattle.task.proofs.Words.{length_words, length_operator_words}
+use Rattle.task.proofs.Fronts.{rows_front, operators_front}
+use Rattle.file_format.specs.Bytes.{file_of}
 use Rattle.file_format.specs.Reading.{Lengths, Verdict, accepted, rejected, reading}
 use Rattle.file_format.proofs.Parse.{Bytes}
 use Rattle.task_file.specs.declared.ReadAnswer.TheVariants.{Read}
-use Rattle.task_file.specs.Outcome.{ReadOutcome, outcome-of, read-outcome}
+use Rattle.task_file.specs.Outcome.{ReadOutcome, outcome_of, read_outcome}
 use Rattle.task_writer.specs.declared.WriteAnswer.TheVariants.{Written, NotWritten}
-use Rattle.task_writer.specs.Writing.{WriteOutcome, wrote, file-outcome, write-outcome}
+use Rattle.task_writer.specs.Writing.{WriteOutcome, wrote, file_outcome, write_outcome}
 use Rattle.task_writer.proofs.WriteWays.{same_head}
-use Rattle.task_writer.proofs.Calls.{read-after-write, write-after-read}
+use Rattle.task_writer.proofs.Calls.{read_after_write, write_after_read}
 
 -- What the answer "written, so many bytes" says.
 pub record WrittenTold (l : Lent) (n k : ℕ) : Type 0 where
   pub passed : refusal l ≡ 0
-  pub fits : length (file-of (task-of l)) ≤ n
-  pub counted : k ≡ length (file-of (task-of l))
+  pub fits : length (file_of (task_of l)) ≤ n
+  pub counted : k ≡ length (file_of (task_of l))
 
-pub written-told : (l : Lent) (n k : ℕ) → (write-outcome l n).answer ≡ Written k → WrittenTold l n k
-unfolding write-outcome file-outcome
-written-told l n k e = go (eqb (refusal l) 0) (leb (length file) n) refl refl e
+pub written_told : (l : Lent) (n k : ℕ) → (write_outcome l n).answer ≡ Written k → WrittenTold l n k
+unfolding write_outcome file_outcome
+written_told l n k e = go (eqb (refusal l) 0) (leb (length file) n) refl refl e
   where
     file : List ℕ
-    file = file-of (task-of l)
+    file = file_of (task_of l)
 
     go :
         (b c : Bool)
@@ -62,11 +62,11 @@ pub record ReadTold (lengths : Lengths) (file : List ℕ) (h : Head) : Type 0 wh
   pub read : reading lengths file ≡ accepted task
   pub head : h ≡ head_of task
 
-pub read_told : (lengths : Lengths) (file : List ℕ) (h : Head) → (read-outcome lengths file).answer ≡ Read h → ReadTold lengths file h
-unfolding read-outcome outcome-of
+pub read_told : (lengths : Lengths) (file : List ℕ) (h : Head) → (read_outcome lengths file).answer ≡ Read h → ReadTold lengths file h
+unfolding read_outcome outcome_of
 read_told lengths file h e = go (reading lengths file) refl e
   where
-    go : (o : Verdict) → reading lengths file ≡ o → (outcome-of lengths o).answer ≡ Read h → ReadTold lengths file h
+    go : (o : Verdict) → reading lengths file ≡ o → (outcome_of lengths o).answer ≡ Read h → ReadTold lengths file h
     go (accepted t) q r = record { task = t; read = q; head = cc }
     go (rejected n) q r = absurd (let z : ◌≡◌ {A = ℕ} 0 1 = cc in omega arith)
 
@@ -78,95 +78,95 @@ front n k words e = rw (← e) (take-append_seam words (replicate (n - length wo
 -- Tables that were written into n bytes, k of them, and read again.
 module _
     (l : Lent) (n k : ℕ) (lengths : Lengths)
-    (told : (write-outcome l n).answer ≡ Written k) (room : HasRoom lengths (task-of l))
+    (told : (write_outcome l n).answer ≡ Written k) (room : HasRoom lengths (task_of l))
   where
     long : LongEnough l
-    long = (kept-rules l (written-told l n k told).passed).0
+    long = (kept-rules l (written_told l n k told).passed).0
 
-    same_outcome : read-outcome lengths (take k (write-outcome l n).out) ≡ outcome-of lengths (accepted (task-of l))
+    same_outcome : read_outcome lengths (take k (write_outcome l n).out) ≡ outcome_of lengths (accepted (task_of l))
     same_outcome =
-        let w = written-told l n k told in
-        rw w.counted (read-after-write l n lengths w.passed w.fits room)
+        let w = written_told l n k told in
+        rw w.counted (read_after_write l n lengths w.passed w.fits room)
 
-    pub head-again : (read-outcome lengths (take k (write-outcome l n).out)).answer ≡ Read l.head
-    unfolding outcome-of
+    pub head-again : (read_outcome lengths (take k (write_outcome l n).out)).answer ≡ Read l.head
+    unfolding outcome_of
     head-again = ap (λ (o : ReadOutcome). o.answer) same_outcome ∙ ap Read (same_head l long)
 
     pub initial-again :
-        take l.head.variables (read-outcome lengths (take k (write-outcome l n).out)).initial
+        take l.head.variables (read_outcome lengths (take k (write_outcome l n).out)).initial
         ≡ take l.head.variables l.initial
-    unfolding outcome-of task-of
+    unfolding outcome_of task_of
     initial-again =
         ap (λ (o : ReadOutcome). take l.head.variables o.initial) same_outcome
         ∙ front lengths.initial l.head.variables (take l.head.variables l.initial)
         (length-take-le l.head.variables l.initial long.initial)
 
     pub twins-again :
-        take l.head.twins (read-outcome lengths (take k (write-outcome l n).out)).twins
+        take l.head.twins (read_outcome lengths (take k (write_outcome l n).out)).twins
         ≡ take l.head.twins l.twins
-    unfolding outcome-of task-of
+    unfolding outcome_of task_of
     twins-again =
         ap (λ (o : ReadOutcome). take l.head.twins o.twins) same_outcome
         ∙ front lengths.twins l.head.twins (take l.head.twins l.twins)
         (length-take-le l.head.twins l.twins long.twins)
 
     pub formulas-again :
-        take (3 * l.head.formulas) (read-outcome lengths (take k (write-outcome l n).out)).formulas
+        take (3 * l.head.formulas) (read_outcome lengths (take k (write_outcome l n).out)).formulas
         ≡ take (3 * l.head.formulas) l.formulas
-    unfolding outcome-of task-of
+    unfolding outcome_of task_of
     formulas-again =
         let rows = upto l.head.formulas (row_at l.formulas) in
         ap (λ (o : ReadOutcome). take (3 * l.head.formulas) o.formulas) same_outcome
         ∙ front lengths.formulas (3 * l.head.formulas) (words_of rows)
-        (length-words rows ∙ ap (λ (i : ℕ). 3 * i) (length-formulas l))
-        ∙ sym (rows-front l.formulas l.head.formulas long.formulas)
+        (length_words rows ∙ ap (λ (i : ℕ). 3 * i) (length-formulas l))
+        ∙ sym (rows_front l.formulas l.head.formulas long.formulas)
 
     pub effects-again :
-        take (3 * l.head.effects) (read-outcome lengths (take k (write-outcome l n).out)).effects
+        take (3 * l.head.effects) (read_outcome lengths (take k (write_outcome l n).out)).effects
         ≡ take (3 * l.head.effects) l.effects
-    unfolding outcome-of task-of
+    unfolding outcome_of task_of
     effects-again =
         let rows = upto l.head.effects (row_at l.effects) in
         ap (λ (o : ReadOutcome). take (3 * l.head.effects) o.effects) same_outcome
         ∙ front lengths.effects (3 * l.head.effects) (words_of rows)
-        (length-words rows ∙ ap (λ (i : ℕ). 3 * i) (length-effects l))
-        ∙ sym (rows-front l.effects l.head.effects long.effects)
+        (length_words rows ∙ ap (λ (i : ℕ). 3 * i) (length-effects l))
+        ∙ sym (rows_front l.effects l.head.effects long.effects)
 
     pub operators-again :
-        take (operator-width * l.head.operators) (read-outcome lengths (take k (write-outcome l n).out)).operators
-        ≡ take (operator-width * l.head.operators) l.operators
-    unfolding outcome-of task-of
+        take (operator_width * l.head.operators) (read_outcome lengths (take k (write_outcome l n).out)).operators
+        ≡ take (operator_width * l.head.operators) l.operators
+    unfolding outcome_of task_of
     operators-again =
-        let rows = upto l.head.operators (operator-at l.operators) in
-        ap (λ (o : ReadOutcome). take (operator-width * l.head.operators) o.operators) same_outcome
-        ∙ front lengths.operators (operator-width * l.head.operators) (operator-words rows)
-        (length-operator-words rows ∙ ap (λ (i : ℕ). operator-width * i) (length-operators l))
-        ∙ sym (operators-front l.operators l.head.operators long.operators)
+        let rows = upto l.head.operators (operator_at l.operators) in
+        ap (λ (o : ReadOutcome). take (operator_width * l.head.operators) o.operators) same_outcome
+        ∙ front lengths.operators (operator_width * l.head.operators) (operator_words rows)
+        (length_operator_words rows ∙ ap (λ (i : ℕ). operator_width * i) (length-operators l))
+        ∙ sym (operators_front l.operators l.head.operators long.operators)
 
 -- A file that was read, written again into n bytes.
 module _
     (lengths : Lengths) (file : List ℕ) (h : Head) (n : ℕ)
-    (bytes : Bytes file) (told : (read-outcome lengths file).answer ≡ Read h) (fits : length file ≤ n)
+    (bytes : Bytes file) (told : (read_outcome lengths file).answer ≡ Read h) (fits : length file ≤ n)
   where
     written-again :
-        let o = read-outcome lengths file in
-        write-outcome (lent h o.initial o.twins o.formulas o.effects o.operators) n
+        let o = read_outcome lengths file in
+        write_outcome (lent h o.initial o.twins o.formulas o.effects o.operators) n
         ≡ wrote (Written (length file)) (padded n file)
-    unfolding file-outcome
+    unfolding file_outcome
     written-again =
         let r = read_told lengths file h told in
         rw r.head
-        (write-after-read lengths file r.task n bytes r.read ∙ rw (le-leb (length file) n fits))
+        (write_after_read lengths file r.task n bytes r.read ∙ rw (le-leb (length file) n fits))
 
     pub length-again :
-        let o = read-outcome lengths file in
-        (write-outcome (lent h o.initial o.twins o.formulas o.effects o.operators) n).answer
+        let o = read_outcome lengths file in
+        (write_outcome (lent h o.initial o.twins o.formulas o.effects o.operators) n).answer
         ≡ Written (length file)
     length-again = ap (λ (w : WriteOutcome). w.answer) written-again
 
     pub bytes-again :
-        let o = read-outcome lengths file in
-        take (length file) (write-outcome (lent h o.initial o.twins o.formulas o.effects o.operators) n).out
+        let o = read_outcome lengths file in
+        take (length file) (write_outcome (lent h o.initial o.twins o.formulas o.effects o.operators) n).out
         ≡ file
     bytes-again =
         ap (λ (w : WriteOutcome). take (length file) w.out) written-again ∙ front n (length file) file refl

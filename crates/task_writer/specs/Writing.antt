@@ -1,11 +1,11 @@
 -- What the call that writes leaves: its answer and the output (01, "Where each number is given": the tables' own numbers, then 20; after a refusal the
 -- output is all 0, and past the file all is 0).
 use Rattle.std.specs.Prelude.{ℕ, cond, List, length, replicate, leb, eqb}
-use Rattle.task.specs.Table.{Lent, task-of}
+use Rattle.task.specs.Table.{Lent, task_of}
 use Rattle.task.specs.Check.{refusal}
 use Rattle.task_writer.specs.declared.WriteAnswer.{WriteAnswer}
 use Rattle.task_writer.specs.declared.WriteAnswer.TheVariants.{Written, NotWritten}
-use Rattle.file_format.specs.Bytes.{file-of}
+use Rattle.file_format.specs.Bytes.{file_of}
 use Rattle.task.specs.Words.{padded}
 
 pub record WriteOutcome : Type 0 where
@@ -16,11 +16,11 @@ abbrev pub wrote : WriteAnswer → List ℕ → WriteOutcome
 wrote r out = record { answer = r; out = out }
 
 -- a file into an output of n bytes: 20 if it does not fit
-unfoldable pub file-outcome : List ℕ → ℕ → WriteOutcome
-file-outcome file n =
+unfoldable pub file_outcome : List ℕ → ℕ → WriteOutcome
+file_outcome file n =
     cond (leb (length file) n) (wrote (Written (length file)) (padded n file)) (wrote (NotWritten 20) (replicate n 0))
 
 -- from the lent tables and the output's length alone
-unfoldable pub write-outcome : Lent → ℕ → WriteOutcome
-write-outcome l n =
-    cond (eqb (refusal l) 0) (file-outcome (file-of (task-of l)) n) (wrote (NotWritten (refusal l)) (replicate n 0))
+unfoldable pub write_outcome : Lent → ℕ → WriteOutcome
+write_outcome l n =
+    cond (eqb (refusal l) 0) (file_outcome (file_of (task_of l)) n) (wrote (NotWritten (refusal l)) (replicate n 0))

@@ -1,6 +1,6 @@
 // Bytes, words and fields into an output. What does not fit is only counted.
 ghost use Rattle.std.specs.Prelude.{◌≡◌, [], ◌∷◌, ◌≤◌};
-ghost use Rattle.file_format.specs.Bytes.{word_bytes, field-bytes, present, fields-bytes, zeros};
+ghost use Rattle.file_format.specs.Bytes.{word_bytes, field_bytes, present, fields_bytes, zeros};
 ghost use Rattle.task_writer.specs.Inner.Putting.{Put};
 
 // One byte. Constant time.
@@ -27,7 +27,7 @@ pub fn put_word(out: &mut [u8], at: usize, w: u16) -> usize
 // A field: nothing for its default. Constant time.
 pub fn put_field(out: &mut [u8], at: usize, w: u16, default: u16) -> usize
     requires { at ≤ 1800000 }
-    ensures { Put (field-bytes default w) at result out.old out.new }
+    ensures { Put (field_bytes default w) at result out.old out.new }
 {
     if w == default {
         return at;
@@ -38,7 +38,7 @@ pub fn put_field(out: &mut [u8], at: usize, w: u16, default: u16) -> usize
 // Three fields of default 0. Constant time.
 pub fn put_three(out: &mut [u8], at: usize, a: u16, b: u16, c: u16) -> usize
     requires { at ≤ 1700000 }
-    ensures { Put (fields-bytes zeros (a ∷ b ∷ c ∷ [])) at result out.old out.new }
+    ensures { Put (fields_bytes zeros (a ∷ b ∷ c ∷ [])) at result out.old out.new }
 {
     let to_second = put_field(out, at, a, 0);
     let to_third = put_field(out, to_second, b, 0);

@@ -1,15 +1,15 @@
 // A row's bytes, and the head's, into an output.
 ghost use Rattle.std.specs.Prelude.{◌≡◌, [], ◌∷◌, ◌≤◌};
 ghost use Rattle.task.specs.Table.{operator};
-ghost use Rattle.file_format.specs.Bytes.{fields-bytes, zeros, head_bytes, operator-bytes};
-ghost use Rattle.task_writer.specs.Inner.Putting.{Put, MapFits, kind-bytes, bytes_of};
+ghost use Rattle.file_format.specs.Bytes.{fields_bytes, zeros, head_bytes, operator_bytes};
+ghost use Rattle.task_writer.specs.Inner.Putting.{Put, MapFits, kind_bytes, bytes_of};
 
 use task::{DEFAULT_PERCENT, Head, Table, TableRow};
 
 // A map and the three fields by it. Constant time.
 fn put_mapped(out: &mut [u8], at: usize, map: u8, a: u16, b: u16, c: u16) -> usize
     requires { at ≤ 1600000 }
-    ensures { Put (map ∷ fields-bytes zeros (a ∷ b ∷ c ∷ [])) at result out.old out.new }
+    ensures { Put (map ∷ fields_bytes zeros (a ∷ b ∷ c ∷ [])) at result out.old out.new }
 {
     let next = crate::put::put_byte(out, at, map);
     crate::put::put_three(out, next, a, b, c)
@@ -18,7 +18,7 @@ fn put_mapped(out: &mut [u8], at: usize, map: u8, a: u16, b: u16, c: u16) -> usi
 // A formula's or an effect's row. Constant time.
 fn put_kind(out: &mut [u8], at: usize, kind: u16, a: u16, b: u16) -> usize
     requires { (at ≤ 1500000) × (MapFits Table.Formulas kind) }
-    ensures { Put (kind-bytes kind a b) at result out.old out.new }
+    ensures { Put (kind_bytes kind a b) at result out.old out.new }
 {
     let map = crate::put::bit(a, 0) + 2 * crate::put::bit(b, 0) + 16 * (kind as u8);
     put_mapped(out, at, map, a, b, 0)
@@ -34,7 +34,7 @@ fn put_operator(
     percent: u16,
 ) -> usize
     requires { at ≤ 1500000 }
-    ensures { Put (operator-bytes (operator precondition effect cost percent)) at result out.old out.new }
+    ensures { Put (operator_bytes (operator precondition effect cost percent)) at result out.old out.new }
 {
     let map = crate::put::bit(precondition, 0)
         + 2 * crate::put::bit(effect, 0)

@@ -2,7 +2,7 @@
 ghost use Rattle.std.specs.Prelude.{◌≡◌, ℕ, ◌+◌, ◌*◌, ◌≤◌, ◌<◌, length, get_or, take};
 ghost use Rattle.task.specs.Words.{joined};
 ghost use Rattle.file_format.specs.Bytes.{word_bytes, packed};
-ghost use Rattle.task_writer.specs.Inner.Putting.{Put, RowsIn, StateIn, byte-number, rows-bytes};
+ghost use Rattle.task_writer.specs.Inner.Putting.{Put, RowsIn, StateIn, byte_number, rows_bytes};
 
 use task::Table;
 use task::table_rows::row_at;
@@ -10,7 +10,7 @@ use task::table_rows::row_at;
 // The first `count` rows of a table. Linear.
 pub fn put_rows(table: Table, words: &[u16], count: usize, out: &mut [u8], at: usize) -> usize
     requires { RowsIn table words.now count at }
-    ensures { Put (rows-bytes table words.now count) at result out.old out.new }
+    ensures { Put (rows_bytes table words.now count) at result out.old out.new }
 {
     let mut i = 0;
     let mut place = at;
@@ -50,7 +50,7 @@ fn bit_at(initial: &[u8], count: usize, v: usize) -> u8
 // Byte j of the packed state. Constant time.
 fn pack(initial: &[u8], count: usize, j: usize) -> u8
     requires { (StateIn initial.now count) × (j ≤ 65536) }
-    ensures { result ≡ byte-number (take count initial.now) j }
+    ensures { result ≡ byte_number (take count initial.now) j }
 {
     let v = 8 * j;
     let low = bit_at(initial, count, v)

@@ -1,9 +1,9 @@
 // Writing a task file.
 ghost use Rattle.std.specs.Prelude.{◌≡◌, length};
-ghost use Rattle.task.specs.Table.{lent, task-of};
-ghost use Rattle.file_format.specs.Bytes.{file-of};
+ghost use Rattle.task.specs.Table.{lent, task_of};
+ghost use Rattle.file_format.specs.Bytes.{file_of};
 ghost use Rattle.task_writer.specs.Inner.Putting.{Put};
-ghost use Rattle.task_writer.specs.Writing.{wrote, write-outcome};
+ghost use Rattle.task_writer.specs.Writing.{wrote, write_outcome};
 ghost use Rattle.task_writer.specs.Inner.Putting.{WriteIn};
 
 use crate::WriteAnswer;
@@ -20,7 +20,7 @@ fn put_task(
     out: &mut [u8],
 ) -> usize
     requires { WriteIn (lent head initial.now twins.now formulas.now effects.now operators.now) }
-    ensures { Put (file-of (task-of (lent head initial.now twins.now formulas.now effects.now operators.now))) 0 result out.old out.new }
+    ensures { Put (file_of (task_of (lent head initial.now twins.now formulas.now effects.now operators.now))) 0 result out.old out.new }
 {
     let to_state = crate::put_row::put_head(out, head);
     let to_twins = crate::put_tables::put_state(initial, head.variables as usize, out, to_state);
@@ -58,7 +58,7 @@ pub fn write(
     operators: &[u16],
     out: &mut [u8],
 ) -> WriteAnswer
-    ensures { wrote result out.new ≡ write-outcome (lent head initial.now twins.now formulas.now effects.now operators.now) (length out.old) }
+    ensures { wrote result out.new ≡ write_outcome (lent head initial.now twins.now formulas.now effects.now operators.now) (length out.old) }
 {
     task::clear::clear_bytes(out);
     let number = task::check::check(head, initial, twins, formulas, effects, operators);

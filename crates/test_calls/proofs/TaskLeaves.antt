@@ -5,8 +5,8 @@ use mathlib.Core.List.{List}
 use Rattle.task.specs.declared.Head.{Head}
 use Rattle.compiler.specs.Left.{Tables}
 use Rattle.normal_form.specs.Compiled.{Answer, CompileOutcome}
-use Rattle.test_calls.specs.Buffers.{told-words, head-words}
-use Rattle.test_calls.specs.Compiling.{compile-told, compile-head, CompileTells}
+use Rattle.test_calls.specs.Buffers.{told_words, head_words}
+use Rattle.test_calls.specs.Compiling.{compile_told, compile_head, CompileTells}
 
 -- the answer, and every table at exit
 abbrev pub left_by : Answer → Tables → CompileOutcome
@@ -21,24 +21,24 @@ left_by a y =
       scratch = y.scratch;
     }
 
-pub compile-leaves :
+pub compile_leaves :
     (w : CompileOutcome) (a : Answer) (h : Head) (r : ℕ) (before after : List ℕ) (y : Tables)
     → left_by a y ≡ w
-    → h ≡ compile-head a
-    → after ≡ told-words (head-words h) before
-    → r ≡ compile-told a
+    → h ≡ compile_head a
+    → after ≡ told_words (head_words h) before
+    → r ≡ compile_told a
     → CompileTells w before r after y
-compile-leaves w a h r before after y q p k n =
+compile_leaves w a h r before after y q p k n =
     record {
-      number = n ∙ ap (λ (x : CompileOutcome). compile-told x.answer) q;
-      head-left =
+      number = n ∙ ap (λ (x : CompileOutcome). compile_told x.answer) q;
+      head_left =
           k
-          ∙ ap (λ (x : Head). told-words (head-words x) before) p
-          ∙ ap (λ (x : CompileOutcome). told-words (head-words (compile-head x.answer)) before) q;
-      initial-left = ap (λ (x : CompileOutcome). x.initial) q;
-      twins-left = ap (λ (x : CompileOutcome). x.twins) q;
-      formulas-left = ap (λ (x : CompileOutcome). x.formulas) q;
-      effects-left = ap (λ (x : CompileOutcome). x.effects) q;
-      operators-left = ap (λ (x : CompileOutcome). x.operators) q;
-      scratch-left = ap (λ (x : CompileOutcome). x.scratch) q;
+          ∙ ap (λ (x : Head). told_words (head_words x) before) p
+          ∙ ap (λ (x : CompileOutcome). told_words (head_words (compile_head x.answer)) before) q;
+      initial_left = ap (λ (x : CompileOutcome). x.initial) q;
+      twins_left = ap (λ (x : CompileOutcome). x.twins) q;
+      formulas_left = ap (λ (x : CompileOutcome). x.formulas) q;
+      effects_left = ap (λ (x : CompileOutcome). x.effects) q;
+      operators_left = ap (λ (x : CompileOutcome). x.operators) q;
+      scratch_left = ap (λ (x : CompileOutcome). x.scratch) q;
     }

@@ -8,18 +8,18 @@ use lib.ListN.{length, drop, drop_of_length-le}
 use lib.Seq.{sets, sets-eq}
 use lib.Dec.{eqb}
 use borrow.Author.Tests.{eq-eqb, ne_eqb}
-use Rattle.test_calls.specs.Buffers.{told-words}
+use Rattle.test_calls.specs.Buffers.{told_words}
 
 -- as many words as the buffer has, stored one after the other, are told
-pub told-stored : (l words : List ℕ) → length l ≡ length words → sets l 0 words ≡ told-words words l
-unfolding told-words
-told-stored l words e =
+pub told_stored : (l words : List ℕ) → length l ≡ length words → sets l 0 words ≡ told_words words l
+unfolding told_words
+told_stored l words e =
     sets-eq words l 0 (omega (arith, e))
     ∙ ap (λ (r : List ℕ). words ++ r) (drop_of_length-le l {i = 0 + length words} (omega (arith, e)))
     ∙ append-nil words
     ∙ sym (ap (λ (b : Bool). cond b words l) (eq-eqb (length l) (length words) e))
 
 -- a buffer of another length is left
-pub told-left : (l words : List ℕ) → (length l ≡ length words → ⊥) → l ≡ told-words words l
-unfolding told-words
-told-left l words n = sym (ap (λ (b : Bool). cond b words l) (ne_eqb (length l) (length words) n))
+pub told_left : (l words : List ℕ) → (length l ≡ length words → ⊥) → l ≡ told_words words l
+unfolding told_words
+told_left l words n = sym (ap (λ (b : Bool). cond b words l) (ne_eqb (length l) (length words) n))

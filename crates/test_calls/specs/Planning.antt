@@ -2,15 +2,15 @@
 use Rattle.std.specs.Prelude.{ℕ, ◌≡◌, List, [], ◌∷◌}
 use Rattle.cheapest_plan.specs.declared.CheapestOutcome.{CheapestOutcome}
 use Rattle.cheapest_plan.specs.Planned.{Planned}
-use Rattle.test_calls.specs.Buffers.{told-words}
+use Rattle.test_calls.specs.Buffers.{told_words}
 
 -- steps, cost
-unfoldable pub plan-words : CheapestOutcome → List ℕ
-plan-words a = a.steps ∷ a.cost ∷ []
+unfoldable pub plan_words : CheapestOutcome → List ℕ
+plan_words a = a.steps ∷ a.cost ∷ []
 
 pub record PlanTells (w : Planned) (before : List ℕ) (r : ℕ) (plan scratch words result : List ℕ) : Type 0 where
   pub number : r ≡ w.answer.refusal
-  pub plan-left : plan ≡ w.plan
-  pub scratch-left : scratch ≡ w.scratch
+  pub plan_left : plan ≡ w.plan
+  pub scratch_left : scratch ≡ w.scratch
   pub words_left : words ≡ w.words
-  pub told : result ≡ told-words (plan-words w.answer) before
+  pub told : result ≡ told_words (plan_words w.answer) before

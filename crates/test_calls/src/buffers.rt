@@ -1,6 +1,6 @@
 // Words that an exported call tells through a lent buffer.
 ghost use Rattle.std.specs.Prelude.{◌≡◌, [], ◌∷◌};
-ghost use Rattle.test_calls.specs.Buffers.{told-words, flag_word, head-words};
+ghost use Rattle.test_calls.specs.Buffers.{told_words, flag_word, head_words};
 
 pub fn flag(b: bool) -> u64
     ensures { result ≡ flag_word b }
@@ -10,7 +10,7 @@ pub fn flag(b: bool) -> u64
 
 // Two words, if the buffer has just two.
 pub fn tell_two(buffer: &mut [u64], first: u64, second: u64)
-    ensures { buffer.new ≡ told-words (first ∷ second ∷ []) buffer.old }
+    ensures { buffer.new ≡ told_words (first ∷ second ∷ []) buffer.old }
 {
     if buffer.len() != 2 {
         return;
@@ -21,7 +21,7 @@ pub fn tell_two(buffer: &mut [u64], first: u64, second: u64)
 
 // Three words, if the buffer has just three.
 pub fn tell_three(buffer: &mut [u64], first: u64, second: u64, third: u64)
-    ensures { buffer.new ≡ told-words (first ∷ second ∷ third ∷ []) buffer.old }
+    ensures { buffer.new ≡ told_words (first ∷ second ∷ third ∷ []) buffer.old }
 {
     if buffer.len() != 3 {
         return;
@@ -41,7 +41,7 @@ pub fn tell_six(
     fifth: u64,
     sixth: u64,
 )
-    ensures { buffer.new ≡ told-words (first ∷ second ∷ third ∷ fourth ∷ fifth ∷ sixth ∷ []) buffer.old }
+    ensures { buffer.new ≡ told_words (first ∷ second ∷ third ∷ fourth ∷ fifth ∷ sixth ∷ []) buffer.old }
 {
     if buffer.len() != 6 {
         return;
@@ -56,7 +56,7 @@ pub fn tell_six(
 
 // A head's six words, V W F E O goal, if the buffer has just six.
 pub fn tell_head(buffer: &mut [u16], head: task::Head)
-    ensures { buffer.new ≡ told-words (head-words head) buffer.old }
+    ensures { buffer.new ≡ told_words (head_words head) buffer.old }
 {
     if buffer.len() != 6 {
         return;

@@ -3,14 +3,14 @@ ghost use Rattle.std.specs.Prelude.{◌≡◌};
 ghost use Rattle.task.specs.Table.{lent};
 ghost use Rattle.normal_form.specs.Compiled.{compiling};
 ghost use Rattle.compiler.specs.Left.{tables, room_of};
-ghost use Rattle.compiler.specs.Left.{answer-of};
-ghost use Rattle.test_calls.specs.Compiling.{compile-told, compile-head, CompileTells};
+ghost use Rattle.compiler.specs.Left.{answer_of};
+ghost use Rattle.test_calls.specs.Compiling.{compile_told, compile_head, CompileTells};
 
 use compiler::CompileAnswer;
 use task::Head;
 
 fn compile_number(answer: CompileAnswer) -> u16
-    ensures { result ≡ compile-told (answer-of answer) }
+    ensures { result ≡ compile_told (answer_of answer) }
 {
     match answer {
         CompileAnswer::Compiled(_) => 0,
@@ -19,7 +19,7 @@ fn compile_number(answer: CompileAnswer) -> u16
 }
 
 fn compile_head(answer: CompileAnswer) -> Head
-    ensures { result ≡ compile-head (answer-of answer) }
+    ensures { result ≡ compile_head (answer_of answer) }
 {
     match answer {
         CompileAnswer::Compiled(head) => head,

@@ -2,9 +2,9 @@
 ghost use Rattle.std.specs.Prelude.{◌≡◌, length};
 ghost use Rattle.task.specs.Table.{lent};
 ghost use Rattle.task_file.specs.Outcome.{lengths};
-ghost use Rattle.task_file.specs.Outcome.{read-outcome};
-ghost use Rattle.task_writer.specs.Writing.{write-outcome};
-ghost use Rattle.test_calls.specs.Reading.{read_number, read_head, write-told, ReadTells, WriteTells};
+ghost use Rattle.task_file.specs.Outcome.{read_outcome};
+ghost use Rattle.task_writer.specs.Writing.{write_outcome};
+ghost use Rattle.test_calls.specs.Reading.{read_number, read_head, write_told, ReadTells, WriteTells};
 
 use task::Head;
 use task_file::ReadAnswer;
@@ -36,7 +36,7 @@ fn read_head(answer: ReadAnswer) -> Head
 }
 
 fn write_number(answer: WriteAnswer) -> usize
-    ensures { result ≡ write-told answer }
+    ensures { result ≡ write_told answer }
 {
     match answer {
         WriteAnswer::Written(size) => size,
@@ -55,7 +55,7 @@ pub extern "C" fn test_read(
     effects: &mut [u16],
     operators: &mut [u16],
 ) -> u16
-    ensures { ReadTells (read-outcome (lengths (length initial.old) (length twins.old) (length formulas.old) (length effects.old) (length operators.old)) file.now) head.old result head.new initial.new twins.new formulas.new effects.new operators.new }
+    ensures { ReadTells (read_outcome (lengths (length initial.old) (length twins.old) (length formulas.old) (length effects.old) (length operators.old)) file.now) head.old result head.new initial.new twins.new formulas.new effects.new operators.new }
 {
     let answer = task_file::read::read(file, initial, twins, formulas, effects, operators);
     crate::buffers::tell_head(head, read_head(answer));
@@ -78,7 +78,7 @@ pub extern "C" fn test_write(
     operators: &[u16],
     out: &mut [u8],
 ) -> usize
-    ensures { WriteTells (write-outcome (lent (record { variables = v; twins = w; formulas = f; effects = e; operators = o; goal = goal }) initial.now twins.now formulas.now effects.now operators.now) (length out.old)) result out.new }
+    ensures { WriteTells (write_outcome (lent (record { variables = v; twins = w; formulas = f; effects = e; operators = o; goal = goal }) initial.now twins.now formulas.now effects.now operators.now) (length out.old)) result out.new }
 {
     let head = Head {
         variables: v,

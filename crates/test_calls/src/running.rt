@@ -2,7 +2,7 @@
 ghost use Rattle.std.specs.Prelude.{◌≡◌};
 ghost use Rattle.task.specs.Table.{lent};
 ghost use Rattle.plan.specs.Outcome.{stepped, ran};
-ghost use Rattle.test_calls.specs.Running.{refusal-of, stop-told, stop_step, ended-goal, StepTells, RunTells};
+ghost use Rattle.test_calls.specs.Running.{refusal_of, stop_told, stop_step, ended_goal, StepTells, RunTells};
 
 use plan::End;
 
@@ -19,7 +19,7 @@ fn wide_number(x: u16) -> u64
 }
 
 fn refusal_of(end: End) -> u16
-    ensures { result ≡ refusal-of end }
+    ensures { result ≡ refusal_of end }
 {
     match end {
         End::Ended(_) => 0,
@@ -29,7 +29,7 @@ fn refusal_of(end: End) -> u16
 }
 
 fn stop_number(end: End) -> u64
-    ensures { result ≡ stop-told end }
+    ensures { result ≡ stop_told end }
 {
     match end {
         End::Ended(_) => 0,
@@ -49,7 +49,7 @@ fn stop_step(end: End) -> u64
 }
 
 fn ended_goal(end: End) -> u64
-    ensures { result ≡ ended-goal end }
+    ensures { result ≡ ended_goal end }
 {
     match end {
         End::Ended(goal) => crate::buffers::flag(goal),

@@ -1,6 +1,6 @@
 // The check of tables, and rows on request.
 ghost use Rattle.std.specs.Prelude.{◌≡◌, length, get_or};
-ghost use Rattle.task.specs.Table.{lent, row-part, operator-part};
+ghost use Rattle.task.specs.Table.{lent, row_part, operator_part};
 ghost use Rattle.task.specs.Check.{refusal};
 
 // `task::check::check`, with the head as six numbers.
@@ -34,7 +34,7 @@ pub extern "C" fn test_check(
 // The length of the part of a table that a row is.
 #[unsafe(no_mangle)]
 pub extern "C" fn test_row_length(table: &[u16], number: usize) -> usize
-    ensures { result ≡ length (row-part table.now number) }
+    ensures { result ≡ length (row_part table.now number) }
 {
     let part = task::rows::row(table, number);
     part.len()
@@ -43,7 +43,7 @@ pub extern "C" fn test_row_length(table: &[u16], number: usize) -> usize
 // The word at a place of that part, 0 outside it.
 #[unsafe(no_mangle)]
 pub extern "C" fn test_row_word(table: &[u16], number: usize, at: usize) -> u16
-    ensures { result ≡ get_or (row-part table.now number) at 0 }
+    ensures { result ≡ get_or (row_part table.now number) at 0 }
 {
     let part = task::rows::row(table, number);
     if at < part.len() { part[at] } else { 0 }
@@ -52,7 +52,7 @@ pub extern "C" fn test_row_word(table: &[u16], number: usize, at: usize) -> u16
 // The same of an operator's row.
 #[unsafe(no_mangle)]
 pub extern "C" fn test_operator_row_length(table: &[u16], number: usize) -> usize
-    ensures { result ≡ length (operator-part table.now number) }
+    ensures { result ≡ length (operator_part table.now number) }
 {
     let part = task::rows::operator_row(table, number);
     part.len()
@@ -60,7 +60,7 @@ pub extern "C" fn test_operator_row_length(table: &[u16], number: usize) -> usiz
 
 #[unsafe(no_mangle)]
 pub extern "C" fn test_operator_row_word(table: &[u16], number: usize, at: usize) -> u16
-    ensures { result ≡ get_or (operator-part table.now number) at 0 }
+    ensures { result ≡ get_or (operator_part table.now number) at 0 }
 {
     let part = task::rows::operator_row(table, number);
     if at < part.len() { part[at] } else { 0 }

@@ -1,16 +1,16 @@
 // Translating tasks with named values.
 ghost use Rattle.std.specs.Prelude.{◌≡◌, []};
-ghost use Rattle.finite_domain.specs.Table.{finite-lent};
+ghost use Rattle.finite_domain.specs.Table.{finite_lent};
 ghost use Rattle.translation.specs.Translating.{translating};
-ghost use Rattle.translator.specs.Left.{answer-of, room_of, tables as translated-tables};
+ghost use Rattle.translator.specs.Left.{answer_of, room_of, tables as translated-tables};
 ghost use Rattle.compiler.specs.Left.{tables};
-ghost use Rattle.test_calls.specs.Compiling.{compile-told, compile-head, CompileTells};
+ghost use Rattle.test_calls.specs.Compiling.{compile_told, compile_head, CompileTells};
 
 use task::Head;
 use translator::TranslateAnswer;
 
 fn translate_number(answer: TranslateAnswer) -> u16
-    ensures { result ≡ compile-told (answer-of answer) }
+    ensures { result ≡ compile_told (answer_of answer) }
 {
     match answer {
         TranslateAnswer::Translated(_) => 0,
@@ -19,7 +19,7 @@ fn translate_number(answer: TranslateAnswer) -> u16
 }
 
 fn translate_head(answer: TranslateAnswer) -> Head
-    ensures { result ≡ compile-head (answer-of answer) }
+    ensures { result ≡ compile_head (answer_of answer) }
 {
     match answer {
         TranslateAnswer::Translated(head) => head,
@@ -55,7 +55,7 @@ pub extern "C" fn test_translate(
     scratch: &mut [u16],
     head: &mut [u16],
 ) -> u16
-    ensures { CompileTells (translating (finite-lent (record { variables = v; twins = w; formulas = f; effects = e; operators = o; goal = goal }) counts.now initial.now formulas.now effects.now operators.now) (room_of (translated-tables values.old table.old out.old written.old scratch.old))) head.old result head.new (tables values.new [] table.new out.new written.new scratch.new) }
+    ensures { CompileTells (translating (finite_lent (record { variables = v; twins = w; formulas = f; effects = e; operators = o; goal = goal }) counts.now initial.now formulas.now effects.now operators.now) (room_of (translated-tables values.old table.old out.old written.old scratch.old))) head.old result head.new (tables values.new [] table.new out.new written.new scratch.new) }
 {
     let source = Head {
         variables: v,

@@ -8,73 +8,73 @@ use lib.ListN.{length, replicate}
 use lib.Dec.{eqb}
 use borrow.Author.Tests.{le-leb, eqb-true, eqb-false}
 use Rattle.task.specs.declared.Head.{Head}
-use Rattle.task.specs.Table.{Task, task-of}
+use Rattle.task.specs.Table.{Task, task_of}
 use Rattle.task.specs.Check.{refusal, unless}
-use Rattle.task.specs.Words.{head_of, words_of, operator-words, padded}
+use Rattle.task.specs.Words.{head_of, words_of, operator_words, padded}
 use Rattle.task.proofs.RowRules.{passes, rest_of}
-use Rattle.task.proofs.Words.{lent-in, task-in}
-use Rattle.file_format.specs.Bytes.{file-of}
-use Rattle.normal_form.specs.Compiled.{Room, Answer, compiled-head, not-compiled, fits, Fits, CompileOutcome, task-given, outcome-by, given}
-use Rattle.normal_form.proofs.Compiled.{fits-tested}
-use Rattle.finite_domain.specs.Table.{FiniteLent, finite-task-of}
-use Rattle.finite_domain.specs.Check.{finite-refusal}
+use Rattle.task.proofs.Words.{lent_in, task-in}
+use Rattle.file_format.specs.Bytes.{file_of}
+use Rattle.normal_form.specs.Compiled.{Room, Answer, compiled_head, not_compiled, fits, Fits, CompileOutcome, task_given, outcome_by, given}
+use Rattle.normal_form.proofs.Compiled.{fits_tested}
+use Rattle.finite_domain.specs.Table.{FiniteLent, finite_task_of}
+use Rattle.finite_domain.specs.Check.{finite_refusal}
 use Rattle.finite_domain.specs.Rules.{FiniteLongEnough}
 use Rattle.finite_domain.proofs.Kept.{finite-kept-rules}
 use Rattle.translation.specs.Translated.{translated}
-use Rattle.translation.specs.Translating.{translate-scratch-kept, translate-refusal, translating}
+use Rattle.translation.specs.Translating.{translate_scratch_kept, translate_refusal, translating}
 use Rattle.translation.proofs.Passed.{translated-passes-in}
-use Rattle.entry_tables.specs.Inner.Answers.{refused-compile}
+use Rattle.entry_tables.specs.Inner.Answers.{refused_compile}
 use Rattle.entry_tables.proofs.Compiling.{number_by, never-zero}
-use Rattle.compiled_file.specs.Filed.{no-file, filed, compiled-file-by, CompileGives}
-use Rattle.translate_entry.specs.Entry.{translate-number}
-use Rattle.translate_entry.specs.Inner.Giving.{translate-through, translate-tables, every-room, FewRows}
+use Rattle.compiled_file.specs.Filed.{no_file, filed, compiled_file_by, CompileGives}
+use Rattle.translate_entry.specs.Entry.{translate_number}
+use Rattle.translate_entry.specs.Inner.Giving.{translate_through, translate_tables, every_room, FewRows}
 use Rattle.translate_entry.proofs.Own.{own-number, same-refusal}
 
 -- What a translating that nothing refuses was lent and made.
 record Succeeds (l : FiniteLent) (room : Room) : Type 0 where
-  passed : finite-refusal l ≡ 0
-  fitting : Fits (translated (finite-task-of l)) room
+  passed : finite_refusal l ≡ 0
+  fitting : Fits (translated (finite_task_of l)) room
 
-none-refused : (l : FiniteLent) (room : Room) → translate-refusal l room ≡ 0 → Succeeds l room
-unfolding translate-refusal
-none-refused l room e = tables (eqb (finite-refusal l) 0) refl
+none_refused : (l : FiniteLent) (room : Room) → translate_refusal l room ≡ 0 → Succeeds l room
+unfolding translate_refusal
+none_refused l room e = tables (eqb (finite_refusal l) 0) refl
   where
     made : Task
-    made = translated (finite-task-of l)
+    made = translated (finite_task_of l)
 
     last : ℕ
     last = unless (fits made room) 15 0
 
     after : ℕ
-    after = unless (translate-scratch-kept l.head room) 14 last
+    after = unless (translate_scratch_kept l.head room) 14 last
 
-    tables : (b : Bool) → eqb (finite-refusal l) 0 ≡ b → Succeeds l room
-    tables false f = absurd (eqb-false (finite-refusal l) 0 f (rw f at e))
+    tables : (b : Bool) → eqb (finite_refusal l) 0 ≡ b → Succeeds l room
+    tables false f = absurd (eqb-false (finite_refusal l) 0 f (rw f at e))
     tables true f =
         let e1 : after ≡ 0 = rw f at e in
-        let e2 : last ≡ 0 = rest_of (translate-scratch-kept l.head room) 13 last e1 in
+        let e2 : last ≡ 0 = rest_of (translate_scratch_kept l.head room) 13 last e1 in
         record {
-          passed = eqb-true (finite-refusal l) 0 f;
-          fitting = (fits-tested made room).0 (passes (fits made room) 14 0 e2);
+          passed = eqb-true (finite_refusal l) 0 f;
+          fitting = (fits_tested made room).0 (passes (fits made room) 14 0 e2);
         }
 
 -- Where a translating answers a head.
-module _ (l : FiniteLent) (room : Room) (h : Head) (success : (translating l room).answer ≡ compiled-head h) where
+module _ (l : FiniteLent) (room : Room) (h : Head) (success : (translating l room).answer ≡ compiled_head h) where
   abbrev made : Task
-  made = translated (finite-task-of l)
+  made = translated (finite_task_of l)
 
-  pub unrefused : translate-refusal l room ≡ 0
+  pub unrefused : translate_refusal l room ≡ 0
   unfolding translating
-  unrefused = number_by made room (translate-refusal l room) ∙ ap refused-compile success
+  unrefused = number_by made room (translate_refusal l room) ∙ ap refused_compile success
 
-  given-outcome : translating l room ≡ task-given made room
-  unfolding translating outcome-by
+  given-outcome : translating l room ≡ task_given made room
+  unfolding translating outcome_by
   given-outcome = rw unrefused
 
   given-head : h ≡ head_of made
-  unfolding task-given
+  unfolding task_given
   given-head =
-      let told : compiled-head h ≡ compiled-head (head_of made) =
+      let told : compiled_head h ≡ compiled_head (head_of made) =
       sym success ∙ ap (λ (o : CompileOutcome). o.answer) given-outcome
       in
       cc
@@ -84,24 +84,24 @@ module _ (l : FiniteLent) (room : Room) (h : Head) (success : (translating l roo
 
   given-lent :
       given h (translating l room)
-      ≡ lent-in made
+      ≡ lent_in made
       (tail room.initial made.initial)
       (tail room.twins made.originals)
       (tail room.formulas (words_of made.formulas))
       (tail room.effects (words_of made.effects))
-      (tail room.operators (operator-words made.operators))
-  unfolding lent-in tail task-given padded
+      (tail room.operators (operator_words made.operators))
+  unfolding lent_in tail task_given padded
   given-lent = rw (given-outcome, given-head)
 
   -- the tables that translating gave hold the translated task, and pass 01's check
-  pub given-task : task-of (given h (translating l room)) ≡ translated (finite-task-of l)
-  given-task = ap task-of given-lent ∙ task-in made _ _ _ _ _
+  pub given-task : task_of (given h (translating l room)) ≡ translated (finite_task_of l)
+  given-task = ap task_of given-lent ∙ task-in made _ _ _ _ _
 
   pub given-passes : refusal (given h (translating l room)) ≡ 0
   given-passes =
-      let s = none-refused l room unrefused in
+      let s = none_refused l room unrefused in
       ap refusal given-lent
-      ∙ translated-passes-in (finite-task-of l) (finite-kept-rules l s.passed).1 _ _ _ _ _ s.fitting.limits
+      ∙ translated-passes-in (finite_task_of l) (finite-kept-rules l s.passed).1 _ _ _ _ _ s.fitting.limits
 
 module _ (l : FiniteLent) (room : Room) {left : CompileOutcome} (leaves : left ≡ translating l room) where
   answered : {q : Answer} → left.answer ≡ q → (translating l room).answer ≡ q
@@ -109,23 +109,23 @@ module _ (l : FiniteLent) (room : Room) {left : CompileOutcome} (leaves : left �
 
   pub no-task-translated :
       (o n : ℕ) {k number code : ℕ} {out result : List ℕ}
-      → left.answer ≡ not-compiled k
+      → left.answer ≡ not_compiled k
       → number ≡ k
-      → CompileGives (no-file number o n) code out result
-      → CompileGives (translate-through l room o n) code out result
-  unfolding translate-through compiled-file-by translating
+      → CompileGives (no_file number o n) code out result
+      → CompileGives (translate_through l room o n) code out result
+  unfolding translate_through compiled_file_by translating
   no-task-translated o n {k} {number} {code} {out} {result} q same none = go k (answered q) same
     where
       made : Task
-      made = translated (finite-task-of l)
+      made = translated (finite_task_of l)
 
-      go : (k : ℕ) → (translating l room).answer ≡ not-compiled k → number ≡ k → CompileGives (translate-through l room o n) code out result
-      go zero e same = absurd (never-zero made room (translate-refusal l room) e)
+      go : (k : ℕ) → (translating l room).answer ≡ not_compiled k → number ≡ k → CompileGives (translate_through l room o n) code out result
+      go zero e same = absurd (never-zero made room (translate_refusal l room) e)
       go (suc m) e same =
-          rw (number_by made room (translate-refusal l room) ∙ ap refused-compile e)
+          rw (number_by made room (translate_refusal l room) ∙ ap refused_compile e)
           (record { told = none.told ∙ same; written = none.written; held = none.held })
 
-  module _ {head : Head} (q : left.answer ≡ compiled-head head) where
+  module _ {head : Head} (q : left.answer ≡ compiled_head head) where
     its-tables : given head left ≡ given head (translating l room)
     its-tables = ap (given head) leaves
 
@@ -134,39 +134,39 @@ module _ (l : FiniteLent) (room : Room) {left : CompileOutcome} (leaves : left �
 
     pub translated-given :
         (o n : ℕ) {code : ℕ} {out result : List ℕ}
-        → CompileGives (filed (file-of (task-of (given head left))) o n) code out result
-        → CompileGives (translate-through l room o n) code out result
-    unfolding translate-through compiled-file-by
+        → CompileGives (filed (file_of (task_of (given head left))) o n) code out result
+        → CompileGives (translate_through l room o n) code out result
+    unfolding translate_through compiled_file_by
     translated-given o n g =
-        let t : task-of (given head left) ≡ translated (finite-task-of l) =
-        ap task-of its-tables ∙ given-task l room head (answered q)
+        let t : task_of (given head left) ≡ translated (finite_task_of l) =
+        ap task_of its-tables ∙ given-task l room head (answered q)
         in
         rw (unrefused l room head (answered q), ← t) g
 
 -- few rows find scratch enough
-enough-scratch :
+enough_scratch :
     (l : FiniteLent) (room : Room) {most : ℕ}
     → 2 * most ≤ 3 * room.scratch
     → FewRows l most
     → FiniteLongEnough l
-    → translate-scratch-kept l.head room ≡ true
-unfolding translate-scratch-kept
-enough-scratch l room wide rows long =
+    → translate_scratch_kept l.head room ≡ true
+unfolding translate_scratch_kept
+enough_scratch l room wide rows long =
     le-leb (2 * l.head.formulas + 2 * l.head.effects) room.scratch (omega (arith, wide, rows.few, long.formulas, long.effects))
 
 module _ (l : FiniteLent) (o n : ℕ) {code : ℕ} {out result : List ℕ} where
   by_number :
       (room : Room)
-      → translate-refusal l room ≡ translate-number l
-      → CompileGives (translate-through l room o n) code out result
-      → CompileGives (translate-tables l o n) code out result
-  unfolding translate-through translate-tables
+      → translate_refusal l room ≡ translate_number l
+      → CompileGives (translate_through l room o n) code out result
+      → CompileGives (translate_tables l o n) code out result
+  unfolding translate_through translate_tables
   by_number room same g =
-      subst (λ (k : ℕ). CompileGives (compiled-file-by k (translated (finite-task-of l)) o n) code out result) same g
+      subst (λ (k : ℕ). CompileGives (compiled_file_by k (translated (finite_task_of l)) o n) code out result) same g
 
   -- through room for every task
-  pub full-given : CompileGives (translate-through l every-room o n) code out result → CompileGives (translate-tables l o n) code out result
-  full-given g = by_number every-room (own-number l) g
+  pub full-given : CompileGives (translate_through l every_room o n) code out result → CompileGives (translate_tables l o n) code out result
+  full-given g = by_number every_room (own-number l) g
 
   -- few rows through a smaller room: any answer but 15 stands
   pub settled :
@@ -174,13 +174,13 @@ module _ (l : FiniteLent) (o n : ℕ) {code : ℕ} {out result : List ℕ} where
       → 2 * most ≤ 3 * room.scratch
       → FewRows l most
       → (code ≡ 15 → ⊥)
-      → CompileGives (translate-through l room o n) code out result
-      → CompileGives (translate-tables l o n) code out result
-  unfolding translate-through compiled-file-by
+      → CompileGives (translate_through l room o n) code out result
+      → CompileGives (translate_tables l o n) code out result
+  unfolding translate_through compiled_file_by
   settled room wide rows d g =
       by_number room
-      (same-refusal l room enough (λ e. d (g.told ∙ ap (λ (k : ℕ). (compiled-file-by k (translated (finite-task-of l)) o n).number) e)))
+      (same-refusal l room enough (λ e. d (g.told ∙ ap (λ (k : ℕ). (compiled_file_by k (translated (finite_task_of l)) o n).number) e)))
       g
     where
-      enough : finite-refusal l ≡ 0 → translate-scratch-kept l.head room ≡ true
-      enough kept = enough-scratch l room wide rows (finite-kept-rules l kept).0
+      enough : finite_refusal l ≡ 0 → translate_scratch_kept l.head room ≡ true
+      enough kept = enough_scratch l room wide rows (finite-kept-rules l kept).0

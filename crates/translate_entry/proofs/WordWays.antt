@@ -7,56 +7,56 @@ use lib.ListN.{length, take, drop, length-take}
 use lib.Seq.{take_at, take_all}
 use borrow.Author.Tests.{le-leb, lt-leb}
 use Rattle.task.specs.declared.Head.{Head}
-use Rattle.task.specs.Table.{operator-width}
-use Rattle.finite_domain.specs.Table.{FiniteLent, finite-lent}
+use Rattle.task.specs.Table.{operator_width}
+use Rattle.finite_domain.specs.Table.{FiniteLent, finite_lent}
 use Rattle.layouts.specs.Layout.{numbers_of}
-use Rattle.layouts.proofs.RunWays.{numbers-length}
-use Rattle.compiled_file.specs.Filed.{CompileEntry, no-file, compiled-file-by, CompileGives}
-use Rattle.translate_entry.specs.Entry.{head-words, head_at, words-from, tables-in, tables-of, translate-entry-number, translate-entry}
-use Rattle.translate_entry.specs.Inner.Giving.{translate-tables, translate-words, most-words, WordsIn}
-use Rattle.translate_entry.proofs.Cut.{cut, numbers-front}
+use Rattle.layouts.proofs.RunWays.{numbers_length}
+use Rattle.compiled_file.specs.Filed.{CompileEntry, no_file, compiled_file_by, CompileGives}
+use Rattle.translate_entry.specs.Entry.{head_words, head_at, words_from, tables_in, tables_of, translate_entry_number, translate_entry}
+use Rattle.translate_entry.specs.Inner.Giving.{translate_tables, translate_words, most_words, WordsIn}
+use Rattle.translate_entry.proofs.Cut.{cut, numbers_front}
 
 -- the head and the parts are the tables
-pub words-given :
+pub words_given :
     (words : List ℕ) (o n : ℕ) {h : Head} {c i f e p : List ℕ} {code : ℕ} {out result : List ℕ}
     → h ≡ head_at words
-    → c ≡ words-from words 6 h.variables
-    → i ≡ words-from words (6 + h.variables) h.variables
-    → f ≡ words-from words (6 + h.variables + h.variables) (3 * h.formulas)
-    → e ≡ words-from words (6 + h.variables + h.variables + 3 * h.formulas) (3 * h.effects)
-    → p ≡ words-from words (6 + h.variables + h.variables + 3 * h.formulas + 3 * h.effects) (operator-width * h.operators)
-    → CompileGives (translate-tables (finite-lent h c i f e p) o n) code out result
-    → CompileGives (translate-words words o n) code out result
-unfolding translate-words tables-in head-words
-words-given words o n {h} {c} {i} {f} {e} {p} {code} {out} {result} head counts initial formulas effects operators g =
-    subst (λ (l : FiniteLent). CompileGives (translate-tables l o n) code out result)
-    ((λ j. finite-lent h (counts j) (initial j) (formulas j) (effects j) (operators j)) ∙ ap parts head) g
+    → c ≡ words_from words 6 h.variables
+    → i ≡ words_from words (6 + h.variables) h.variables
+    → f ≡ words_from words (6 + h.variables + h.variables) (3 * h.formulas)
+    → e ≡ words_from words (6 + h.variables + h.variables + 3 * h.formulas) (3 * h.effects)
+    → p ≡ words_from words (6 + h.variables + h.variables + 3 * h.formulas + 3 * h.effects) (operator_width * h.operators)
+    → CompileGives (translate_tables (finite_lent h c i f e p) o n) code out result
+    → CompileGives (translate_words words o n) code out result
+unfolding translate_words tables_in head_words
+words_given words o n {h} {c} {i} {f} {e} {p} {code} {out} {result} head counts initial formulas effects operators g =
+    subst (λ (l : FiniteLent). CompileGives (translate_tables l o n) code out result)
+    ((λ j. finite_lent h (counts j) (initial j) (formulas j) (effects j) (operators j)) ∙ ap parts head) g
   where
     parts : Head → FiniteLent
     parts k =
-        finite-lent k (words-from words 6 k.variables) (words-from words (6 + k.variables) k.variables)
-        (words-from words (6 + k.variables + k.variables) (3 * k.formulas))
-        (words-from words (6 + k.variables + k.variables + 3 * k.formulas) (3 * k.effects))
-        (words-from words (6 + k.variables + k.variables + 3 * k.formulas + 3 * k.effects) (operator-width * k.operators))
+        finite_lent k (words_from words 6 k.variables) (words_from words (6 + k.variables) k.variables)
+        (words_from words (6 + k.variables + k.variables) (3 * k.formulas))
+        (words_from words (6 + k.variables + k.variables + 3 * k.formulas) (3 * k.effects))
+        (words_from words (6 + k.variables + k.variables + 3 * k.formulas + 3 * k.effects) (operator_width * k.operators))
 
-same-words :
+same_words :
     {words words' : List ℕ} (o n : ℕ) {code : ℕ} {out result : List ℕ}
     → words ≡ words'
-    → CompileGives (translate-words words o n) code out result
-    → CompileGives (translate-words words' o n) code out result
-same-words o n {code} {out} {result} e g =
-    subst (λ (w : List ℕ). CompileGives (translate-words w o n) code out result) e g
+    → CompileGives (translate_words words o n) code out result
+    → CompileGives (translate_words words' o n) code out result
+same_words o n {code} {out} {result} e g =
+    subst (λ (w : List ℕ). CompileGives (translate_words w o n) code out result) e g
 
 -- the words that were decoded are those of the bytes
-pub decoded-given :
+pub decoded_given :
     (bytes before decoded : List ℕ) (o n : ℕ) {code : ℕ} {out result : List ℕ}
     → decoded ≡ numbers_of bytes ++ drop (length bytes / 2) before
-    → CompileGives (translate-words (take (length bytes / 2 - 0) decoded) o n) code out result
-    → CompileGives (translate-words (numbers_of bytes) o n) code out result
-decoded-given bytes before decoded o n whole g =
+    → CompileGives (translate_words (take (length bytes / 2 - 0) decoded) o n) code out result
+    → CompileGives (translate_words (numbers_of bytes) o n) code out result
+decoded_given bytes before decoded o n whole g =
     let k : length bytes / 2 - 0 ≡ length bytes / 2 = omega arith in
-    same-words o n
-    ((λ j. take (k j) (whole j)) ∙ take_at (numbers_of bytes) (drop (length bytes / 2) before) (length bytes / 2) (numbers-length bytes))
+    same_words o n
+    ((λ j. take (k j) (whole j)) ∙ take_at (numbers_of bytes) (drop (length bytes / 2) before) (length bytes / 2) (numbers_length bytes))
     g
 
 -- the first bytes
@@ -79,22 +79,22 @@ module _ (bytes : List ℕ) {front : List ℕ} (cuts : front ≡ take 51468 byte
   -- .. are enough
   pub front-given :
       (o n : ℕ) {code : ℕ} {out result : List ℕ}
-      → CompileGives (translate-words (numbers_of front) o n) code out result
-      → CompileGives (translate-words (numbers_of bytes) o n) code out result
-  unfolding most-words
+      → CompileGives (translate_words (numbers_of front) o n) code out result
+      → CompileGives (translate_words (numbers_of bytes) o n) code out result
+  unfolding most_words
   front-given o n {code} {out} {result} g =
       subst (λ (w : CompileEntry). CompileGives w code out result) (cut (numbers_of bytes) 25734 (omega arith) o n)
-      (same-words o n (ap numbers_of cuts ∙ numbers-front bytes 25734) g)
+      (same_words o n (ap numbers_of cuts ∙ numbers_front bytes 25734) g)
 
 -- the entry: 5 without a head, and else by the words
 module _ (bytes : List ℕ) (o n : ℕ) {code : ℕ} {out result : List ℕ} where
-  pub no-head : length bytes < 12 → CompileGives (no-file 5 o n) code out result → CompileGives (translate-entry bytes o n) code out result
-  unfolding translate-entry translate-entry-number compiled-file-by
-  no-head h g = rw (lt-leb 12 (length bytes) h) g
+  pub no_head : length bytes < 12 → CompileGives (no_file 5 o n) code out result → CompileGives (translate_entry bytes o n) code out result
+  unfolding translate_entry translate_entry_number compiled_file_by
+  no_head h g = rw (lt-leb 12 (length bytes) h) g
 
   pub with-head :
       12 ≤ length bytes
-      → CompileGives (translate-words (numbers_of bytes) o n) code out result
-      → CompileGives (translate-entry bytes o n) code out result
-  unfolding translate-entry translate-entry-number translate-words translate-tables tables-of
+      → CompileGives (translate_words (numbers_of bytes) o n) code out result
+      → CompileGives (translate_entry bytes o n) code out result
+  unfolding translate_entry translate_entry_number translate_words translate_tables tables_of
   with-head h g = rw (le-leb 12 (length bytes) h) g

@@ -2,8 +2,8 @@
 ghost use Rattle.std.specs.Prelude.{◌/◌, ◌≤◌, ◌≡◌, length, take};
 ghost use Rattle.layouts.specs.Layout.{numbers_of};
 ghost use Rattle.compiled_file.specs.Filed.{CompileGives};
-ghost use Rattle.translate_entry.specs.Entry.{translate-entry};
-ghost use Rattle.translate_entry.specs.Inner.Giving.{translate-words, WordsIn, FewBytes};
+ghost use Rattle.translate_entry.specs.Entry.{translate_entry};
+ghost use Rattle.translate_entry.specs.Inner.Giving.{translate_words, WordsIn, FewBytes};
 
 use crate::through::translate_tables;
 use crate::words::{HEAD_WORDS, head_at, part_from};
@@ -31,7 +31,7 @@ const SHORTEST_BYTES: usize = 1024;
 // Tables that come as words: the head says where each part begins.
 fn translate_words(words: &[u16], out: &mut [u8], res: &mut [u8]) -> u32
     requires { 6 ≤ length words.now }
-    ensures { CompileGives (translate-words words.now (length out.old) (length res.old)) result out.new res.new }
+    ensures { CompileGives (translate_words words.now (length out.old) (length res.old)) result out.new res.new }
 {
     let head = head_at(words);
     let variables = head.variables as usize;
@@ -57,7 +57,7 @@ fn translate_words(words: &[u16], out: &mut [u8], res: &mut [u8]) -> u32
 // Tables that come as bytes, with room lent for their words. What this holds afterwards is left open. One pass over the bytes, then the translating.
 fn translate_bytes(tables: &[u8], words: &mut [u16], out: &mut [u8], res: &mut [u8]) -> u32
     requires { WordsIn tables.now words.old }
-    ensures { CompileGives (translate-words (numbers_of tables.now) (length out.old) (length res.old)) result out.new res.new }
+    ensures { CompileGives (translate_words (numbers_of tables.now) (length out.old) (length res.old)) result out.new res.new }
 {
     layouts::numbers::decode(tables, words);
     let count = tables.len() / 2;
@@ -78,7 +78,7 @@ fn front(bytes: &[u8], most: usize) -> &[u8]
 // Tables of any length, with room of its own for all words that can matter: 51 KiB.
 fn translate_long(tables: &[u8], out: &mut [u8], res: &mut [u8]) -> u32
     requires { 12 ≤ length tables.now }
-    ensures { CompileGives (translate-words (numbers_of tables.now) (length out.old) (length res.old)) result out.new res.new }
+    ensures { CompileGives (translate_words (numbers_of tables.now) (length out.old) (length res.old)) result out.new res.new }
 {
     let mut words = [0u16; MOST_WORDS];
     translate_bytes(front(tables, MOST_BYTES), &mut words, out, res)
@@ -87,7 +87,7 @@ fn translate_long(tables: &[u8], out: &mut [u8], res: &mut [u8]) -> u32
 // Tables of at most 8,192 bytes, with less room for their words: 8 KiB.
 fn translate_short(tables: &[u8], out: &mut [u8], res: &mut [u8]) -> u32
     requires { FewBytes tables.now 8192 }
-    ensures { CompileGives (translate-words (numbers_of tables.now) (length out.old) (length res.old)) result out.new res.new }
+    ensures { CompileGives (translate_words (numbers_of tables.now) (length out.old) (length res.old)) result out.new res.new }
 {
     let mut words = [0u16; SHORT_WORDS];
     translate_bytes(tables, &mut words, out, res)
@@ -96,7 +96,7 @@ fn translate_short(tables: &[u8], out: &mut [u8], res: &mut [u8]) -> u32
 // Tables of at most 1,024 bytes, with the least room for their words: 1 KiB.
 fn translate_shortest(tables: &[u8], out: &mut [u8], res: &mut [u8]) -> u32
     requires { FewBytes tables.now 1024 }
-    ensures { CompileGives (translate-words (numbers_of tables.now) (length out.old) (length res.old)) result out.new res.new }
+    ensures { CompileGives (translate_words (numbers_of tables.now) (length out.old) (length res.old)) result out.new res.new }
 {
     let mut words = [0u16; SHORTEST_WORDS];
     translate_bytes(tables, &mut words, out, res)
@@ -106,7 +106,7 @@ fn translate_shortest(tables: &[u8], out: &mut [u8], res: &mut [u8]) -> u32
 // Cost: one pass over the bytes (at most the first 51,468), translating (again for few rows whose translated task is larger than the room tried first),
 // one pass over the translated task. Room that is cleared: 7 KiB for small tables, 27 KiB for middle-sized ones, else up to 133 KiB.
 pub fn translate(tables: &[u8], out: &mut [u8], res: &mut [u8]) -> u32
-    ensures { CompileGives (translate-entry tables.now (length out.old) (length res.old)) result out.new res.new }
+    ensures { CompileGives (translate_entry tables.now (length out.old) (length res.old)) result out.new res.new }
 {
     if tables.len() < HEAD_BYTES {
         return compiled_file::refuse(5, out, res);

@@ -1,10 +1,10 @@
 // Translating tables into the translated task's file, through tables that are lent or of its own.
 ghost use Rattle.std.specs.Prelude.{◌≡◌, length};
-ghost use Rattle.finite_domain.specs.Table.{finite-lent};
-ghost use Rattle.translator.specs.Left.{answer-of};
-ghost use Rattle.entry_tables.specs.Inner.Answers.{refused-compile};
+ghost use Rattle.finite_domain.specs.Table.{finite_lent};
+ghost use Rattle.translator.specs.Left.{answer_of};
+ghost use Rattle.entry_tables.specs.Inner.Answers.{refused_compile};
 ghost use Rattle.compiled_file.specs.Filed.{CompileGives};
-ghost use Rattle.translate_entry.specs.Inner.Giving.{room_for, translate-through, translate-tables, least-room, middle-room, FewRows};
+ghost use Rattle.translate_entry.specs.Inner.Giving.{room_for, translate_through, translate_tables, least_room, middle_room, FewRows};
 
 use crate::choice::{LEAST_OPERATOR_WORDS, suits_least, suits_middle};
 use compiled_file::{give_file, refuse};
@@ -18,7 +18,7 @@ const NO_ROOM: u32 = 15;
 
 // A refusal's number. Constant time.
 fn refused(r: TranslateAnswer) -> u32
-    ensures { result ≡ refused-compile (answer-of r) }
+    ensures { result ≡ refused_compile (answer_of r) }
 {
     match r {
         TranslateAnswer::Refused(n) => n as u32,
@@ -43,7 +43,7 @@ fn translate_through(
     out: &mut [u8],
     res: &mut [u8],
 ) -> u32
-    ensures { CompileGives (translate-through (finite-lent head counts.now initial.now formulas.now effects.now operators.now) (room_for (length values.old) (length table.old) (length rules.old) (length written.old) (length scratch.old)) (length out.old) (length res.old)) result out.new res.new }
+    ensures { CompileGives (translate_through (finite_lent head counts.now initial.now formulas.now effects.now operators.now) (room_for (length values.old) (length table.old) (length rules.old) (length written.old) (length scratch.old)) (length out.old) (length res.old)) result out.new res.new }
 {
     let r = translator::translate(
         head, counts, initial, formulas, effects, operators, values, table, rules, written, scratch,
@@ -68,7 +68,7 @@ fn translate_least(
     out: &mut [u8],
     res: &mut [u8],
 ) -> u32
-    ensures { CompileGives (translate-through (finite-lent head counts.now initial.now formulas.now effects.now operators.now) least-room (length out.old) (length res.old)) result out.new res.new }
+    ensures { CompileGives (translate_through (finite_lent head counts.now initial.now formulas.now effects.now operators.now) least_room (length out.old) (length res.old)) result out.new res.new }
 {
     let mut values = [0u8; 512];
     let mut table = [0u16; 768];
@@ -103,7 +103,7 @@ fn translate_middle(
     out: &mut [u8],
     res: &mut [u8],
 ) -> u32
-    ensures { CompileGives (translate-through (finite-lent head counts.now initial.now formulas.now effects.now operators.now) middle-room (length out.old) (length res.old)) result out.new res.new }
+    ensures { CompileGives (translate_through (finite_lent head counts.now initial.now formulas.now effects.now operators.now) middle_room (length out.old) (length res.old)) result out.new res.new }
 {
     let mut values = [0u8; 512];
     let mut table = [0u16; 3072];
@@ -138,7 +138,7 @@ fn translate_full(
     out: &mut [u8],
     res: &mut [u8],
 ) -> u32
-    ensures { CompileGives (translate-tables (finite-lent head counts.now initial.now formulas.now effects.now operators.now) (length out.old) (length res.old)) result out.new res.new }
+    ensures { CompileGives (translate_tables (finite_lent head counts.now initial.now formulas.now effects.now operators.now) (length out.old) (length res.old)) result out.new res.new }
 {
     let mut values = [0u8; 512];
     let mut table = [0u16; 12288];
@@ -173,8 +173,8 @@ fn translate_from_middle(
     out: &mut [u8],
     res: &mut [u8],
 ) -> u32
-    requires { FewRows (finite-lent head counts.now initial.now formulas.now effects.now operators.now) 3072 }
-    ensures { CompileGives (translate-tables (finite-lent head counts.now initial.now formulas.now effects.now operators.now) (length out.old) (length res.old)) result out.new res.new }
+    requires { FewRows (finite_lent head counts.now initial.now formulas.now effects.now operators.now) 3072 }
+    ensures { CompileGives (translate_tables (finite_lent head counts.now initial.now formulas.now effects.now operators.now) (length out.old) (length res.old)) result out.new res.new }
 {
     let number = translate_middle(
         head, counts, initial, formulas, effects, operators, out, res,
@@ -198,8 +198,8 @@ fn translate_from_least(
     out: &mut [u8],
     res: &mut [u8],
 ) -> u32
-    requires { FewRows (finite-lent head counts.now initial.now formulas.now effects.now operators.now) 384 }
-    ensures { CompileGives (translate-tables (finite-lent head counts.now initial.now formulas.now effects.now operators.now) (length out.old) (length res.old)) result out.new res.new }
+    requires { FewRows (finite_lent head counts.now initial.now formulas.now effects.now operators.now) 384 }
+    ensures { CompileGives (translate_tables (finite_lent head counts.now initial.now formulas.now effects.now operators.now) (length out.old) (length res.old)) result out.new res.new }
 {
     let number = translate_least(
         head, counts, initial, formulas, effects, operators, out, res,
@@ -223,7 +223,7 @@ pub fn translate_tables(
     out: &mut [u8],
     res: &mut [u8],
 ) -> u32
-    ensures { CompileGives (translate-tables (finite-lent head counts.now initial.now formulas.now effects.now operators.now) (length out.old) (length res.old)) result out.new res.new }
+    ensures { CompileGives (translate_tables (finite_lent head counts.now initial.now formulas.now effects.now operators.now) (length out.old) (length res.old)) result out.new res.new }
 {
     if suits_least(counts, formulas, effects, operators) {
         return translate_from_least(

@@ -1,6 +1,6 @@
 // Tables that come as words, one behind the other.
 ghost use Rattle.std.specs.Prelude.{◌≡◌, ◌≤◌, length};
-ghost use Rattle.translate_entry.specs.Entry.{head_at, words-from};
+ghost use Rattle.translate_entry.specs.Entry.{head_at, words_from};
 
 use task::Head;
 
@@ -24,7 +24,7 @@ pub fn head_at(words: &[u16]) -> Head
 
 // n words from one on, as that part of the words, or as many of them as there are; nothing is copied.
 pub fn part_from(words: &[u16], from: usize, n: usize) -> &[u16]
-    ensures { result.now ≡ words-from words.now from n }
+    ensures { result.now ≡ words_from words.now from n }
 {
     let len = words.len();
     if len <= from {

@@ -3,29 +3,29 @@ use Prim.Native.Nat.{ℕ}
 use mathlib.Core.Path.{sym, ◌∙◌}
 use mathlib.Core.List.{List}
 use Rattle.task.specs.Rules.{Limits}
-use Rattle.task.specs.Run.{Run, plain-run}
+use Rattle.task.specs.Run.{Run, plain_run}
 use Rattle.task.specs.Corresponding.{Corresponding}
 use Rattle.normal_form.specs.Finished.{finished}
 use Rattle.normal_form.specs.Alike.{Alike}
-use Rattle.normal_form.proofs.Demand.{initial-correspond, alike_from}
+use Rattle.normal_form.proofs.Demand.{initial_correspond, alike_from}
 use Rattle.finite_domain.specs.Table.{FiniteTask}
 use Rattle.finite_domain.specs.Rules.{FiniteRules}
-use Rattle.finite_domain.specs.Run.{FiniteState, finite-run}
+use Rattle.finite_domain.specs.Run.{FiniteState, finite_run}
 use Rattle.translation.specs.Flags.{flags_of}
 use Rattle.translation.specs.Translated.{translated}
 use Rattle.translation.specs.Alike.{TranslatedAlike, CompiledAlike}
-use Rattle.translation.proofs.Flags.{length-flags}
-use Rattle.translation.proofs.States.{initial-state}
+use Rattle.translation.proofs.Flags.{length_flags}
+use Rattle.translation.proofs.States.{initial_state}
 use Rattle.translation.proofs.Passed.{translated-variables, translated-checked}
 use Rattle.translation.proofs.Alike.{translated-alike}
 
 -- Alike, and alike again.
-pub alike-through :
+pub alike_through :
     {counts originals : List ℕ} {r r' r'' : Run}
     → TranslatedAlike counts r r'
     → Alike originals r' r''
     → CompiledAlike counts originals r r''
-alike-through {counts} {originals} {r} {r'} {r''} first second =
+alike_through {counts} {originals} {r} {r'} {r''} first second =
     record {
       answers =
           record {
@@ -46,23 +46,23 @@ module _ (t : FiniteTask) (rules : FiniteRules t) (limits : Limits (translated t
       → FiniteState t.counts s
       → Corresponding (finished (translated t)).originals (flags_of t.counts s) c
       → (numbers : List ℕ)
-      → CompiledAlike t.counts (finished (translated t)).originals (finite-run t s numbers)
-      (plain-run (finished (translated t)) c numbers)
+      → CompiledAlike t.counts (finished (translated t)).originals (finite_run t s numbers)
+      (plain_run (finished (translated t)) c numbers)
   compiled-alike s c state states numbers =
-      alike-through (translated-alike t rules s state numbers)
+      alike_through (translated-alike t rules s state numbers)
       (alike_from (translated t) (translated-checked t rules limits) (flags_of t.counts s) c
-      (length-flags t.counts s ∙ sym (translated-variables t)) states numbers)
+      (length_flags t.counts s ∙ sym (translated-variables t)) states numbers)
 
   -- the compiled task's initial state corresponds to the flags of the source's
   pub compiled-initial :
       Corresponding (finished (translated t)).originals (flags_of t.counts t.initial) (finished (translated t)).initial
   unfolding translated
-  compiled-initial = initial-correspond (translated t) (translated-checked t rules limits)
+  compiled-initial = initial_correspond (translated t) (translated-checked t rules limits)
 
   -- from the initial states
   pub compiled-alike-initial :
       (numbers : List ℕ)
-      → CompiledAlike t.counts (finished (translated t)).originals (finite-run t t.initial numbers)
-      (plain-run (finished (translated t)) (finished (translated t)).initial numbers)
+      → CompiledAlike t.counts (finished (translated t)).originals (finite_run t t.initial numbers)
+      (plain_run (finished (translated t)) (finished (translated t)).initial numbers)
   compiled-alike-initial numbers =
-      compiled-alike t.initial (finished (translated t)).initial (initial-state t rules) compiled-initial numbers
+      compiled-alike t.initial (finished (translated t)).initial (initial_state t rules) compiled-initial numbers

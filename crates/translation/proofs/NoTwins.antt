@@ -7,48 +7,48 @@ use lib.Dec.{eqb, ltb}
 use Rattle.task.specs.Semantics.{sets}
 use Rattle.normal_form.specs.Builder.{Build, plain, start}
 use Rattle.normal_form.specs.Copy.{itself}
-use Rattle.normal_form.proofs.Twinless.{Twinless, twinless-give, twinless-bind, twinless-row, twinless-join, twinless-each, twinless-cond}
-use Rattle.normal_form.proofs.Twinless.{twinless-copy, twinless-itself, twinless-condition}
+use Rattle.normal_form.proofs.Twinless.{Twinless, twinless_give, twinless_bind, twinless_row, twinless_join, twinless_each, twinless_cond}
+use Rattle.normal_form.proofs.Twinless.{twinless_copy, twinless_itself, twinless-condition}
 use Rattle.finite_domain.specs.Table.{FiniteTask}
-use Rattle.translation.specs.Pairs.{through, copies, effconds, without-both, unless-never, pair_of, pairs_of, pairs, guarded-operator, guards}
+use Rattle.translation.specs.Pairs.{through, copies, effconds, without_both, unless_never, pair_of, pairs_of, pairs, guarded_operator, guards}
 
-pub through-twinless : {A : Type 0} (n : ℕ) {f : ℕ → A → Build A} (x : A) → ((k : ℕ) (y : A) → Twinless (f k y)) → Twinless (through n f x)
+pub through_twinless : {A : Type 0} (n : ℕ) {f : ℕ → A → Build A} (x : A) → ((k : ℕ) (y : A) → Twinless (f k y)) → Twinless (through n f x)
 unfolding through
-through-twinless zero x h = twinless-give x
-through-twinless (suc n) x h = twinless-bind (through-twinless n x h) (λ y. h n y)
+through_twinless zero x h = twinless_give x
+through_twinless (suc n) x h = twinless_bind (through_twinless n x h) (λ y. h n y)
 
-pub without-twinless : (c c' p : ℕ) → Twinless (without-both c c' p)
-unfolding without-both
-without-twinless c c' p =
-    twinless-bind (twinless-join plain c c') (λ k. twinless-bind (twinless-row _) (λ n. twinless-join plain p n))
+pub without_twinless : (c c' p : ℕ) → Twinless (without_both c c' p)
+unfolding without_both
+without_twinless c c' p =
+    twinless_bind (twinless_join plain c c') (λ k. twinless_bind (twinless_row _) (λ n. twinless_join plain p n))
 
-pub unless-twinless : (c c' p : ℕ) → Twinless (unless-never c c' p)
-unfolding unless-never
-unless-twinless c c' p =
-    twinless-cond (eqb c 0) (twinless-give p) (twinless-cond (eqb c' 0) (twinless-give p) (without-twinless c c' p))
+pub unless_twinless : (c c' p : ℕ) → Twinless (unless_never c c' p)
+unfolding unless_never
+unless_twinless c c' p =
+    twinless_cond (eqb c 0) (twinless_give p) (twinless_cond (eqb c' 0) (twinless_give p) (without_twinless c c' p))
 
-pub pairs-twinless : (counts cs : List ℕ) (p : ℕ) → Twinless (pairs counts cs p)
+pub pairs_twinless : (counts cs : List ℕ) (p : ℕ) → Twinless (pairs counts cs p)
 unfolding pairs pairs_of pair_of
-pairs-twinless counts cs p =
-    through-twinless (length counts) p
+pairs_twinless counts cs p =
+    through_twinless (length counts) p
     (λ a q.
-    through-twinless (get_or counts a 0) q
+    through_twinless (get_or counts a 0) q
     (λ d r.
-    through-twinless (get_or counts a 0) r
-    (λ d' x. twinless-cond (ltb d d') (unless-twinless _ _ x) (twinless-give x))))
+    through_twinless (get_or counts a 0) r
+    (λ d' x. twinless_cond (ltb d d') (unless_twinless _ _ x) (twinless_give x))))
 
-pub operator-twinless : (t : FiniteTask) (at : List ℕ) (o : ℕ) → Twinless (guarded-operator t at o)
-unfolding guarded-operator effconds
-operator-twinless t at o =
-    twinless-bind (twinless-each _ (λ x. twinless-condition itself twinless-itself plain (sets x) _)) (λ cs. pairs-twinless t.counts cs _)
+pub operator_twinless : (t : FiniteTask) (at : List ℕ) (o : ℕ) → Twinless (guarded_operator t at o)
+unfolding guarded_operator effconds
+operator_twinless t at o =
+    twinless_bind (twinless_each _ (λ x. twinless-condition itself twinless_itself plain (sets x) _)) (λ cs. pairs_twinless t.counts cs _)
 
-pub guards-twinless : (t : FiniteTask) → Twinless (guards t)
+pub guards_twinless : (t : FiniteTask) → Twinless (guards t)
 unfolding guards copies
-guards-twinless t =
-    twinless-bind (twinless-each (length t.formulas) (λ i. twinless-copy _))
-    (λ at. twinless-bind (twinless-each (length t.operators) (operator-twinless t at)) (λ ps. twinless-give _))
+guards_twinless t =
+    twinless_bind (twinless_each (length t.formulas) (λ i. twinless_copy _))
+    (λ at. twinless_bind (twinless_each (length t.operators) (operator_twinless t at)) (λ ps. twinless_give _))
 
 -- the translated task has none
-pub no-twins : (t : FiniteTask) → (guards t start).st.twins ≡ []
+pub no_twins : (t : FiniteTask) → (guards t start).st.twins ≡ []
 unfolding start
-no-twins t = (guards-twinless t).twins start
+no_twins t = (guards_twinless t).twins start

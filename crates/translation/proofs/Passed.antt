@@ -6,19 +6,19 @@ use mathlib.Core.Path.{◌≡◌, refl}
 use mathlib.Core.List.{List, []}
 use lib.ListN.{length, get_or}
 use Rattle.task.specs.Check.{refusal}
-use Rattle.task.specs.Rules.{no-operator, OperatorRule, Limits, Checked, Rules}
-use Rattle.task.specs.Run.{operator-of}
+use Rattle.task.specs.Rules.{no_operator, OperatorRule, Limits, Checked, Rules}
+use Rattle.task.specs.Run.{operator_of}
 use Rattle.task.specs.Words.{head_of, lent_of}
 use Rattle.task.specs.Inner.Rows.{EffectsDown}
 use Rattle.task.proofs.Bounded.{length-upto, getD-upto}
-use Rattle.task.proofs.Sixteen.{rules-with-costs}
-use Rattle.task.proofs.Words.{lent-in, kept_in, lent-kept}
+use Rattle.task.proofs.Sixteen.{rules_with_costs}
+use Rattle.task.proofs.Words.{lent_in, kept_in, lent_kept}
 use Rattle.finite_domain.specs.Table.{FiniteTask}
 use Rattle.finite_domain.specs.Rules.{FiniteRules, FiniteCosts}
-use Rattle.finite_domain.specs.Run.{finite-operator-of}
-use Rattle.translation.specs.Flags.{flag-count, flags_of}
-use Rattle.translation.specs.Translated.{guarded, formulas-at, effects-of, translated-operator, translated}
-use Rattle.translation.proofs.Flags.{length-flags, flags-bits}
+use Rattle.finite_domain.specs.Run.{finite_operator_of}
+use Rattle.translation.specs.Flags.{flag_count, flags_of}
+use Rattle.translation.specs.Translated.{guarded, formulas_at, effects_of, translated_operator, translated}
+use Rattle.translation.proofs.Flags.{length_flags, flags_bits}
 use Rattle.translation.proofs.EffectRows.{effects-down, place-below}
 use Rattle.translation.proofs.GuardStates.{guarded-down, formula-below, precondition-below}
 
@@ -28,9 +28,9 @@ module _ (t : FiniteTask) where
   unfolding translated
   translated-initial = refl
 
-  pub translated-variables : length (translated t).initial ≡ flag-count t.counts
+  pub translated-variables : length (translated t).initial ≡ flag_count t.counts
   unfolding translated
-  translated-variables = length-flags t.counts t.initial
+  translated-variables = length_flags t.counts t.initial
 
   -- W is 0
   pub translated-untwinned : (translated t).originals ≡ []
@@ -43,47 +43,47 @@ module _ (t : FiniteTask) where
 
   pub translated-operators : length (translated t).operators ≡ length t.operators
   unfolding translated
-  translated-operators = length-upto (length t.operators) (translated-operator t)
+  translated-operators = length-upto (length t.operators) (translated_operator t)
 
-  pub translated-operator-at : (o : ℕ) → o < length t.operators → operator-of (translated t) o ≡ translated-operator t o
-  unfolding translated operator-of
-  translated-operator-at o h = getD-upto (length t.operators) (translated-operator t) o no-operator h
+  pub translated-operator-at : (o : ℕ) → o < length t.operators → operator_of (translated t) o ≡ translated_operator t o
+  unfolding translated operator_of
+  translated-operator-at o h = getD-upto (length t.operators) (translated_operator t) o no_operator h
 
 module _ (t : FiniteTask) (rules : FiniteRules t) where
-  pub translated-effects : EffectsDown (flag-count t.counts) (length (guarded t).st.rows) (effects-of t).rows
-  unfolding effects-of
+  pub translated-effects : EffectsDown (flag_count t.counts) (length (guarded t).st.rows) (effects_of t).rows
+  unfolding effects_of
   translated-effects =
-      effects-down t.counts (formulas-at t) (length t.formulas) (length (guarded t).st.rows) (formula-below t rules) t.effects
+      effects-down t.counts (formulas_at t) (length t.formulas) (length (guarded t).st.rows) (formula-below t rules) t.effects
       rules.effect
 
   -- where source effect e stands
-  pub translated-place : (e : ℕ) → e < length t.effects → get_or (effects-of t).at e 0 < length (effects-of t).rows
-  unfolding effects-of
+  pub translated-place : (e : ℕ) → e < length t.effects → get_or (effects_of t).at e 0 < length (effects_of t).rows
+  unfolding effects_of
   translated-place e h =
-      place-below t.counts (formulas-at t) (length t.formulas) (length (guarded t).st.rows) (formula-below t rules) t.effects
+      place-below t.counts (formulas_at t) (length t.formulas) (length (guarded t).st.rows) (formula-below t rules) t.effects
       rules.effect e h
 
   operator-rule :
       (o : ℕ)
       → o < length t.operators
-      → OperatorRule (length (guarded t).st.rows) (length (effects-of t).rows) (translated-operator t o)
-  unfolding translated-operator finite-operator-of
+      → OperatorRule (length (guarded t).st.rows) (length (effects_of t).rows) (translated_operator t o)
+  unfolding translated_operator finite_operator_of
   operator-rule o h =
       let rule = rules.operator o h in
       record {
         formula = precondition-below t rules o h;
-        changes = translated-place (finite-operator-of t o).effect rule.changes;
+        changes = translated-place (finite_operator_of t o).effect rule.changes;
         percent = rule.percent;
       }
 
   pub translated-checked : Limits (translated t) → Checked (translated t)
-  unfolding translated operator-of
+  unfolding translated operator_of
   translated-checked limits =
-      let width = length-flags t.counts t.initial in
+      let width = length_flags t.counts t.initial in
       record {
         limits = limits;
-        goal-is-formula = formula-below t rules t.goal rules.goal-is-formula;
-        initial-bits = λ v h. flags-bits t.counts t.initial v;
+        goal_is_formula = formula-below t rules t.goal rules.goal_is_formula;
+        initial_bits = λ v h. flags_bits t.counts t.initial v;
         twin = λ k h. absurd (not-suc-le-zero h);
         formula = λ i h. rw width ((guarded-down t rules).row i h);
         effect = λ i h. rw width (translated-effects.row i h);
@@ -95,15 +95,15 @@ module _ (t : FiniteTask) (rules : FiniteRules t) where
 
   -- with the costs in their range, every rule
   pub translated-rules : FiniteCosts t → Limits (translated t) → Rules (translated t)
-  unfolding operator-of translated-operator finite-operator-of
+  unfolding operator_of translated_operator finite_operator_of
   translated-rules costs limits =
-      rules-with-costs (translated t) (translated-checked limits) (λ o h.
+      rules_with_costs (translated t) (translated-checked limits) (λ o h.
       let b : o < length t.operators = rw (translated-operators t) at h in
       rw (translated-operator-at t o b) (omega (arith, costs.cost o b)))
 
   -- written out it passes the check, in tables that are just long enough or longer
   pub translated-passes : Limits (translated t) → refusal (lent_of (translated t)) ≡ 0
-  translated-passes limits = lent-kept (translated t) (translated-checked limits)
+  translated-passes limits = lent_kept (translated t) (translated-checked limits)
 
-  pub translated-passes-in : (i w f e o : List ℕ) → Limits (translated t) → refusal (lent-in (translated t) i w f e o) ≡ 0
+  pub translated-passes-in : (i w f e o : List ℕ) → Limits (translated t) → refusal (lent_in (translated t) i w f e o) ≡ 0
   translated-passes-in i w f e o limits = kept_in (translated t) i w f e o (translated-checked limits)

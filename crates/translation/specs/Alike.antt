@@ -1,6 +1,6 @@
 -- What K3 says of runs: that a finite-domain run and a run of the translated task, or of its compiled task, answer alike.
 use Rattle.std.specs.Prelude.{ℕ, ◌≡◌, List}
-use Rattle.task.specs.Run.{Run, is-plan}
+use Rattle.task.specs.Run.{Run, is_plan}
 use Rattle.task.specs.Corresponding.{Corresponding}
 use Rattle.translation.specs.Flags.{flags_of, OneFlagEach}
 
@@ -10,7 +10,7 @@ pub record SameAnswers (r r' : Run) : Type 0 where
   pub cost : r.cost ≡ r'.cost
   pub stop : r.stop ≡ r'.stop
   pub goal : r.goal ≡ r'.goal
-  pub plan : is-plan r ≡ is-plan r'
+  pub plan : is_plan r ≡ is_plan r'
 
 -- A finite-domain run and one of the translated task: the last states correspond, flag by flag, and exactly one flag of each variable is 1.
 pub record TranslatedAlike (counts : List ℕ) (r r' : Run) : Type 0 where

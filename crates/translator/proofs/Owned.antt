@@ -11,32 +11,32 @@ use Rattle.finite_domain.proofs.Held.{finite-length-formulas, finite-length-effe
 use Rattle.translation.specs.Translated.{translated}
 use Rattle.formula_builder.specs.declared.Frame.{Frame}
 use Rattle.atom_sets.specs.Inner.Sets.{sets_end, set_words}
-use Rattle.compile_parts.proofs.Asked.{zero-at}
+use Rattle.compile_parts.proofs.Asked.{zero_at}
 use Rattle.compile_parts.proofs.Copied.{zeros}
 use Rattle.translator.specs.declared.Filled.{Filled}
 use Rattle.translator.specs.Left.{Tables, tables, room_of}
 use Rattle.translator.specs.Inner.Fills.{Blanked, Counted, lent_of, source_of, Spaced, Begins, BeginsWithin, Roomy, Holds, Tries}
-use Rattle.translator.specs.Inner.Parts.{Builds, StandsBuilt, nothing-filled, Finishes, Ends}
+use Rattle.translator.specs.Inner.Parts.{Builds, StandsBuilt, nothing_filled, Finishes, Ends}
 use Rattle.translator.proofs.Outcome.{rules}
-use Rattle.translator.proofs.Cleared.{cleared-again}
+use Rattle.translator.proofs.Cleared.{cleared_again}
 
 -- so much room the sets take, with the words before them
-sets-room :
+sets_room :
     (frame : Frame) (s e : ℕ)
     → (frame.variables + 31) / 32 * 4 ≤ s
     → frame.effects ≤ e
     → sets_end frame ≤ s * e + 4 * e
 unfolding sets_end set_words
-sets-room frame s e h g =
+sets_room frame s e h g =
     let x : (frame.variables + 31) / 32 * 4 * frame.effects ≤ s * e = mul-le-mul {n₂ = s} {m₂ = e} h g in
     omega (arith, x, g)
 
 module _ (g : Counted) (x : Tables) (b : Begins g x) where
-  few-formulas : g.size.counts.frame.formulas ≤ 4096
-  few-formulas = omega (arith, finite-length-formulas (lent_of g), (rules (lent_of g) b.source.passes).limits.formulas)
+  few_formulas : g.size.counts.frame.formulas ≤ 4096
+  few_formulas = omega (arith, finite-length-formulas (lent_of g), (rules (lent_of g) b.source.passes).limits.formulas)
 
-  pub few-effects : g.size.counts.frame.effects ≤ 4096
-  few-effects = omega (arith, finite-length-effects (lent_of g), (rules (lent_of g) b.source.passes).limits.effects)
+  pub few_effects : g.size.counts.frame.effects ≤ 4096
+  few_effects = omega (arith, finite-length-effects (lent_of g), (rules (lent_of g) b.source.passes).limits.effects)
 
   few-operators : g.size.counts.operators ≤ 256
   few-operators = omega (arith, finite-length-operators (lent_of g), (rules (lent_of g) b.source.passes).limits.operators)
@@ -55,46 +55,46 @@ module _ (g : Counted) (x : Tables) (b : Begins g x) where
         ranges = g.counts;
         initial = g.initial;
         source = b.source;
-        formulas-space = omega (arith, length-replicate {A = ℕ} flagged 0);
-        effects-space = omega (arith, length-replicate {A = ℕ} changes 0);
-        notes-space = omega (arith, length-replicate {A = ℕ} notes 0);
-        blank-notes = zero-at notes;
+        formulas_space = omega (arith, length-replicate {A = ℕ} flagged 0);
+        effects_space = omega (arith, length-replicate {A = ℕ} changes 0);
+        notes_space = omega (arith, length-replicate {A = ℕ} notes 0);
+        blank_notes = zero_at notes;
         fresh =
             record {
               room = omega (arith, length-replicate {A = ℕ} built 0);
-              limit = b.spaced.rows-limit;
-              blank = zero-at built;
+              limit = b.spaced.rows_limit;
+              blank = zero_at built;
             };
-        scratch-space = b.spaced.memo;
-        blank-scratch = zeros x.scratch b.blank.scratch;
-        preconditions-space = omega (arith, length-replicate {A = ℕ} 256 0, few-operators);
+        scratch_space = b.spaced.memo;
+        blank_scratch = zeros x.scratch b.blank.scratch;
+        preconditions_space = omega (arith, length-replicate {A = ℕ} 256 0, few-operators);
       }
 
   pub owns-large :
       Builds g.size g.formulas g.effects g.operators g.firsts (replicate 12288 0) (replicate 12288 0) (replicate 610304 0) (replicate 37376 0)
       x.scratch (replicate 256 0)
   owns-large =
-      let room = sets-room g.size.counts.frame 64 4096 (omega (arith, b.source.flags-limit)) few-effects in
-      build-asks 12288 12288 610304 37376 (omega (arith, few-formulas)) (omega (arith, few-effects)) (omega (arith, room))
-      (omega (arith, b.spaced.rows-limit, b.source.flags-limit))
+      let room = sets_room g.size.counts.frame 64 4096 (omega (arith, b.source.flags_limit)) few_effects in
+      build-asks 12288 12288 610304 37376 (omega (arith, few_formulas)) (omega (arith, few_effects)) (omega (arith, room))
+      (omega (arith, b.spaced.rows_limit, b.source.flags_limit))
 
   pub owns-least :
       BeginsWithin 128 64 32 g x
       → Builds g.size g.formulas g.effects g.operators g.firsts (replicate 192 0) (replicate 192 0) (replicate 512 0) (replicate 1184 0)
       x.scratch (replicate 256 0)
   owns-least s =
-      let room = sets-room g.size.counts.frame 4 64 (omega (arith, s.few-flags)) s.few-effects in
-      build-asks 192 192 512 1184 (omega (arith, s.few-formulas)) (omega (arith, s.few-effects)) (omega (arith, room))
-      (omega (arith, s.few-rows, s.few-flags))
+      let room = sets_room g.size.counts.frame 4 64 (omega (arith, s.few_flags)) s.few_effects in
+      build-asks 192 192 512 1184 (omega (arith, s.few_formulas)) (omega (arith, s.few_effects)) (omega (arith, room))
+      (omega (arith, s.few_rows, s.few_flags))
 
   pub owns-small :
       BeginsWithin 512 512 128 g x
       → Builds g.size g.formulas g.effects g.operators g.firsts (replicate 1536 0) (replicate 1536 0) (replicate 14336 0) (replicate 4736 0)
       x.scratch (replicate 256 0)
   owns-small s =
-      let room = sets-room g.size.counts.frame 16 512 (omega (arith, s.few-flags)) s.few-effects in
-      build-asks 1536 1536 14336 4736 (omega (arith, s.few-formulas)) (omega (arith, s.few-effects)) (omega (arith, room))
-      (omega (arith, s.few-rows, s.few-flags))
+      let room = sets_room g.size.counts.frame 16 512 (omega (arith, s.few_flags)) s.few_effects in
+      build-asks 1536 1536 14336 4736 (omega (arith, s.few_formulas)) (omega (arith, s.few_effects)) (omega (arith, room))
+      (omega (arith, s.few_rows, s.few_flags))
 
   -- what finishing asks, with scratch as it was left
   module _ {scratch built preconditions : List ℕ} {rows : ℕ} (stood : StandsBuilt g built scratch preconditions rows)
@@ -106,12 +106,12 @@ module _ (g : Counted) (x : Tables) (b : Begins g x) where
     mid-spaced =
         record {
           memo = omega (arith, long-scratch, b.spaced.memo);
-          initial-space = b.spaced.initial-space;
-          rows-limit = b.spaced.rows-limit;
-          rows-space = b.spaced.rows-space;
-          effects-limit = b.spaced.effects-limit;
-          effects-space = b.spaced.effects-space;
-          operators-space = b.spaced.operators-space;
+          initial_space = b.spaced.initial_space;
+          rows_limit = b.spaced.rows_limit;
+          rows_space = b.spaced.rows_space;
+          effects_limit = b.spaced.effects_limit;
+          effects_space = b.spaced.effects_space;
+          operators_space = b.spaced.operators_space;
         }
 
     pub finish-asks :
@@ -127,13 +127,13 @@ module _ (g : Counted) (x : Tables) (b : Begins g x) where
           source = b.source;
           stood = stood;
           spaced = mid-spaced;
-          built-space = omega (arith, long-built, length-replicate {A = ℕ} n 0);
-          places-space = omega (arith, long-built, length-replicate {A = ℕ} n 0);
-          preconditions-space = omega (arith, long-preconditions, length-replicate {A = ℕ} 256 0, few-operators);
-          blank-initial = b.blank.initial;
-          blank-formulas = b.blank.formulas;
-          blank-effects = b.blank.effects;
-          blank-operators = b.blank.operators;
+          built_space = omega (arith, long-built, length-replicate {A = ℕ} n 0);
+          places_space = omega (arith, long-built, length-replicate {A = ℕ} n 0);
+          preconditions_space = omega (arith, long-preconditions, length-replicate {A = ℕ} 256 0, few-operators);
+          blank_initial = b.blank.initial;
+          blank_formulas = b.blank.formulas;
+          blank_effects = b.blank.effects;
+          blank_operators = b.blank.operators;
         }
 
     -- behind both: the room does not hang on what stands in scratch
@@ -163,12 +163,12 @@ module _ (g : Counted) (x : Tables) (b : Begins g x) where
         → Fits (translated (source_of g)) (room_of x)
         → ⊥
     misfits e q room fit =
-        e.over q (room.rows-allowed _ fit.limits.formulas fit.tables.formulas)
-        (room.effects-allowed _ fit.limits.effects fit.tables.effects)
+        e.over q (room.rows_allowed _ fit.limits.formulas fit.tables.formulas)
+        (room.effects_allowed _ fit.limits.effects fit.tables.effects)
 
-  pub tried-over : {y w : Tables} {z : Filled} → room_of y ≡ room_of x → Blanked y w → z ≡ nothing-filled → Tries g x w z
+  pub tried-over : {y w : Tables} {z : Filled} → room_of y ≡ room_of x → Blanked y w → z ≡ nothing_filled → Tries g x w z
   tried-over same c e =
       record {
         done = λ q. absurd (true≢false (sym (ap (λ (r : Filled). r.full) e) ∙ q));
-        over = λ _. cleared-again b.blank same c;
+        over = λ _. cleared_again b.blank same c;
       }

@@ -4,10 +4,10 @@ use native.Mathlib.Omega.{arith}
 use mathlib.Core.Path.{◌≡◌, refl, sym}
 use mathlib.Core.List.{List}
 use lib.ListN.{length}
-use Rattle.task.specs.Table.{operator-width}
-use Rattle.normal_form.specs.Compiled.{Room, Fits, nothing-given}
-use Rattle.finite_domain.specs.Table.{FiniteLent, finite-task-of}
-use Rattle.finite_domain.specs.Check.{finite-refusal}
+use Rattle.task.specs.Table.{operator_width}
+use Rattle.normal_form.specs.Compiled.{Room, Fits, nothing_given}
+use Rattle.finite_domain.specs.Table.{FiniteLent, finite_task_of}
+use Rattle.finite_domain.specs.Check.{finite_refusal}
 use Rattle.finite_domain.proofs.Held.{finite-length-counts}
 use Rattle.translation.specs.Translated.{translated}
 use Rattle.translation.specs.Translating.{translating}
@@ -17,28 +17,28 @@ use Rattle.translator.specs.Inner.Numbers.{Numbered}
 use Rattle.translator.proofs.Outcome.{by-tables, by-scratch, by-room, long, rules, flags-many, operators-many}
 
 -- what finding the first flags asks
-pub flags-asked : (l : FiniteLent) (firsts : List ℕ) → finite-refusal l ≡ 0 → length firsts ≡ 65 → CountsReady l.counts l.head.variables firsts
-flags-asked l firsts passes space =
+pub flags_asked : (l : FiniteLent) (firsts : List ℕ) → finite_refusal l ≡ 0 → length firsts ≡ 65 → CountsReady l.counts l.head.variables firsts
+flags_asked l firsts passes space =
     let wide = finite-length-counts l (long l passes) in
     counts-asked l (rules l passes) (long l passes) firsts (omega (arith, wide, (rules l passes).limits.variables))
 
 module _ (l : FiniteLent) (room : Room) (firsts : List ℕ) where
-  refused : (n : ℕ) → translating l room ≡ nothing-given (suc n) room → Numbered l room firsts (suc n)
+  refused : (n : ℕ) → translating l room ≡ nothing_given (suc n) room → Numbered l room firsts (suc n)
   refused n e = record { refuses = λ _. e; passed = λ z. absurd (omega (arith, z)) }
 
-  pub by-the-check : (n : ℕ) → n ≡ finite-refusal l → (n ≡ 0 → ⊥) → Numbered l room firsts n
+  pub by-the-check : (n : ℕ) → n ≡ finite_refusal l → (n ≡ 0 → ⊥) → Numbered l room firsts n
   by-the-check zero e d = absurd (d refl)
   by-the-check (suc n) e d = refused n (by-tables l room n (sym e))
 
-  module _ (passes : finite-refusal l ≡ 0) where
+  module _ (passes : finite_refusal l ≡ 0) where
     pub short-scratch : room.scratch < 2 * l.head.formulas + 2 * l.head.effects → Numbered l room firsts 14
     short-scratch h = refused 13 (by-scratch l room passes h)
 
     module _ (memo : 2 * l.head.formulas + 2 * l.head.effects ≤ room.scratch) where
-      no_room : (Fits (translated (finite-task-of l)) room → ⊥) → Numbered l room firsts 15
+      no_room : (Fits (translated (finite_task_of l)) room → ⊥) → Numbered l room firsts 15
       no_room n = refused 14 (by-room l room passes memo n)
 
-      pub short-operators : room.operators < operator-width * l.head.operators → Numbered l room firsts 15
+      pub short-operators : room.operators < operator_width * l.head.operators → Numbered l room firsts 15
       short-operators h = no_room (λ fit. omega (arith, fit.tables.operators, operators-many l passes))
 
       module _ {before : List ℕ} {flags : ℕ} (found : FirstsFound l.counts l.head.variables before firsts flags) where
@@ -49,7 +49,7 @@ module _ (l : FiniteLent) (room : Room) (firsts : List ℕ) where
         short-initial h = no_room (λ fit. omega (arith, fit.tables.initial, flags-many l passes, found.count))
 
         pub no_number :
-            operator-width * l.head.operators ≤ room.operators
+            operator_width * l.head.operators ≤ room.operators
             → flags ≤ 512
             → flags ≤ room.initial
             → Numbered l room firsts 0

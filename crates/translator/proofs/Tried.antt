@@ -14,9 +14,9 @@ use Rattle.translator.specs.Inner.Fills.{counted, source_of, Begins, BeginsWithi
 pub never : {source flags : ℕ} {n : Sizes} → Small source flags n false
 never =
     record {
-      few-formulas = λ e. absurd (true≢false (sym e));
-      few-effects = λ e. absurd (true≢false (sym e));
-      few-flags = λ e. absurd (true≢false (sym e));
+      few_formulas = λ e. absurd (true≢false (sym e));
+      few_effects = λ e. absurd (true≢false (sym e));
+      few_flags = λ e. absurd (true≢false (sym e));
     }
 
 module _ {most : ℕ} {n r : Sizes} {ranges initial formulas effects operators firsts : List ℕ} {x : Tables} (k : Fewer most n r) where
@@ -43,24 +43,24 @@ module _ {most : ℕ} {n r : Sizes} {ranges initial formulas effects operators f
                     told = s.told;
                     words = s.words;
                     flags = s.flags;
-                    flags-limit = s.flags-limit;
+                    flags_limit = s.flags_limit;
                   };
               spaced =
                   record {
                     memo = w.memo;
-                    initial-space = w.initial-space;
-                    rows-limit = omega (arith, w.rows-limit);
-                    rows-space = omega (arith, w.rows-space);
-                    effects-limit = w.effects-limit;
-                    effects-space = w.effects-space;
-                    operators-space = w.operators-space;
+                    initial_space = w.initial_space;
+                    rows_limit = omega (arith, w.rows_limit);
+                    rows_space = omega (arith, w.rows_space);
+                    effects_limit = w.effects_limit;
+                    effects_space = w.effects_space;
+                    operators_space = w.operators_space;
                   };
               blank = b.blank;
             };
-        few-rows = few;
-        few-formulas = fs;
-        few-effects = es;
-        few-flags = flags;
+        few_rows = few;
+        few_formulas = fs;
+        few_effects = es;
+        few_flags = flags;
       }
 
   pub small-asks :
@@ -71,7 +71,7 @@ module _ {most : ℕ} {n r : Sizes} {ranges initial formulas effects operators f
       → BeginsWithin most source flags (counted r ranges initial formulas effects operators firsts) x
   small-asks s q b =
       rw k.same
-      (small_by r.counts.frame.rows k.few k.less (s.few-formulas q) (s.few-effects q) (s.few-flags q) b.begins)
+      (small_by r.counts.frame.rows k.few k.less (s.few_formulas q) (s.few_effects q) (s.few_flags q) b.begins)
 
   module _ {y : Tables} {z : Filled} (t : Tries (counted r ranges initial formulas effects operators firsts) x y z) where
     same-held :

@@ -6,28 +6,28 @@ use mathlib.Core.Bool.{true, false}
 use mathlib.Core.List.{List, []}
 use lib.ListN.{length, get_or, replicate}
 use Rattle.task.specs.declared.Head.{Head}
-use Rattle.normal_form.specs.Compiled.{nothing-given, task-given, not-compiled, compiled-head}
-use Rattle.finite_domain.specs.Table.{FiniteLent, FiniteTask, finite-task-of}
-use Rattle.finite_domain.specs.Check.{finite-refusal}
+use Rattle.normal_form.specs.Compiled.{nothing_given, task_given, not_compiled, compiled_head}
+use Rattle.finite_domain.specs.Table.{FiniteLent, FiniteTask, finite_task_of}
+use Rattle.finite_domain.specs.Check.{finite_refusal}
 use Rattle.finite_domain.proofs.Held.{finite-length-counts}
 use Rattle.task.specs.Words.{padded}
-use Rattle.translation.specs.Flags.{first-flag}
+use Rattle.translation.specs.Flags.{first_flag}
 use Rattle.translation.specs.Translated.{translated}
 use Rattle.translation.specs.Translating.{translating}
 use Rattle.translator.specs.declared.Sizes.{Sizes}
 use Rattle.translator.specs.declared.Filled.{Filled}
 use Rattle.translator.specs.declared.Lengths.{Lengths}
 use Rattle.translator.specs.declared.TranslateAnswer.TheVariants.{Translated, Refused}
-use Rattle.translator.specs.Left.{Tables, tables, room_of, translate-left}
-use Rattle.translator.specs.Inner.Sizes.{Least, sizes-by, SizesOf}
+use Rattle.translator.specs.Left.{Tables, tables, room_of, translate_left}
+use Rattle.translator.specs.Inner.Sizes.{Least, sizes_by, SizesOf}
 use Rattle.translator.specs.Inner.Numbers.{Passed}
-use Rattle.translator.specs.Inner.Fills.{Blanked, Counted, counted, lent_of, source_of, Roomy, head-after, Fills}
+use Rattle.translator.specs.Inner.Fills.{Blanked, Counted, counted, lent_of, source_of, Roomy, head_after, Fills}
 use Rattle.translator.proofs.Outcome.{by-room, succeeds, long, rules}
-use Rattle.translator.proofs.Cleared.{same-room}
+use Rattle.translator.proofs.Cleared.{same_room}
 
 -- the lengths of lent tables
-abbrev lengths-of : Tables → Lengths
-lengths-of x =
+abbrev lengths_of : Tables → Lengths
+lengths_of x =
     record {
       values = length x.initial;
       table = length x.formulas;
@@ -39,14 +39,14 @@ lengths-of x =
 -- a number, and every table 0
 pub refuses :
     (l : FiniteLent) {x y : Tables} (n : ℕ)
-    → translating l (room_of x) ≡ nothing-given n (room_of x)
+    → translating l (room_of x) ≡ nothing_given n (room_of x)
     → Blanked x y
-    → translate-left (Refused n) y ≡ translating l (room_of x)
-unfolding nothing-given
+    → translate_left (Refused n) y ≡ translating l (room_of x)
+unfolding nothing_given
 refuses l n e b =
     (λ i.
     record {
-      answer = not-compiled n;
+      answer = not_compiled n;
       initial = b.initial i;
       twins = replicate 0 0;
       formulas = b.formulas i;
@@ -56,33 +56,33 @@ refuses l n e b =
     })
     ∙ sym e
 
-pub refuses-first :
+pub refuses_first :
     (l : FiniteLent) {x y : Tables} (n : ℕ)
-    → translating l (room_of y) ≡ nothing-given n (room_of y)
+    → translating l (room_of y) ≡ nothing_given n (room_of y)
     → Blanked x y
-    → translate-left (Refused n) y ≡ translating l (room_of x)
-refuses-first l n e b = refuses l n (rw (same-room b) at e) b
+    → translate_left (Refused n) y ≡ translating l (room_of x)
+refuses_first l n e b = refuses l n (rw (same_room b) at e) b
 
 -- few variables: the word behind their first flags is there
-pub variables-few : (l : FiniteLent) → finite-refusal l ≡ 0 → l.head.variables ≤ 64
-variables-few l passes =
+pub variables_few : (l : FiniteLent) → finite_refusal l ≡ 0 → l.head.variables ≤ 64
+variables_few l passes =
     omega (arith, finite-length-counts l (long l passes), (rules l passes).limits.variables)
 
 -- no table is lent for twins, and there are none
-no-twins : (t : FiniteTask) → [] ≡ padded 0 (translated t).originals
+no_twins : (t : FiniteTask) → [] ≡ padded 0 (translated t).originals
 unfolding padded translated
-no-twins t = refl
+no_twins t = refl
 
 -- With no number, over tables that are all 0.
 module _ (l : FiniteLent) (x : Tables) {firsts : List ℕ} (p : Passed l (room_of x) firsts) where
   pub head_few : l.head.variables ≤ 64
-  head_few = variables-few l p.passes
+  head_few = variables_few l p.passes
 
-  module _ {c : Sizes} (k : SizesOf l.head (lengths-of x) firsts c) where
+  module _ {c : Sizes} (k : SizesOf l.head (lengths_of x) firsts c) where
     abbrev g : (rows room : ℕ) → Counted
-    g rows room = counted (sizes-by l.head (get_or firsts l.head.variables 0) rows room) l.counts l.initial l.formulas l.effects l.operators firsts
+    g rows room = counted (sizes_by l.head (get_or firsts l.head.variables 0) rows room) l.counts l.initial l.formulas l.effects l.operators firsts
 
-    flags-here : get_or firsts l.head.variables 0 ≡ first-flag l.counts l.head.variables
+    flags-here : get_or firsts l.head.variables 0 ≡ first_flag l.counts l.head.variables
     flags-here = p.told.at l.head.variables (omega arith)
 
     -- what is counted is what was lent: W is 0
@@ -92,7 +92,7 @@ module _ (l : FiniteLent) (x : Tables) {firsts : List ℕ} (p : Passed l (room_o
           head =
               record {
                 variables = l.head.variables;
-                twins = sym (long l p.passes).no-twins i;
+                twins = sym (long l p.passes).no_twins i;
                 formulas = l.head.formulas;
                 effects = l.head.effects;
                 operators = l.head.operators;
@@ -118,28 +118,28 @@ module _ (l : FiniteLent) (x : Tables) {firsts : List ℕ} (p : Passed l (room_o
               record {
                 source =
                     record {
-                      passes = ap finite-refusal (same-lent rows room) ∙ p.passes;
+                      passes = ap finite_refusal (same-lent rows room) ∙ p.passes;
                       copied = refl;
                       untwinned = refl;
                       told = p.told;
                       words = words;
                       flags = flags-here;
-                      flags-limit = omega (arith, flags-here, p.flags);
+                      flags_limit = omega (arith, flags-here, p.flags);
                     };
                 spaced =
                     record {
                       memo = p.memo;
-                      initial-space = omega (arith, flags-here, p.initial);
-                      rows-limit = r.first;
-                      rows-space = omega (arith, r.second);
-                      effects-limit = f.first;
-                      effects-space = omega (arith, f.second);
-                      operators-space = p.operators;
+                      initial_space = omega (arith, flags-here, p.initial);
+                      rows_limit = r.first;
+                      rows_space = omega (arith, r.second);
+                      effects_limit = f.first;
+                      effects_space = omega (arith, f.second);
+                      operators_space = p.operators;
                     };
                 blank = blank;
               };
-          rows-allowed = λ n a b. r.most n a (omega arith);
-          effects-allowed = λ n a b. f.most n a (omega arith);
+          rows_allowed = λ n a b. r.most n a (omega arith);
+          effects_allowed = λ n a b. f.most n a (omega arith);
         }
 
     pub roomy : length firsts ≡ 65 → Blanked x x → Roomy (counted c l.counts l.initial l.formulas l.effects l.operators firsts) x
@@ -149,39 +149,39 @@ module _ (l : FiniteLent) (x : Tables) {firsts : List ℕ} (p : Passed l (room_o
     flags-fit = omega (arith, ap (λ (n : Sizes). n.counts.frame.variables) k.same, flags-here, p.flags)
 
     module _ {y : Tables} {r : Filled} (f : Fills (counted c l.counts l.initial l.formulas l.effects l.operators firsts) x y r) where
-      abbrev fills-it : Fills (g c.counts.frame.rows c.room) x y r
-      fills-it = rw k.same at f
+      abbrev fills_it : Fills (g c.counts.frame.rows c.room) x y r
+      fills_it = rw k.same at f
 
-      same-task : translated (source_of (g c.counts.frame.rows c.room)) ≡ translated (finite-task-of l)
+      same_task : translated (source_of (g c.counts.frame.rows c.room)) ≡ translated (finite_task_of l)
       unfolding source_of
-      same-task = ap (λ (m : FiniteLent). translated (finite-task-of m)) (same-lent c.counts.frame.rows c.room)
+      same_task = ap (λ (m : FiniteLent). translated (finite_task_of m)) (same-lent c.counts.frame.rows c.room)
 
-      pub filled-over : Blanked x x → r.full ≡ true → translate-left (Refused 15) y ≡ translating l (room_of x)
+      pub filled-over : Blanked x x → r.full ≡ true → translate_left (Refused 15) y ≡ translating l (room_of x)
       filled-over b q =
-          let again : Blanked x y = rw (fills-it.tries.over q) b in
+          let again : Blanked x y = rw (fills_it.tries.over q) b in
           refuses l 15
-          (by-room l (room_of x) p.passes p.memo (λ fit. fills-it.misfit q (rw same-task fit)))
+          (by-room l (room_of x) p.passes p.memo (λ fit. fills_it.misfit q (rw same_task fit)))
           again
 
       pub filled-done :
           {s : List ℕ} {n : Head}
           → r.full ≡ false
-          → n ≡ head-after c.counts.frame.variables l.head.operators r
+          → n ≡ head_after c.counts.frame.variables l.head.operators r
           → s ≡ replicate (length x.scratch) 0
-          → translate-left (Translated n) (tables y.initial y.formulas y.effects y.operators s) ≡ translating l (room_of x)
-      unfolding task-given
+          → translate_left (Translated n) (tables y.initial y.formulas y.effects y.operators s) ≡ translating l (room_of x)
+      unfolding task_given
       filled-done q n e =
-          let h = fills-it.tries.done q in
-          let n2 = n ∙ ap (λ (m : Sizes). head-after m.counts.frame.variables l.head.operators r) k.same in
+          let h = fills_it.tries.done q in
+          let n2 = n ∙ ap (λ (m : Sizes). head_after m.counts.frame.variables l.head.operators r) k.same in
           (λ i.
           record {
-            answer = compiled-head ((n2 ∙ sym h.head) i);
+            answer = compiled_head ((n2 ∙ sym h.head) i);
             initial = h.initial i;
-            twins = no-twins (source_of (g c.counts.frame.rows c.room)) i;
+            twins = no_twins (source_of (g c.counts.frame.rows c.room)) i;
             formulas = h.formulas i;
             effects = h.effects i;
             operators = h.operators i;
             scratch = e i;
           })
-          ∙ ap (λ t. task-given t (room_of x)) same-task
-          ∙ sym (succeeds l (room_of x) p.passes p.memo (rw same-task at h.fits))
+          ∙ ap (λ t. task_given t (room_of x)) same_task
+          ∙ sym (succeeds l (room_of x) p.passes p.memo (rw same_task at h.fits))

@@ -1,6 +1,6 @@
 -- The tables that translating is lent, and what it leaves, as one value. None is lent for twins: the translated task has none.
 use Rattle.std.specs.Prelude.{ℕ, List, [], length}
-use Rattle.normal_form.specs.Compiled.{Room, Answer, compiled-head, not-compiled, CompileOutcome}
+use Rattle.normal_form.specs.Compiled.{Room, Answer, compiled_head, not_compiled, CompileOutcome}
 use Rattle.translator.specs.declared.TranslateAnswer.{TranslateAnswer}
 use Rattle.translator.specs.declared.TranslateAnswer.TheVariants.{Translated, Refused}
 
@@ -26,15 +26,15 @@ room_of x =
       scratch = length x.scratch;
     }
 
-abbrev pub answer-of : TranslateAnswer → Answer
-answer-of (Translated h) = compiled-head h
-answer-of (Refused n) = not-compiled n
+abbrev pub answer_of : TranslateAnswer → Answer
+answer_of (Translated h) = compiled_head h
+answer_of (Refused n) = not_compiled n
 
 -- the answer, and every table at exit
-abbrev pub translate-left : TranslateAnswer → Tables → CompileOutcome
-translate-left r y =
+abbrev pub translate_left : TranslateAnswer → Tables → CompileOutcome
+translate_left r y =
     record {
-      answer = answer-of r;
+      answer = answer_of r;
       initial = y.initial;
       twins = [];
       formulas = y.formulas;

@@ -1,8 +1,8 @@
 // The translating call.
 ghost use Rattle.std.specs.Prelude.{◌≡◌};
-ghost use Rattle.finite_domain.specs.Table.{finite-lent};
+ghost use Rattle.finite_domain.specs.Table.{finite_lent};
 ghost use Rattle.translation.specs.Translating.{translating};
-ghost use Rattle.translator.specs.Left.{tables, room_of, translate-left};
+ghost use Rattle.translator.specs.Left.{tables, room_of, translate_left};
 
 use crate::clear::clear_all;
 use crate::frames::fill;
@@ -30,7 +30,7 @@ pub fn translate(
     written: &mut [u16],
     scratch: &mut [u16],
 ) -> TranslateAnswer
-    ensures { translate-left result (tables values.new table.new out.new written.new scratch.new) ≡ translating (finite-lent head counts.now initial.now formulas.now effects.now operators.now) (room_of (tables values.old table.old out.old written.old scratch.old)) }
+    ensures { translate_left result (tables values.new table.new out.new written.new scratch.new) ≡ translating (finite_lent head counts.now initial.now formulas.now effects.now operators.now) (room_of (tables values.old table.old out.old written.old scratch.old)) }
 {
     clear_all(values, table, out, written, scratch);
     let lengths = Lengths {

@@ -1,6 +1,6 @@
 // The head of the translated task.
 ghost use Rattle.std.specs.Prelude.{◌≤◌, ◌≡◌};
-ghost use Rattle.translator.specs.Inner.Fills.{head-after};
+ghost use Rattle.translator.specs.Inner.Fills.{head_after};
 
 use crate::Filled;
 use task::Head;
@@ -8,7 +8,7 @@ use task::Head;
 // The source's head over so many flags, after what filling answered. Constant cost.
 pub fn translated_head(head: Head, flags: usize, p: Filled) -> Head
     requires { flags ≤ 512 }
-    ensures { result ≡ head-after flags head.operators p }
+    ensures { result ≡ head_after flags head.operators p }
 {
     Head {
         variables: flags as u16,

@@ -1,6 +1,6 @@
 // The numbers that are known before anything is built.
 ghost use Rattle.std.specs.Prelude.{◌≡◌, length};
-ghost use Rattle.finite_domain.specs.Table.{finite-lent};
+ghost use Rattle.finite_domain.specs.Table.{finite_lent};
 ghost use Rattle.translator.specs.Inner.Sizes.{room_by};
 ghost use Rattle.translator.specs.Inner.Numbers.{Numbered};
 
@@ -28,7 +28,7 @@ pub fn first_number(
     firsts: &mut [u16],
 ) -> u16
     requires { length firsts.old ≡ 65 }
-    ensures { Numbered (finite-lent head counts.now initial.now formulas.now effects.now operators.now) (room_by lengths) firsts.new result }
+    ensures { Numbered (finite_lent head counts.now initial.now formulas.now effects.now operators.now) (room_by lengths) firsts.new result }
 {
     let n = check(head, counts, initial, formulas, effects, operators);
     if n != 0 {

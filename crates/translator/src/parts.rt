@@ -1,7 +1,7 @@
 // The two parts of filling: all that is built, then all that is written.
 ghost use Rattle.std.specs.Prelude.{◌≡◌};
 ghost use Rattle.translator.specs.Left.{tables};
-ghost use Rattle.translator.specs.Inner.Parts.{nothing-filled, Builds, BuiltAll, Finishes, Finished};
+ghost use Rattle.translator.specs.Inner.Parts.{nothing_filled, Builds, BuiltAll, Finishes, Finished};
 
 use crate::{Filled, Sizes};
 use compile_parts::copy_words;
@@ -63,7 +63,7 @@ pub fn build(
 
 // No room.
 pub fn no_room() -> Filled
-    ensures { result ≡ nothing-filled }
+    ensures { result ≡ nothing_filled }
 {
     Filled {
         rows: 0,

@@ -9,58 +9,58 @@ use borrow.Author.Tests.{eq-eqb, ne_eqb}
 use Rattle.normal_form.specs.Builder.{Got, Build, give, bind, join, Polarity, plain, negated}
 use Rattle.normal_form.specs.Growth.{Steady}
 use Rattle.normal_form.specs.Conditions.{Becoming, condition}
-use Rattle.normal_form.specs.Operators.{Changes, deletes-of, changes-of}
-use Rattle.normal_form.proofs.Growth.{steady-give, steady-bind, steady-join}
+use Rattle.normal_form.specs.Operators.{Changes, deletes_of, changes_of}
+use Rattle.normal_form.proofs.Growth.{steady_give, steady_bind, steady_join}
 use Rattle.normal_form.proofs.Steady.{steady-deletes, steady-condition}
 use Rattle.task.specs.Semantics.{Formula, Effect, sets, clears}
 use Rattle.formula_builder.specs.declared.Frame.{Frame}
 use Rattle.formula_builder.specs.declared.Size.{Size}
 use Rattle.formula_builder.specs.declared.Step.{Step}
 use Rattle.formula_builder.specs.Inner.Held.{Store, held, size_of, stepped, JoinReady, Builds}
-use Rattle.formula_builder.proofs.Steps.{builds-stands, within-before}
+use Rattle.formula_builder.proofs.Steps.{builds_stands, within_before}
 use Rattle.images.specs.Inner.Images.{becoming, Memo, Images}
-use Rattle.images.proofs.Memos.{done-grows}
+use Rattle.images.proofs.Memos.{done_grows}
 use Rattle.conditions.specs.declared.Target.{Target}
-use Rattle.conditions.specs.Inner.Conditions.{effect-tree, EffectMemo, Noted, Asks, Conditions}
-use Rattle.conditions.proofs.Memos.{effect-memo-grows, conditions-as, conditions-leaf, conditions-bind, conditions-stop}
+use Rattle.conditions.specs.Inner.Conditions.{effect_tree, EffectMemo, Noted, Asks, Conditions}
+use Rattle.conditions.proofs.Memos.{effect_memo_grows, conditions-as, conditions_leaf, conditions_bind, conditions_stop}
 use Rattle.variable_changes.specs.Inner.Stands.{Stands, StandsAt, Deletes, Leaves, Reaches, Makes}
 
 -- what a condition asks
-pub asks-condition :
+pub asks_condition :
     {frame : Frame} {formulas effects notes : List ℕ} {at : Size} {s : Store} {scratch : List ℕ} {e : ℕ} (t : Target)
     → StandsAt frame formulas effects notes at s scratch e
     → t.variable < frame.variables
     → Asks frame formulas effects notes t at s scratch e
-asks-condition t a h =
+asks_condition t a h =
     record {
       source = a.stands.source;
-      effect-source = a.stands.effect-source;
+      effect_source = a.stands.effect_source;
       ready = a.stands.ready;
       noted = a.noted;
       memo = a.stands.memo;
-      effect-memo = a.stands.effect-memo;
+      effect_memo = a.stands.effect_memo;
       variable = h;
       effect = a.effect;
     }
 
 -- a row that stands there is given
-given-row :
+given_row :
     {frame : Frame} {formulas effects notes : List ℕ} {at : Size} {s : Store} {scratch : List ℕ} {e : ℕ} (x : ℕ)
     → StandsAt frame formulas effects notes at s scratch e
     → x < at.rows
     → Conditions (give x) frame formulas effects notes at s s scratch (stepped at.rows at.twins x)
-given-row x a h =
-    conditions-leaf (steady-give x) a.noted a.stands.memo a.stands.effect-memo (builds-stands x a.stands.ready h)
+given_row x a h =
+    conditions_leaf (steady_give x) a.noted a.stands.memo a.stands.effect_memo (builds_stands x a.stands.ready h)
 
 -- where building stands after a step
-pub stands-next :
+pub stands_next :
     {A : Type 0} {m : Build A} {frame : Frame} {formulas effects : List ℕ} {at : Size} {before after : Store} {s1 s2 : List ℕ} {full : Bool} {next : Size}
     → Stands frame formulas effects at before s1
     → Reaches m frame formulas effects at before after s2 full next
     → full ≡ false
     → length s2 ≡ length s1
     → Stands frame formulas effects next after s2
-stands-next a x q long =
+stands_next a x q long =
     let d = x.done q in
     record {
       source =
@@ -70,50 +70,50 @@ stands-next a x q long =
             limit = a.source.limit;
             down = a.source.down;
           };
-      effect-source =
+      effect_source =
           record {
-            words = a.effect-source.words;
-            memo = omega (arith, a.effect-source.memo, long);
-            limit = a.effect-source.limit;
-            down = a.effect-source.down;
+            words = a.effect_source.words;
+            memo = omega (arith, a.effect_source.memo, long);
+            limit = a.effect_source.limit;
+            down = a.effect_source.down;
           };
       ready = d.ready;
       memo = d.memo;
-      effect-memo = d.effect-memo;
+      effect_memo = d.effect_memo;
     }
 
 -- a step that builds a row
-makes-built :
+makes_built :
     {m : Build ℕ} {frame : Frame} {formulas effects : List ℕ} {at : Size} {before after : Store} {s2 : List ℕ} {r : Step}
     → Builds m frame at before after r
     → (r.full ≡ false → Memo frame formulas s2 (held (size_of r) after))
     → (r.full ≡ false → EffectMemo frame formulas effects s2 (held (size_of r) after))
     → Makes m frame formulas effects at before after s2 r.full (size_of r) r.row
-makes-built b memo effect-memo =
+makes_built b memo effect_memo =
     record {
       reaches =
           record {
-            done = λ q. record { state = (b.done q).state; ready = (b.done q).ready; memo = memo q; effect-memo = effect-memo q };
+            done = λ q. record { state = (b.done q).state; ready = (b.done q).ready; memo = memo q; effect_memo = effect_memo q };
             over = b.over;
           };
       value = λ q. (b.done q).value;
     }
 
-makes-row :
+makes_row :
     {m : Build ℕ} {frame : Frame} {formulas effects notes : List ℕ} {at : Size} {before after : Store} {s2 : List ℕ} {r : Step}
     → Conditions m frame formulas effects notes at before after s2 r
     → Makes m frame formulas effects at before after s2 r.full (size_of r) r.row
-makes-row x = makes-built x.builds x.memo x.effect-memo
+makes_row x = makes_built x.builds x.memo x.effect_memo
 
 -- one that leaves the memo of effects
-pub makes-image :
+pub makes_image :
     {m : Build ℕ} {frame : Frame} {formulas effects : List ℕ} {at : Size} {before after : Store} {s1 s2 : List ℕ} {r : Step}
     → Steady m
     → EffectMemo frame formulas effects s1 (held at before)
     → Images m frame formulas at before after s1 s2 r
     → Makes m frame formulas effects at before after s2 r.full (size_of r) r.row
-makes-image steady memo x =
-    makes-built x.builds x.memo (λ q. effect-memo-grows (done-grows steady (x.builds.done q)) x.rest memo)
+makes_image steady memo x =
+    makes_built x.builds x.memo (λ q. effect_memo_grows (done_grows steady (x.builds.done q)) x.rest memo)
 
 module _ {A B : Type 0} {m : Build A} {frame : Frame} {formulas effects : List ℕ} {at : Size} {before mid : Store} {s2 : List ℕ} {full : Bool}
     {next : Size} {a : A} (f : A → Build B) (x : Makes m frame formulas effects at before mid s2 full next a) where
@@ -131,7 +131,7 @@ module _ {A B : Type 0} {m : Build A} {frame : Frame} {formulas effects : List �
             record {
               done = λ g.
                   let d = y.reaches.done g in
-                  record { state = ap (λ (z : Got B). z.st) same ∙ d.state; ready = d.ready; memo = d.memo; effect-memo = d.effect-memo };
+                  record { state = ap (λ (z : Got B). z.st) same ∙ d.state; ready = d.ready; memo = d.memo; effect_memo = d.effect_memo };
               over = λ g w. y.reaches.over g (rw (ap (λ (z : Got B). z.st) same) at w);
             };
         value = λ g. ap (λ (z : Got B). z.value) same ∙ y.value g;
@@ -149,80 +149,80 @@ module _ {A B : Type 0} {m : Build A} {frame : Frame} {formulas effects : List �
         reaches =
             record {
               done = λ e. absurd (true≢false e);
-              over = λ _ w. x.reaches.over q (within-before ((steady g.value).grow g.st) w);
+              over = λ _ w. x.reaches.over q (within_before ((steady g.value).grow g.st) w);
             };
         value = λ e. absurd (true≢false e);
       }
 
 -- only the value changes
-makes-map :
+makes_map :
     {A B : Type 0} {m : Build A} {frame : Frame} {formulas effects : List ℕ} {at : Size} {before after : Store} {s2 : List ℕ} {full : Bool} {next : Size} {a : A}
     (g : A → B)
     → Makes m frame formulas effects at before after s2 full next a
     → Makes (bind m (λ x. give (g x))) frame formulas effects at before after s2 full next (g a)
 unfolding bind give
-makes-map g x = record { reaches = record { done = x.reaches.done; over = x.reaches.over }; value = λ q. ap g (x.value q) }
+makes_map g x = record { reaches = record { done = x.reaches.done; over = x.reaches.over }; value = λ q. ap g (x.value q) }
 
 -- where the next step for the same effect stands
-pub stands-at-next :
+pub stands_at_next :
     {m : Build ℕ} {frame : Frame} {formulas effects notes notes' : List ℕ} {at : Size} {before after : Store} {s1 s2 : List ℕ} {r : Step} {e : ℕ}
     → StandsAt frame formulas effects notes at before s1 e
     → Conditions m frame formulas effects notes' at before after s2 r
     → r.full ≡ false
     → length s2 ≡ length s1
     → StandsAt frame formulas effects notes' (size_of r) after s2 e
-stands-at-next a x q long =
-    record { stands = stands-next a.stands (makes-row x).reaches q long; noted = x.noted q; effect = a.effect }
+stands_at_next a x q long =
+    record { stands = stands_next a.stands (makes_row x).reaches q long; noted = x.noted q; effect = a.effect }
 
 -- The notes, when they are right, and when there was no room.
-pub leaves-same :
+pub leaves_same :
     {full : Bool} {frame : Frame} {formulas effects notes : List ℕ} {at : Size} {s : Store}
     → Noted frame formulas effects notes (held at s)
     → Leaves full frame formulas effects notes at s
-leaves-same n = record { noted = λ q. n }
+leaves_same n = record { noted = λ q. n }
 
-pub leaves-full :
+pub leaves_full :
     {frame : Frame} {formulas effects notes : List ℕ} {at : Size} {s : Store} → Leaves true frame formulas effects notes at s
-leaves-full = record { noted = λ q. absurd (true≢false q) }
+leaves_full = record { noted = λ q. absurd (true≢false q) }
 
 -- D, freed of conflict with A.
 module _ {notes : List ℕ} (frame : Frame) (formulas effects : List ℕ) (at : Size) (before : Store) (scratch : List ℕ) (e v a d : ℕ)
     (s : Deletes frame formulas effects notes at before scratch e v d) where
   tree : Effect
-  tree = effect-tree frame formulas effects e
+  tree = effect_tree frame formulas effects e
 
   stays :
-      deletes-of (becoming frame) tree v a d ≡ give d
-      → Conditions (deletes-of (becoming frame) tree v a d) frame formulas effects notes at before before scratch (stepped at.rows at.twins d)
-  stays q = conditions-as q (given-row d s.stands s.row)
+      deletes_of (becoming frame) tree v a d ≡ give d
+      → Conditions (deletes_of (becoming frame) tree v a d) frame formulas effects notes at before before scratch (stepped at.rows at.twins d)
+  stays q = conditions-as q (given_row d s.stands s.row)
 
   pub never-set :
       a ≡ 0
-      → Conditions (deletes-of (becoming frame) (effect-tree frame formulas effects e) v a d) frame formulas effects notes at before before scratch (stepped at.rows at.twins d)
-  unfolding deletes-of tree
+      → Conditions (deletes_of (becoming frame) (effect_tree frame formulas effects e) v a d) frame formulas effects notes at before before scratch (stepped at.rows at.twins d)
+  unfolding deletes_of tree
   never-set h = stays (rw (eq-eqb a 0 h))
 
   pub never-cleared :
       (a ≡ 0 → ⊥)
       → d ≡ 0
-      → Conditions (deletes-of (becoming frame) (effect-tree frame formulas effects e) v a d) frame formulas effects notes at before before scratch (stepped at.rows at.twins d)
-  unfolding deletes-of tree
+      → Conditions (deletes_of (becoming frame) (effect_tree frame formulas effects e) v a d) frame formulas effects notes at before before scratch (stepped at.rows at.twins d)
+  unfolding deletes_of tree
   never-cleared g h = stays (rw (ne_eqb a 0 g, eq-eqb d 0 h))
 
   module _ (g : a ≡ 0 → ⊥) (h : d ≡ 0 → ⊥) {notes' : List ℕ} {after : Store} {s2 : List ℕ} {n : Step}
-      (x : Conditions (condition (becoming frame) negated (sets v) (effect-tree frame formulas effects e)) frame formulas effects notes' at before after s2 n)
+      (x : Conditions (condition (becoming frame) negated (sets v) (effect_tree frame formulas effects e)) frame formulas effects notes' at before after s2 n)
     where
       freed :
-          deletes-of (becoming frame) tree v a d
-          ≡ bind (condition (becoming frame) negated (sets v) (effect-tree frame formulas effects e)) (λ c. join plain d c)
-      unfolding deletes-of tree
+          deletes_of (becoming frame) tree v a d
+          ≡ bind (condition (becoming frame) negated (sets v) (effect_tree frame formulas effects e)) (λ c. join plain d c)
+      unfolding deletes_of tree
       freed = rw (ne_eqb a 0 g, ne_eqb d 0 h)
 
       pub negated-full :
           n.full ≡ true
-          → Conditions (deletes-of (becoming frame) (effect-tree frame formulas effects e) v a d) frame formulas effects notes' at before after s2 n
+          → Conditions (deletes_of (becoming frame) (effect_tree frame formulas effects e) v a d) frame formulas effects notes' at before after s2 n
       unfolding tree
-      negated-full q = conditions-as freed (conditions-stop (λ c. join plain d c) (λ c. steady-join plain d c) x q)
+      negated-full q = conditions-as freed (conditions_stop (λ c. join plain d c) (λ c. steady_join plain d c) x q)
 
       pub negated-join-asks : n.full ≡ false → JoinReady frame.rows n.rows after.table d n.row
       negated-join-asks q =
@@ -238,56 +238,56 @@ module _ {notes : List ℕ} (frame : Frame) (formulas effects : List ℕ) (at : 
           {last : Store} {z : Step}
           → n.full ≡ false
           → Builds (join plain d n.row) frame (size_of n) after last z
-          → Conditions (deletes-of (becoming frame) (effect-tree frame formulas effects e) v a d) frame formulas effects notes' at before last s2 z
+          → Conditions (deletes_of (becoming frame) (effect_tree frame formulas effects e) v a d) frame formulas effects notes' at before last s2 z
       unfolding tree
       negated-joined q b =
           conditions-as freed
-          (conditions-bind (λ c. join plain d c) x q
-          (conditions-leaf (steady-join plain d n.row) (x.noted q) (x.memo q) (x.effect-memo q) b))
+          (conditions_bind (λ c. join plain d c) x q
+          (conditions_leaf (steady_join plain d n.row) (x.noted q) (x.memo q) (x.effect_memo q) b))
 
 -- A, D, N.
 module _ (becomes : Becoming) (steady : (p : Polarity) (f : Formula) → Steady (becomes p f)) (v : ℕ) (effect : Effect) where
   last_of : ℕ → ℕ → Build Changes
   last_of a d =
-      bind (deletes-of becomes effect v a d) (λ k. give (record { variable = v; adds = a; deletes = k }))
+      bind (deletes_of becomes effect v a d) (λ k. give (record { variable = v; adds = a; deletes = k }))
 
   steady-last : (a d : ℕ) → Steady (last_of a d)
   unfolding last_of
-  steady-last a d = steady-bind (steady-deletes becomes steady effect v a d) (λ k. steady-give _)
+  steady-last a d = steady_bind (steady-deletes becomes steady effect v a d) (λ k. steady_give _)
 
   after-set : ℕ → Build Changes
   after-set a = bind (condition becomes plain (clears v) effect) (λ d. last_of a d)
 
   steady-after : (a : ℕ) → Steady (after-set a)
   unfolding after-set
-  steady-after a = steady-bind (steady-condition becomes steady plain (clears v) effect) (λ d. steady-last a d)
+  steady-after a = steady_bind (steady-condition becomes steady plain (clears v) effect) (λ d. steady-last a d)
 
   module _ {frame : Frame} {formulas effects notes : List ℕ} {at : Size} {before mid : Store} {s2 : List ℕ} {a : Step}
       (x : Conditions (condition becomes plain (sets v) effect) frame formulas effects notes at before mid s2 a) where
     pub set_full :
         {last : Size} {c : Changes}
         → a.full ≡ true
-        → Makes (changes-of becomes effect v) frame formulas effects at before mid s2 true last c
-    unfolding changes-of after-set last_of
-    set_full q = makes-stop after-set (makes-row x) steady-after q
+        → Makes (changes_of becomes effect v) frame formulas effects at before mid s2 true last c
+    unfolding changes_of after-set last_of
+    set_full q = makes-stop after-set (makes_row x) steady-after q
 
     module _ (q : a.full ≡ false) {notes' : List ℕ} {after : Store} {s3 : List ℕ} {d : Step}
         (y : Conditions (condition becomes plain (clears v) effect) frame formulas effects notes' (size_of a) mid after s3 d) where
       pub clear-full :
           {last : Size} {c : Changes}
           → d.full ≡ true
-          → Makes (changes-of becomes effect v) frame formulas effects at before after s3 true last c
-      unfolding changes-of after-set last_of
-      clear-full g = makes-bind after-set (makes-row x) q (makes-stop (last_of a.row) (makes-row y) (steady-last a.row) g)
+          → Makes (changes_of becomes effect v) frame formulas effects at before after s3 true last c
+      unfolding changes_of after-set last_of
+      clear-full g = makes-bind after-set (makes_row x) q (makes-stop (last_of a.row) (makes_row y) (steady-last a.row) g)
 
       pub change-made :
           {notes'' : List ℕ} {last : Store} {s4 : List ℕ} {k : Step}
           → d.full ≡ false
-          → Conditions (deletes-of becomes effect v a.row d.row) frame formulas effects notes'' (size_of d) after last s4 k
-          → Makes (changes-of becomes effect v) frame formulas effects at before last s4 k.full (size_of k)
+          → Conditions (deletes_of becomes effect v a.row d.row) frame formulas effects notes'' (size_of d) after last s4 k
+          → Makes (changes_of becomes effect v) frame formulas effects at before last s4 k.full (size_of k)
           (record { variable = v; adds = a.row; deletes = k.row })
-      unfolding changes-of after-set last_of
+      unfolding changes_of after-set last_of
       change-made g z =
-          makes-bind after-set (makes-row x) q
-          (makes-bind (last_of a.row) (makes-row y) g
-          (makes-map {B = Changes} (λ k. record { variable = v; adds = a.row; deletes = k }) (makes-row z)))
+          makes-bind after-set (makes_row x) q
+          (makes-bind (last_of a.row) (makes_row y) g
+          (makes_map {B = Changes} (λ k. record { variable = v; adds = a.row; deletes = k }) (makes_row z)))

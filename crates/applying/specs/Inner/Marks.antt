@@ -1,7 +1,7 @@
 -- What the passes over scratch leave: the values of the formulas stand from 0 on, the marks of the effects behind them, from `at` on.
 -- Only the contracts of inner functions cite this file.
 use Rattle.std.specs.Prelude.{ℕ, zero, suc, ◌+◌, ◌*◌, ◌≤◌, ◌<◌, ◌≡◌, Bool, true, false, cond, not, ◌&&◌, ◌↔◌, ◌⊎◌, List, length, get_or, set, drop, eqb}
-use Rattle.task.specs.Table.{row_at, both-kind, under-kind, effect-kind}
+use Rattle.task.specs.Table.{row_at, both_kind, under_kind, effect_kind}
 use Rattle.task.specs.Rules.{EffectRule}
 
 -- byte i of scratch is not 0: formula i holds; and, for i = at + k, effect row k is marked
@@ -30,16 +30,16 @@ pub record Changeable (words : List ℕ) (kind : ℕ) (scratch : List ℕ) (at n
 
 -- row k hands on to row j: "both" to its two effects, "under" to its effect if the formula holds
 pub data HandsTo (words : List ℕ) (holding : ℕ → Bool) (k : ℕ) : ℕ → Type 0 where
-  to-left : effect-kind (row_at words k).kind ≡ both-kind → HandsTo words holding k (row_at words k).a
-  to-right : effect-kind (row_at words k).kind ≡ both-kind → HandsTo words holding k (row_at words k).b
+  to_left : effect_kind (row_at words k).kind ≡ both_kind → HandsTo words holding k (row_at words k).a
+  to_right : effect_kind (row_at words k).kind ≡ both_kind → HandsTo words holding k (row_at words k).b
   to_inner :
-      effect-kind (row_at words k).kind ≡ under-kind
+      effect_kind (row_at words k).kind ≡ under_kind
       → holding (row_at words k).a ≡ true
       → HandsTo words holding k (row_at words k).b
 
 -- the rows that act when the root is carried out
 pub data Reached (words : List ℕ) (holding : ℕ → Bool) (root : ℕ) : ℕ → Type 0 where
-  at-root : Reached words holding root root
+  at_root : Reached words holding root root
   handed : (k j : ℕ) → Reached words holding root k → HandsTo words holding k j → Reached words holding root j
 
 -- what marking from row `root` down asks: v variables, the rows and their marks are there, and the rows keep their rule
@@ -49,7 +49,7 @@ pub record Markable (words : List ℕ) (v at root : ℕ) (scratch : List ℕ) : 
   pub rule :
       (k : ℕ)
       → k ≤ root
-      → EffectRule v at k (effect-kind (row_at words k).kind) (row_at words k).a (row_at words k).b
+      → EffectRule v at k (effect_kind (row_at words k).kind) (row_at words k).a (row_at words k).b
 
 -- what it leaves, every byte of it: the values as they were; of the rows up to the root, 1 for those that act and 0 for the others; behind them
 -- what stood there
@@ -74,7 +74,7 @@ pub record HandedOn (words : List ℕ) (at k : ℕ) (before after : List ℕ) : 
 pub record Begun (at root : ℕ) (before after : List ℕ) : Type 0 where
   pub same : length after ≡ length before
   pub values : (i : ℕ) → i < at → get_or after i 0 ≡ get_or before i 0
-  pub root-marked : marked after at root ≡ true
+  pub root_marked : marked after at root ≡ true
   pub only : (k : ℕ) → k < root → marked after at k ≡ false
   pub bits : (k : ℕ) → k ≤ root → get_or after (at + k) 0 ≤ 1
   pub behind : (k : ℕ) → root < k → get_or after (at + k) 0 ≡ get_or before (at + k) 0

@@ -6,8 +6,8 @@ use Rattle.formula_builder.specs.declared.Frame.{Frame}
 use Rattle.atom_sets.specs.Inner.Sets.{set_words, sets_end, lacks, Sets}
 
 -- where the set of row e begins
-unfoldable pub set-start : Frame → ℕ → ℕ
-set-start frame e = 4 * frame.effects + set_words frame * e
+unfoldable pub set_start : Frame → ℕ → ℕ
+set_start frame e = 4 * frame.effects + set_words frame * e
 
 -- word k of those at a and those at b together
 unfoldable pub united : List ℕ → ℕ → ℕ → ℕ → ℕ
@@ -82,8 +82,8 @@ pub record SetOf (frame : Frame) (effects notes : List ℕ) (i : ℕ) : Type 0 w
 -- Row i has its set, and the words around it are as they were.
 pub record FoundSet (frame : Frame) (effects : List ℕ) (i : ℕ) (before after : List ℕ) : Type 0 where
   pub set : SetOf frame effects after i
-  pub ahead : (j : ℕ) → j < set-start frame i → get_or after j 0 ≡ get_or before j 0
-  pub behind : (j : ℕ) → set-start frame (i + 1) ≤ j → get_or after j 0 ≡ get_or before j 0
+  pub ahead : (j : ℕ) → j < set_start frame i → get_or after j 0 ≡ get_or before j 0
+  pub behind : (j : ℕ) → set_start frame (i + 1) ≤ j → get_or after j 0 ≡ get_or before j 0
 
 -- All rows have their sets, and the words around them are as they were. Whether a set holds more atoms than stand in its row is left open: only what
 -- it lacks is built upon (`Sets`), and the rest costs time alone.

@@ -8,24 +8,24 @@ unfoldable pub set_words : Frame → ℕ
 set_words frame = (frame.variables + 31) / 32 * 4
 
 -- where the word of variable v in the set of row e stands: behind four other words for each row
-unfoldable pub set-place : Frame → ℕ → ℕ → ℕ
-set-place frame v e = 4 * frame.effects + (set_words frame * e + v / 8)
+unfoldable pub set_place : Frame → ℕ → ℕ → ℕ
+set_place frame v e = 4 * frame.effects + (set_words frame * e + v / 8)
 
 -- where the sets end
 unfoldable pub sets_end : Frame → ℕ
 sets_end frame = 4 * frame.effects + set_words frame * frame.effects
 
 -- the bit of an atom in its word: that of set v, behind it that of clear v
-unfoldable pub atom-bit : Bool → ℕ → ℕ
-atom-bit clear v = 2 * (v % 8) + cond clear 1 0
+unfoldable pub atom_bit : Bool → ℕ → ℕ
+atom_bit clear v = 2 * (v % 8) + cond clear 1 0
 
 -- whether the set of row e lacks set v, or clear v
 unfoldable pub lacks : Frame → List ℕ → Bool → ℕ → ℕ → Bool
-lacks frame notes clear v e = eqb (get_or notes (set-place frame v e) 0 / 2 ^ atom-bit clear v % 2) 0
+lacks frame notes clear v e = eqb (get_or notes (set_place frame v e) 0 / 2 ^ atom_bit clear v % 2) 0
 
 -- the word of variable v in the set of row e, without the bits of the variables below v
-unfoldable pub set-from : Frame → List ℕ → ℕ → ℕ → ℕ
-set-from frame notes v e = get_or notes (set-place frame v e) 0 / 2 ^ (2 * (v % 8))
+unfoldable pub set_from : Frame → List ℕ → ℕ → ℕ → ℕ
+set_from frame notes v e = get_or notes (set_place frame v e) 0 / 2 ^ (2 * (v % 8))
 
 -- Variable v and row e are within the limits.
 pub record InSet (frame : Frame) (v e : ℕ) : Type 0 where

@@ -1,21 +1,21 @@
 -- Building in parts: what each part asks, and what stands behind it.
 use Rattle.std.specs.Prelude.{ℕ, zero, suc, ◌+◌, ◌*◌, ◌≤◌, ◌<◌, ◌≡◌, true, false, List, length, get_or}
-use Rattle.task.specs.Table.{row_at, operator-width, operator-at}
+use Rattle.task.specs.Table.{row_at, operator_width, operator_at}
 use Rattle.normal_form.specs.Builder.{St, Build, bind, start, plain}
 use Rattle.normal_form.specs.Operators.{Changes}
 use Rattle.formula_builder.specs.declared.Frame.{Frame}
 use Rattle.formula_builder.specs.declared.Size.{Size}
 use Rattle.formula_builder.specs.declared.Step.{Step}
 use Rattle.formula_builder.specs.Inner.Held.{Store, store, held, size_of, RowsReady, TwinsNamed, Within}
-use Rattle.images.specs.Inner.Images.{image-at, Source, Asks, Images}
+use Rattle.images.specs.Inner.Images.{image_at, Source, Asks, Images}
 use Rattle.conditions.specs.Inner.Conditions.{EffectSource}
 use Rattle.variable_changes.specs.Inner.Stands.{Stands, Leaves}
-use Rattle.change_records.specs.Inner.Recorded.{acting, changes-from}
-use Rattle.operators.specs.Inner.Operator.{operator-here, operators-built}
+use Rattle.change_records.specs.Inner.Recorded.{acting, changes_from}
+use Rattle.operators.specs.Inner.Operator.{operator_here, operators_built}
 use Rattle.building.specs.declared.Progress.{Progress}
 
-abbrev pub size-at : Progress → Size
-size-at p = record { rows = p.rows; twins = p.twins }
+abbrev pub size_at : Progress → Size
+size_at p = record { rows = p.rows; twins = p.twins }
 
 -- the answer without room, so many operators taken
 abbrev pub stopped : ℕ → Progress
@@ -33,16 +33,16 @@ pub record Fresh (frame : Frame) (table : List ℕ) : Type 0 where
 
 -- What the start has stands in the table, whatever stands among the twins. Which words index it is left open, as in `FirstTwo`.
 pub record Started (frame : Frame) (table : List ℕ) (p : Progress) : Type 0 where
-  pub state : (originals : List ℕ) → start ≡ held (size-at p) (store table originals)
+  pub state : (originals : List ℕ) → start ≡ held (size_at p) (store table originals)
   pub rows : RowsReady frame.rows p.rows table
   pub two : 2 ≤ p.rows
   pub twins : p.twins ≡ 0
-  pub named : (originals : List ℕ) → TwinsNamed frame (size-at p) (store table originals)
+  pub named : (originals : List ℕ) → TwinsNamed frame (size_at p) (store table originals)
 
 -- It stands there, or there is no room for it, and the table is as it was; no operator is taken.
 pub record Begun (frame : Frame) (before table : List ℕ) (p : Progress) : Type 0 where
   pub none : p.operators ≡ 0
-  pub no-records : p.records ≡ 0
+  pub no_records : p.records ≡ 0
   pub done : p.full ≡ false → Started frame table p
   pub over : p.full ≡ true → Within frame start → ⊥
   pub answer : p.full ≡ true → p ≡ stopped 0
@@ -51,12 +51,12 @@ pub record Begun (frame : Frame) (before table : List ℕ) (p : Progress) : Type
 -- The source keeps the rules, formulas become their images, scratch is all 0, and there are no twins.
 pub record Blank (frame : Frame) (formulas effects originals scratch : List ℕ) : Type 0 where
   pub source : Source frame formulas scratch
-  pub effect-source : EffectSource frame effects scratch
+  pub effect_source : EffectSource frame effects scratch
   pub imaged : frame.copied ≡ 0
   pub twins : frame.twins ≤ length originals
   pub variables : frame.variables + frame.twins ≤ 512
-  pub blank-originals : Zeros originals
-  pub blank-scratch : Zeros scratch
+  pub blank_originals : Zeros originals
+  pub blank_scratch : Zeros scratch
 
 -- The tables hold a state, and building may go on.
 pub record Stood (t : St) (frame : Frame) (formulas effects : List ℕ) (at : Size) (s : Store) (scratch : List ℕ) : Type 0 where
@@ -64,27 +64,27 @@ pub record Stood (t : St) (frame : Frame) (formulas effects : List ℕ) (at : Si
   pub stands : Stands frame formulas effects at s scratch
 
 -- Of operator o, built where those before it are: the row of its precondition, and its changes.
-unfoldable pub precondition-here : Frame → List ℕ → List ℕ → List ℕ → ℕ → ℕ
-precondition-here frame formulas effects operators o =
-    (image-at frame formulas plain (operator-at operators o).precondition (operators-built frame formulas effects operators o start).st).value
+unfoldable pub precondition_here : Frame → List ℕ → List ℕ → List ℕ → ℕ → ℕ
+precondition_here frame formulas effects operators o =
+    (image_at frame formulas plain (operator_at operators o).precondition (operators_built frame formulas effects operators o start).st).value
 
-unfoldable pub changes-here : Frame → List ℕ → List ℕ → List ℕ → ℕ → List Changes
-changes-here frame formulas effects operators o =
-    (operator-here frame formulas effects operators o (operators-built frame formulas effects operators o start).st).value
+unfoldable pub changes_here : Frame → List ℕ → List ℕ → List ℕ → ℕ → List Changes
+changes_here frame formulas effects operators o =
+    (operator_here frame formulas effects operators o (operators_built frame formulas effects operators o start).st).value
 
 -- how many changes of the first n operators bring rules
 unfoldable pub many : Frame → List ℕ → List ℕ → List ℕ → ℕ → ℕ
 many frame formulas effects operators zero = 0
 many frame formulas effects operators (suc n) =
-    many frame formulas effects operators n + length (acting (changes-here frame formulas effects operators n))
+    many frame formulas effects operators n + length (acting (changes_here frame formulas effects operators n))
 
 -- Operator o is recorded: its precondition, where its changes end, and the changes that bring rules.
 pub record Kept (frame : Frame) (formulas effects operators records : List ℕ) (o : ℕ) : Type 0 where
-  pub precondition : (row_at records o).kind ≡ precondition-here frame formulas effects operators o
+  pub precondition : (row_at records o).kind ≡ precondition_here frame formulas effects operators o
   pub end : (row_at records o).a ≡ many frame formulas effects operators (suc o)
   pub changes :
-      changes-from records (many frame formulas effects operators o) (length (acting (changes-here frame formulas effects operators o)))
-      ≡ acting (changes-here frame formulas effects operators o)
+      changes_from records (many frame formulas effects operators o) (length (acting (changes_here frame formulas effects operators o)))
+      ≡ acting (changes_here frame formulas effects operators o)
 
 -- The first n are, with so many changes.
 pub record AllKept (frame : Frame) (formulas effects operators records : List ℕ) (n k : ℕ) : Type 0 where
@@ -98,23 +98,23 @@ pub record AllKept (frame : Frame) (formulas effects operators records : List �
 pub record Taken (frame : Frame) (formulas effects operators : List ℕ) (s : Store) (scratch records : List ℕ) (p : Progress) : Type 0 where
   pub done :
       p.full ≡ false
-      → Stood (operators-built frame formulas effects operators p.operators start).st frame formulas effects (size-at p) s scratch
+      → Stood (operators_built frame formulas effects operators p.operators start).st frame formulas effects (size_at p) s scratch
   pub kept : p.full ≡ false → AllKept frame formulas effects operators records p.operators p.records
   pub over :
       p.full ≡ true
-      → Within frame (operators-built frame formulas effects operators p.operators start).st
+      → Within frame (operators_built frame formulas effects operators p.operators start).st
       → many frame formulas effects operators p.operators ≤ 2048
       → ⊥
 
 -- There is a next operator, and the notes are right unless there is no room.
 pub record Takes (frame : Frame) (formulas effects notes operators : List ℕ) (s : Store) (scratch records : List ℕ) (p : Progress) : Type 0 where
   pub taken : Taken frame formulas effects operators s scratch records p
-  pub leaves : Leaves p.full frame formulas effects notes (size-at p) s
-  pub words : operator-width * p.operators + operator-width ≤ length operators
+  pub leaves : Leaves p.full frame formulas effects notes (size_at p) s
+  pub words : operator_width * p.operators + operator_width ≤ length operators
   pub limit : p.operators < 256
   pub room : 6912 ≤ length records
-  pub precondition : (operator-at operators p.operators).precondition < frame.formulas
-  pub effect : (operator-at operators p.operators).effect < frame.effects
+  pub precondition : (operator_at operators p.operators).precondition < frame.formulas
+  pub effect : (operator_at operators p.operators).effect < frame.effects
 
 -- It is taken, or there is no room: then the answer says so.
 pub record Took (frame : Frame) (formulas effects operators : List ℕ) (s : Store) (scratch records : List ℕ) (p r : Progress) : Type 0 where
@@ -123,23 +123,23 @@ pub record Took (frame : Frame) (formulas effects operators : List ℕ) (s : Sto
   pub answer : r.full ≡ true → r ≡ stopped (p.operators + 1)
 
 -- the operators in order, the goal last
-unfoldable pub whole-built : Frame → List ℕ → List ℕ → List ℕ → ℕ → ℕ → Build ℕ
-whole-built frame formulas effects operators count goal =
-    bind (operators-built frame formulas effects operators count) (λ _. image-at frame formulas plain goal)
+unfoldable pub whole_built : Frame → List ℕ → List ℕ → List ℕ → ℕ → ℕ → Build ℕ
+whole_built frame formulas effects operators count goal =
+    bind (operators_built frame formulas effects operators count) (λ _. image_at frame formulas plain goal)
 
 -- Unless there is no room, the goal's image may be built.
 pub record TakesGoal (frame : Frame) (formulas : List ℕ) (goal : ℕ) (s : Store) (scratch : List ℕ) (p : Progress) : Type 0 where
-  pub asks : p.full ≡ false → Asks frame formulas (size-at p) s scratch goal
+  pub asks : p.full ≡ false → Asks frame formulas (size_at p) s scratch goal
 
 -- It is built, as `Images` says; without room nothing is, and the answer says so.
 pub record TookGoal (frame : Frame) (formulas : List ℕ) (goal : ℕ) (before after : Store) (scratch scratch' : List ℕ) (p : Progress) (r : Step) : Type 0 where
-  pub done : p.full ≡ false → Images (image-at frame formulas plain goal) frame formulas (size-at p) before after scratch scratch' r
+  pub done : p.full ≡ false → Images (image_at frame formulas plain goal) frame formulas (size_at p) before after scratch scratch' r
   pub over : p.full ≡ true → r ≡ record { rows = 0; twins = 0; row = 0; full = true }
 
 -- All of it stands, the goal being the last row that was built or found, and each operator is recorded.
 pub record Whole (frame : Frame) (formulas effects operators : List ℕ) (count goal : ℕ) (s : Store) (scratch records : List ℕ) (r : Step) : Type 0 where
-  pub value : (whole-built frame formulas effects operators count goal start).value ≡ r.row
-  pub stood : Stood (whole-built frame formulas effects operators count goal start).st frame formulas effects (size_of r) s scratch
+  pub value : (whole_built frame formulas effects operators count goal start).value ≡ r.row
+  pub stood : Stood (whole_built frame formulas effects operators count goal start).st frame formulas effects (size_of r) s scratch
   pub kept : AllKept frame formulas effects operators records count (many frame formulas effects operators count)
 
 -- It does, or there is no room for it.
@@ -147,6 +147,6 @@ pub record FromStart (frame : Frame) (formulas effects operators : List ℕ) (co
   pub done : r.full ≡ false → Whole frame formulas effects operators count goal s scratch records r
   pub over :
       r.full ≡ true
-      → Within frame (whole-built frame formulas effects operators count goal start).st
+      → Within frame (whole_built frame formulas effects operators count goal start).st
       → many frame formulas effects operators count ≤ 2048
       → ⊥

@@ -14,8 +14,8 @@ acting [] = []
 acting (c ∷ cs) = cond (idle c) (acting cs) (c ∷ acting cs)
 
 -- change k of the records
-unfoldable pub change-at : List ℕ → ℕ → Changes
-change-at records k =
+unfoldable pub change_at : List ℕ → ℕ → Changes
+change_at records k =
     record {
       variable = (row_at records (256 + k)).kind;
       adds = (row_at records (256 + k)).a;
@@ -23,8 +23,8 @@ change-at records k =
     }
 
 -- n changes from one on
-unfoldable pub changes-from : List ℕ → ℕ → ℕ → List Changes
-changes-from records from n = upto n (λ i. change-at records (from + i))
+unfoldable pub changes_from : List ℕ → ℕ → ℕ → List Changes
+changes_from records from n = upto n (λ i. change_at records (from + i))
 
 -- There is room for all records, and a number of changes that is far from a word's limit.
 pub record Keeps (k : ℕ) (records : List ℕ) : Type 0 where
@@ -40,6 +40,6 @@ pub record Opens (k : ℕ) (records : List ℕ) : Type 0 where
 -- it is left open which of them stand: `take_operator` then says that there is none, and nothing reads the records (`Taken`).
 pub record Recorded (cs : List Changes) (from : ℕ) (before after : List ℕ) (to : ℕ) : Type 0 where
   pub count : to ≡ from + length (acting cs)
-  pub there : to ≤ 2048 → changes-from after from (length (acting cs)) ≡ acting cs
+  pub there : to ≤ 2048 → changes_from after from (length (acting cs)) ≡ acting cs
   pub below : (j : ℕ) → j < 256 + from → row_at after j ≡ row_at before j
   pub behind : (j : ℕ) → 256 + to ≤ j → row_at after j ≡ row_at before j

@@ -2,11 +2,11 @@
 use Rattle.std.specs.Prelude.{ℕ, ◌+◌, ◌<◌, ◌≡◌, true, List, [], ◌∷◌}
 use Rattle.task.specs.Table.{Task}
 use Rattle.task.specs.Semantics.{apply}
-use Rattle.task.specs.Run.{effect-of-operator, applicable, charge}
+use Rattle.task.specs.Run.{effect_of_operator, applicable, charge}
 
 -- the state that operator o leaves
 unfoldable pub next : Task → List ℕ → ℕ → List ℕ
-next t s o = apply s (effect-of-operator t o)
+next t s o = apply s (effect_of_operator t o)
 
 -- the numbers are all carried out from s: they lead to the state `to`, and are charged c in all
 pub data Leads (t : Task) : (s numbers to : List ℕ) → (c : ℕ) → Type 0 where

@@ -2,7 +2,7 @@
 -- with the best list of all. A state is a list of V bits.
 use Rattle.std.specs.Prelude.{ℕ, ◌+◌, ◌<◌, ◌≡◌, true, false, List, [], ◌∷◌, ◌++◌, length}
 use Rattle.task.specs.Table.{Task}
-use Rattle.task.specs.Run.{goal-holds, applicable, charge}
+use Rattle.task.specs.Run.{goal_holds, applicable, charge}
 use Rattle.cheapest_plan.specs.Order.{Before}
 use Rattle.cheapest_plan.specs.Inner.Leads.{next, Leads}
 use Rattle.cheapest_plan.specs.Inner.States.{Bits}
@@ -14,8 +14,8 @@ pub data NoLater (c : ℕ) (p : List ℕ) (d : ℕ) (q : List ℕ) : Type 0 wher
 
 -- less by cost and steps alone: what a queue goes by
 pub data KeyLess (c : ℕ) (p : List ℕ) (d : ℕ) (q : List ℕ) : Type 0 where
-  less-cost : c < d → KeyLess c p d q
-  less-steps : c ≡ d → length p < length q → KeyLess c p d q
+  less_cost : c < d → KeyLess c p d q
+  less_steps : c ≡ d → length p < length q → KeyLess c p d q
 
 pub data Status : Type 0 where
   unreached : Status
@@ -32,7 +32,7 @@ pub record Reached (now : Status) (c : ℕ) (p : List ℕ) : Type 0 where
   pub numbers : List ℕ
   pub cost : ℕ
   pub has : Has now numbers cost
-  pub no-later : NoLater cost numbers c p
+  pub no_later : NoLater cost numbers c p
 
 -- What holds all along. From state `last`, which was taken last, k operators have been stepped; from all others that are taken, all.
 pub record Searching (t : Task) (status : List ℕ → Status) (last : List ℕ) (k : ℕ) : Type 0 where
@@ -52,8 +52,8 @@ pub record Searching (t : Task) (status : List ℕ → Status) (last : List ℕ)
       → (q : List ℕ) (d : ℕ)
       → Leads t t.initial q s d
       → NoLater c p d q
-  pub no-goal :
-      (s : List ℕ) → Bits (length t.initial) s → (p : List ℕ) (c : ℕ) → status s ≡ taken p c → goal-holds t s ≡ false
+  pub no_goal :
+      (s : List ℕ) → Bits (length t.initial) s → (p : List ℕ) (c : ℕ) → status s ≡ taken p c → goal_holds t s ≡ false
   -- the initial state is reached by the empty list, and what an operator leads to from a state that is taken by that state's list and the operator
   pub start : Reached (status t.initial) 0 []
   pub follows :
@@ -73,4 +73,4 @@ pub record Changed (v : ℕ) (status after : List ℕ → Status) (s : List ℕ)
 
 -- no queued state has a lesser key
 pub record LeastKey (v : ℕ) (status : List ℕ → Status) (p : List ℕ) (c : ℕ) : Type 0 where
-  pub none-less : (y : List ℕ) → Bits v y → (r : List ℕ) (e : ℕ) → status y ≡ queued r e → KeyLess e r c p → ⊥
+  pub none_less : (y : List ℕ) → Bits v y → (r : List ℕ) (e : ℕ) → status y ≡ queued r e → KeyLess e r c p → ⊥

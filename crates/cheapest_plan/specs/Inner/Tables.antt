@@ -3,40 +3,40 @@ use Rattle.std.specs.Prelude.{ℕ, ◌+◌, ◌*◌, ◌/◌, ◌%◌, ◌^◌, 
 use Rattle.task.specs.Table.{Task}
 use Rattle.task.specs.Rules.{Checked}
 use Rattle.task.specs.Run.{applicable, charge}
-use Rattle.state_queue.specs.Inner.Queue.{key, queue-cost, Roomy, Queue}
+use Rattle.state_queue.specs.Inner.Queue.{key, queue_cost, Roomy, Queue}
 use Rattle.cheapest_plan.specs.Order.{FirstByNumbers}
 use Rattle.cheapest_plan.specs.Inner.Leads.{next}
-use Rattle.cheapest_plan.specs.Inner.States.{state-of}
+use Rattle.cheapest_plan.specs.Inner.States.{state_of}
 use Rattle.cheapest_plan.specs.Inner.Search.{NoLater, Status, unreached, queued, taken, Searching}
 
 -- The last step of list p: 0 if p is empty; else its number, and before it the list of a state that was taken.
 pub data Ends (v n : ℕ) (status : List ℕ → Status) (p : List ℕ) (step : ℕ) : Type 0 where
-  at-start : p ≡ [] → step ≡ 0 → Ends v n status p step
-  by-step :
+  at_start : p ≡ [] → step ≡ 0 → Ends v n status p step
+  by_step :
       (parent o : ℕ) (front : List ℕ) (c : ℕ)
       → parent < n
       → o < 256
-      → status (state-of v parent) ≡ taken front c
+      → status (state_of v parent) ≡ taken front c
       → step ≡ 256 * (parent + 1) + o
       → p ≡ front ++ (o ∷ [])
       → Ends v n status p step
 
 -- most that a queued state costs, and most steps of its list
-abbrev pub most-cost : ℕ
-most-cost = 134215680
+abbrev pub most_cost : ℕ
+most_cost = 134215680
 
 -- The words of state s: its cost and one, 0 if it was taken, the largest if it was not reached; the steps of its list; and the last of them.
 pub data Says (v n : ℕ) (status : List ℕ → Status) (words : List ℕ) (s : ℕ) : Status → Type 0 where
-  says-unreached : get_or words s 0 ≡ 4294967295 → Says v n status words s unreached
-  says-queued :
+  says_unreached : get_or words s 0 ≡ 4294967295 → Says v n status words s unreached
+  says_queued :
       {p : List ℕ} {c : ℕ}
       → get_or words s 0 ≡ c + 1
       → get_or words (n + s) 0 ≡ length p
       → Ends v n status p (get_or words (2 * n + s) 0)
-      → c ≤ most-cost
+      → c ≤ most_cost
       → length p ≤ 1024
       → Says v n status words s (queued p c)
-  says-taken :
+  says_taken :
       {p : List ℕ} {c : ℕ}
       → get_or words s 0 ≡ 0
       → get_or words (n + s) 0 ≡ length p
@@ -44,7 +44,7 @@ pub data Says (v n : ℕ) (status : List ℕ → Status) (words : List ℕ) (s :
       → Says v n status words s (taken p c)
 
 pub record Holds (v n : ℕ) (status : List ℕ → Status) (words : List ℕ) : Type 0 where
-  pub at : (s : ℕ) → s < n → Says v n status words s (status (state-of v s))
+  pub at : (s : ℕ) → s < n → Says v n status words s (status (state_of v s))
 
 -- Two lists of one length by their last steps. States that were taken have lists of their own.
 pub record Comparable (n : ℕ) (words : List ℕ) (x y : ℕ) : Type 0 where
@@ -55,18 +55,18 @@ pub record Comparable (n : ℕ) (words : List ℕ) (x y : ℕ) : Type 0 where
       (a b : ℕ) (p : List ℕ) (c d : ℕ)
       → a < n
       → b < n
-      → status (state-of v a) ≡ taken p c
-      → status (state-of v b) ≡ taken p d
+      → status (state_of v a) ≡ taken p c
+      → status (state_of v b) ≡ taken p d
       → a ≡ b
   pub first : List ℕ
   pub second : List ℕ
   pub first_ends : Ends v n status first x
-  pub second-ends : Ends v n status second y
+  pub second_ends : Ends v n status second y
   pub alike : length first ≡ length second
 
 -- whether list p comes first by its numbers
 pub data Verdict (p q : List ℕ) : Bool → Type 0 where
-  comes-first : FirstByNumbers p q → Verdict p q true
+  comes_first : FirstByNumbers p q → Verdict p q true
   not_first : (FirstByNumbers p q → ⊥) → Verdict p q false
 
 pub record Compares (n : ℕ) (words : List ℕ) (x y : ℕ) (r : Bool) : Type 0 where
@@ -85,9 +85,9 @@ pub record Stepping (t : Task) (n : ℕ) (words : List ℕ) (s : List ℕ) (k : 
   pub holds : Holds (length t.initial) n status words
   pub queue : Queue words n
   pub searching : Searching t status s k
-  pub is-taken : status s ≡ taken p c
+  pub is_taken : status s ≡ taken p c
   -- a list that goes on from p ends with an operator that was stepped
-  pub fresh : (x o e : ℕ) → x < n → status (state-of (length t.initial) x) ≡ queued (p ++ (o ∷ [])) e → o < k
+  pub fresh : (x o e : ℕ) → x < n → status (state_of (length t.initial) x) ≡ queued (p ++ (o ∷ [])) e → o < k
 
 -- What is kept of the comparisons of list p with those of states that were taken, for each of these: 0 if there was none, 2 if p comes first by its
 -- numbers; of the state of p itself that it does not.
@@ -97,7 +97,7 @@ pub record Noted (v n : ℕ) (status : List ℕ → Status) (p notes : List ℕ)
       (b : ℕ) (q : List ℕ) (d : ℕ)
       → b < n
       → (get_or notes b 0 ≡ 0 → ⊥)
-      → status (state-of v b) ≡ taken q d
+      → status (state_of v b) ≡ taken q d
       → length p ≡ length q
       → Verdict p q (eqb (get_or notes b 0) 2)
 
@@ -110,17 +110,17 @@ pub record Pairs (n : ℕ) (words : List ℕ) (a b : ℕ) (notes : List ℕ) : T
       (a b : ℕ) (p : List ℕ) (c d : ℕ)
       → a < n
       → b < n
-      → status (state-of v a) ≡ taken p c
-      → status (state-of v b) ≡ taken p d
+      → status (state_of v a) ≡ taken p c
+      → status (state_of v b) ≡ taken p d
       → a ≡ b
-  pub a-there : a < n
+  pub a_there : a < n
   pub b_there : b < n
   pub p : List ℕ
   pub c : ℕ
   pub q : List ℕ
   pub d : ℕ
-  pub a-is : status (state-of v a) ≡ taken p c
-  pub b-is : status (state-of v b) ≡ taken q d
+  pub a_is : status (state_of v a) ≡ taken p c
+  pub b_is : status (state_of v b) ≡ taken q d
   pub alike : length p ≡ length q
   pub noted : Noted v n status p notes
 
@@ -133,41 +133,41 @@ pub record Relaxable (n : ℕ) (words : List ℕ) (to cost steps step : ℕ) (no
   pub t : Task
   pub ground : Ground t n
   pub from : ℕ
-  pub from-state : from < n
+  pub from_state : from < n
   pub k : ℕ
   pub number : k < 256
   pub p : List ℕ
   pub c : ℕ
-  pub stepping : Stepping t n words (state-of (length t.initial) from) k p c
+  pub stepping : Stepping t n words (state_of (length t.initial) from) k p c
   pub noted : Noted (length t.initial) n stepping.status p notes
-  pub applies : applicable t (state-of (length t.initial) from) k ≡ true
+  pub applies : applicable t (state_of (length t.initial) from) k ≡ true
   pub there : to < n
-  pub target : state-of (length t.initial) to ≡ next t (state-of (length t.initial) from) k
-  pub costs : cost ≡ c + charge t (state-of (length t.initial) from) k + 1
+  pub target : state_of (length t.initial) to ≡ next t (state_of (length t.initial) from) k
+  pub costs : cost ≡ c + charge t (state_of (length t.initial) from) k + 1
   pub longer : steps ≡ length p + 1
   pub last : step ≡ 256 * (from + 1) + k
 
 -- the state that the operator is stepped from, the one that it leads to, and the new list and its cost
 module _ {n : ℕ} {words : List ℕ} {to cost steps step : ℕ} {notes : List ℕ} (h : Relaxable n words to cost steps step notes) where
-  abbrev pub left-state : List ℕ
-  left-state = state-of (length h.t.initial) h.from
+  abbrev pub left_state : List ℕ
+  left_state = state_of (length h.t.initial) h.from
 
-  abbrev pub new-state : List ℕ
-  new-state = next h.t (state-of (length h.t.initial) h.from) h.k
+  abbrev pub new_state : List ℕ
+  new_state = next h.t (state_of (length h.t.initial) h.from) h.k
 
-  abbrev pub new-list : List ℕ
-  new-list = h.p ++ (h.k ∷ [])
+  abbrev pub new_list : List ℕ
+  new_list = h.p ++ (h.k ∷ [])
 
-  abbrev pub new-cost : ℕ
-  new-cost = h.c + charge h.t (state-of (length h.t.initial) h.from) h.k
+  abbrev pub new_cost : ℕ
+  new_cost = h.c + charge h.t (state_of (length h.t.initial) h.from) h.k
 
   -- whether the list that stands at a state stays
   pub data Judged : Bool → Type 0 where
-    old-stays : Searching h.t h.stepping.status left-state (h.k + 1) → Judged true
+    old-stays : Searching h.t h.stepping.status left_state (h.k + 1) → Judged true
     new-comes :
-        ((r : List ℕ) (e : ℕ) → h.stepping.status new-state ≡ taken r e → ⊥)
-        → ((r : List ℕ) (e : ℕ) → h.stepping.status new-state ≡ queued r e → NoLater new-cost new-list e r)
-        → queue-cost cost * 4294967296 + steps ≤ key words n to
+        ((r : List ℕ) (e : ℕ) → h.stepping.status new_state ≡ taken r e → ⊥)
+        → ((r : List ℕ) (e : ℕ) → h.stepping.status new_state ≡ queued r e → NoLater new_cost new_list e r)
+        → queue_cost cost * 4294967296 + steps ≤ key words n to
         → Judged false
 
 pub record Judges (n : ℕ) (words : List ℕ) (to cost steps step : ℕ) (notes after : List ℕ) (r : Bool) : Type 0 where
@@ -179,7 +179,7 @@ pub record MayQueue (n : ℕ) (words : List ℕ) (state cost steps : ℕ) : Type
   pub roomy : Roomy n words
   pub queue : Queue words n
   pub there : state < n
-  pub sooner : queue-cost cost * 4294967296 + steps ≤ key words n state
+  pub sooner : queue_cost cost * 4294967296 + steps ≤ key words n state
 
 -- the words of all other states are as they were
 pub record Elsewhere (n state : ℕ) (before after : List ℕ) : Type 0 where
@@ -189,9 +189,9 @@ pub record Elsewhere (n state : ℕ) (before after : List ℕ) : Type 0 where
 
 pub record QueuedNow (n state cost steps step : ℕ) (before after : List ℕ) : Type 0 where
   pub queue : Queue after n
-  pub cost-now : get_or after state 0 ≡ cost
-  pub steps-now : get_or after (n + state) 0 ≡ steps
-  pub step-now : get_or after (2 * n + state) 0 ≡ step
+  pub cost_now : get_or after state 0 ≡ cost
+  pub steps_now : get_or after (n + state) 0 ≡ steps
+  pub step_now : get_or after (2 * n + state) 0 ≡ step
   pub elsewhere : Elsewhere n state before after
 
 -- a state that was taken stays so
@@ -207,4 +207,4 @@ pub record Relaxes (n : ℕ) (to cost steps step : ℕ) (notes before after r : 
   pub zeros : Zeros n before after
   pub told :
       (h : Relaxable n before to cost steps step notes)
-      → Noting h.t n after r (state-of (length h.t.initial) h.from) (h.k + 1) h.p h.c
+      → Noting h.t n after r (state_of (length h.t.initial) h.from) (h.k + 1) h.p h.c

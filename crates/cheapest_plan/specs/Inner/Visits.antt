@@ -3,19 +3,19 @@
 use Rattle.std.specs.Prelude.{ℕ, ◌+◌, ◌*◌, ◌≤◌, ◌<◌, ◌≡◌, Bool, true, false, List, length, get_or, drop}
 use Rattle.task.specs.declared.Head.{Head}
 use Rattle.task.specs.Bounded.{upto}
-use Rattle.task.specs.Table.{Task, row_at, operator-at, operator-width}
+use Rattle.task.specs.Table.{Task, row_at, operator_at, operator_width}
 use Rattle.task.specs.Semantics.{holds}
-use Rattle.task.specs.Tree.{formula-of}
-use Rattle.task.specs.Run.{goal-holds, operator-of, applicable}
+use Rattle.task.specs.Tree.{formula_of}
+use Rattle.task.specs.Run.{goal_holds, operator_of, applicable}
 use Rattle.task.specs.Inner.Rows.{FormulaKept}
 use Rattle.task.specs.Inner.Values.{bit, Values}
 use Rattle.operator_step.specs.Inner.Steps.{TablesReady}
-use Rattle.state_codes.specs.Inner.Masks.{next-code}
-use Rattle.state_queue.specs.Inner.Queue.{winner, Roomy, Queue, queued as is-queued}
-use Rattle.cheapest_plan.specs.Cheapest.{no-plan, plan-of, cheapest}
+use Rattle.state_codes.specs.Inner.Masks.{next_code}
+use Rattle.state_queue.specs.Inner.Queue.{winner, Roomy, Queue, queued as is_queued}
+use Rattle.cheapest_plan.specs.Cheapest.{no_plan, plan_of, cheapest}
 use Rattle.cheapest_plan.specs.Order.{FirstByNumbers}
 use Rattle.cheapest_plan.specs.Inner.Leads.{next}
-use Rattle.cheapest_plan.specs.Inner.States.{state-of}
+use Rattle.cheapest_plan.specs.Inner.States.{state_of}
 use Rattle.cheapest_plan.specs.Inner.Search.{NoLater, Status, queued, Searching, LeastKey}
 use Rattle.cheapest_plan.specs.Inner.Tables.{Ends, Holds, Ground, Stepping, Noting, Zeros}
 
@@ -24,7 +24,7 @@ pub record TaskIn (t : Task) (h : Head) (f e o : List ℕ) : Type 0 where
   pub variables : length t.initial ≡ h.variables
   pub formulas : t.formulas ≡ upto h.formulas (row_at f)
   pub effects : t.effects ≡ upto h.effects (row_at e)
-  pub operators : t.operators ≡ upto h.operators (operator-at o)
+  pub operators : t.operators ≡ upto h.operators (operator_at o)
   pub goal : t.goal ≡ h.goal
   pub ready : TablesReady h f e o
   pub few : h.operators ≤ 256
@@ -36,21 +36,21 @@ pub record Stage (n : ℕ) (operators : List ℕ) (count state cost steps : ℕ)
   pub ground : Ground t n
   pub number : length t.operators ≡ count
   pub few : count ≤ 256
-  pub there : operator-width * count ≤ length operators
+  pub there : operator_width * count ≤ length operators
   pub here : state < n
-  pub row : (i : ℕ) → i < count → operator-of t i ≡ operator-at operators i
-  pub precondition : (i : ℕ) → i < count → (operator-at operators i).precondition < length values
-  pub effect : (i : ℕ) → i < count → (operator-at operators i).effect < length masks
+  pub row : (i : ℕ) → i < count → operator_of t i ≡ operator_at operators i
+  pub precondition : (i : ℕ) → i < count → (operator_at operators i).precondition < length values
+  pub effect : (i : ℕ) → i < count → (operator_at operators i).effect < length masks
   pub applies :
       (i : ℕ)
       → i < count
-      → get_or values (operator-at operators i).precondition 0 ≡ bit (applicable t (state-of (length t.initial) state) i)
-  pub inside : (i : ℕ) → i < count → next-code state (get_or masks (operator-at operators i).effect 0) < n
+      → get_or values (operator_at operators i).precondition 0 ≡ bit (applicable t (state_of (length t.initial) state) i)
+  pub inside : (i : ℕ) → i < count → next_code state (get_or masks (operator_at operators i).effect 0) < n
   pub leads :
       (i : ℕ)
       → i < count
-      → state-of (length t.initial) (next-code state (get_or masks (operator-at operators i).effect 0))
-      ≡ next t (state-of (length t.initial) state) i
+      → state_of (length t.initial) (next_code state (get_or masks (operator_at operators i).effect 0))
+      ≡ next t (state_of (length t.initial) state) i
   pub p : List ℕ
   pub c : ℕ
   pub costs : cost ≡ c + 1
@@ -59,10 +59,10 @@ pub record Stage (n : ℕ) (operators : List ℕ) (count state cost steps : ℕ)
 -- k operators have been stepped
 module _ {n : ℕ} {operators : List ℕ} {count state cost steps : ℕ} {values masks : List ℕ} (h : Stage n operators count state cost steps values masks) where
   abbrev pub SteppedTo : List ℕ → ℕ → Type 0
-  SteppedTo words k = Stepping h.t n words (state-of (length h.t.initial) state) k h.p h.c
+  SteppedTo words k = Stepping h.t n words (state_of (length h.t.initial) state) k h.p h.c
 
   abbrev pub NotedTo : List ℕ → List ℕ → ℕ → Type 0
-  NotedTo words notes k = Noting h.t n words notes (state-of (length h.t.initial) state) k h.p h.c
+  NotedTo words notes k = Noting h.t n words notes (state_of (length h.t.initial) state) k h.p h.c
 
 pub record Steppable (n : ℕ) (operators : List ℕ) (count state cost steps : ℕ) (values masks words notes : List ℕ) (k : ℕ) : Type 0 where
   pub roomy : Roomy n words
@@ -115,8 +115,8 @@ pub record GoalReady (h : Head) (f state scratch : List ℕ) : Type 0 where
   pub room : h.formulas ≤ length scratch
 
 pub record GoalTold (h : Head) (f : List ℕ) (s : ℕ) (scratch : List ℕ) (r : Bool) : Type 0 where
-  pub told : r ≡ holds (state-of h.variables s) (formula-of (upto h.formulas (row_at f)) h.goal)
-  pub values : Values (state-of h.variables s) (upto h.formulas (row_at f)) h.formulas scratch
+  pub told : r ≡ holds (state_of h.variables s) (formula_of (upto h.formulas (row_at f)) h.goal)
+  pub values : Values (state_of h.variables s) (upto h.formulas (row_at f)) h.formulas scratch
 
 -- a state is taken from the queue
 pub record TakenNow (n s : ℕ) (before after : List ℕ) : Type 0 where
@@ -133,11 +133,11 @@ pub record Visitable (h : Head) (f e o : List ℕ) (n s : ℕ) (words : List ℕ
   pub ground : Ground t n
   pub known : Known t n words
   pub first : s ≡ winner words n 1
-  pub waiting : is-queued (get_or words s 0) ≡ true
+  pub waiting : is_queued (get_or words s 0) ≡ true
 
 -- it is a goal state and stays where it is; or it is taken, and no other comes back into the queue
 pub data Visited {h : Head} {f e o : List ℕ} {n s : ℕ} {before : List ℕ} (v : Visitable h f e o n s before) (after : List ℕ) : Bool → Type 0 where
-  at-goal : goal-holds v.t (state-of (length v.t.initial) s) ≡ true → after ≡ before → Visited v after true
+  at_goal : goal_holds v.t (state_of (length v.t.initial) s) ≡ true → after ≡ before → Visited v after true
   passed : Known v.t n after → Visited v after false
 
 pub record Visits (h : Head) (f e o : List ℕ) (n s : ℕ) (before after : List ℕ) (r : Bool) : Type 0 where
@@ -151,16 +151,16 @@ pub record Searchable (h : Head) (f e o : List ℕ) (n start : ℕ) : Type 0 whe
   pub tables : TaskIn t h f e o
   pub ground : Ground t n
   pub there : start < n
-  pub initial : t.initial ≡ state-of h.variables start
+  pub initial : t.initial ≡ state_of h.variables start
 
 pub data SearchEnd (t : Task) (n : ℕ) (words : List ℕ) (r : ℕ) : Type 0 where
-  no_end : r ≡ n → cheapest t ≡ no-plan → SearchEnd t n words r
-  first-end :
+  no_end : r ≡ n → cheapest t ≡ no_plan → SearchEnd t n words r
+  first_end :
       r < n
       → Known t n words
       → r ≡ winner words n 1
-      → is-queued (get_or words r 0) ≡ true
-      → goal-holds t (state-of (length t.initial) r) ≡ true
+      → is_queued (get_or words r 0) ≡ true
+      → goal_holds t (state_of (length t.initial) r) ≡ true
       → SearchEnd t n words r
 
 pub record Searches (h : Head) (f e o : List ℕ) (n start : ℕ) (words : List ℕ) (r : ℕ) : Type 0 where
@@ -180,23 +180,23 @@ pub record EndReady (h : Head) (f : List ℕ) (n end : ℕ) (words : List ℕ) :
   pub there : end < n
   pub p : List ℕ
   pub c : ℕ
-  pub is : status (state-of (length t.initial) end) ≡ queued p c
-  pub ends : goal-holds t (state-of (length t.initial) end) ≡ true
+  pub is : status (state_of (length t.initial) end) ≡ queued p c
+  pub ends : goal_holds t (state_of (length t.initial) end) ≡ true
   pub least : LeastKey (length t.initial) status p c
 
 -- whether state s is a better end
 pub data Rivals {h : Head} {f : List ℕ} {n end : ℕ} {words : List ℕ} (v : EndReady h f n end words) (s : ℕ) : Bool → Type 0 where
-  takes-over :
+  takes_over :
       (r : List ℕ)
-      → v.status (state-of (length v.t.initial) s) ≡ queued r v.c
+      → v.status (state_of (length v.t.initial) s) ≡ queued r v.c
       → length r ≡ length v.p
-      → goal-holds v.t (state-of (length v.t.initial) s) ≡ true
+      → goal_holds v.t (state_of (length v.t.initial) s) ≡ true
       → FirstByNumbers r v.p
       → Rivals v s true
-  gives-way :
+  gives_way :
       ((r : List ℕ) (e : ℕ)
-      → v.status (state-of (length v.t.initial) s) ≡ queued r e
-      → goal-holds v.t (state-of (length v.t.initial) s) ≡ true
+      → v.status (state_of (length v.t.initial) s) ≡ queued r e
+      → goal_holds v.t (state_of (length v.t.initial) s) ≡ true
       → NoLater v.c v.p e r)
       → Rivals v s false
 
@@ -209,8 +209,8 @@ pub record EndFound (t : Task) (n end : ℕ) (words : List ℕ) : Type 0 where
   pub c : ℕ
   pub status : List ℕ → Status
   pub holds : Holds (length t.initial) n status words
-  pub is : status (state-of (length t.initial) end) ≡ queued p c
-  pub best : cheapest t ≡ plan-of p c
+  pub is : status (state_of (length t.initial) end) ≡ queued p c
+  pub best : cheapest t ≡ plan_of p c
 
 pub record FindsEnd (h : Head) (f : List ℕ) (n first : ℕ) (words : List ℕ) (r : ℕ) : Type 0 where
   pub there : r < n

@@ -1,21 +1,21 @@
 -- The operators, a batch at a time: what one asks and leaves.
 use Rattle.std.specs.Prelude.{ℕ, ◌≤◌, ◌<◌, ◌≡◌, false, List, length, get_or}
-use Rattle.task.specs.Table.{operator-at}
+use Rattle.task.specs.Table.{operator_at}
 use Rattle.normal_form.specs.Builder.{start}
 use Rattle.formula_builder.specs.declared.Frame.{Frame}
 use Rattle.formula_builder.specs.Inner.Held.{Store}
 use Rattle.atom_sets.specs.Inner.Sets.{sets_end}
 use Rattle.variable_changes.specs.Inner.Stands.{Leaves}
-use Rattle.operators.specs.Inner.Operator.{operators-built}
+use Rattle.operators.specs.Inner.Operator.{operators_built}
 use Rattle.building.specs.declared.Progress.{Progress}
-use Rattle.building.specs.Inner.Taken.{size-at, Stood, Taken}
+use Rattle.building.specs.Inner.Taken.{size_at, Stood, Taken}
 use Rattle.effect_batches.specs.Inner.Firsts.{Roots, First}
 use Rattle.compile_parts.specs.declared.Counts.{Counts}
 
 -- The operators keep the rules, and the words of `first` are right.
 pub record Known (c : Counts) (effects operators first : List ℕ) : Type 0 where
   pub roots : Roots c.frame.effects operators c.operators
-  pub precondition : (o : ℕ) → o < c.operators → (operator-at operators o).precondition < c.frame.formulas
+  pub precondition : (o : ℕ) → o < c.operators → (operator_at operators o).precondition < c.frame.formulas
   pub words : c.frame.effects ≤ length first
   pub comes : First effects operators c.operators first
 
@@ -23,15 +23,15 @@ pub record Known (c : Counts) (effects operators first : List ℕ) : Type 0 wher
 pub record Along (frame : Frame) (formulas effects operators notes : List ℕ) (s : Store) (scratch : List ℕ) (p : Progress) : Type 0 where
   pub stood :
       p.full ≡ false
-      → Stood (operators-built frame formulas effects operators p.operators start).st frame formulas effects (size-at p) s scratch
-  pub leaves : Leaves p.full frame formulas effects notes (size-at p) s
+      → Stood (operators_built frame formulas effects operators p.operators start).st frame formulas effects (size_at p) s scratch
+  pub leaves : Leaves p.full frame formulas effects notes (size_at p) s
 
 -- There is a next operator, and before the first one no condition is kept.
 pub record BeginsNext (c : Counts) (formulas effects operators first notes : List ℕ) (s : Store) (scratch : List ℕ) (p : Progress) : Type 0 where
   pub known : Known c effects operators first
   pub next : p.operators < c.operators
   pub along : Along c.frame formulas effects operators notes s scratch p
-  pub notes-space : sets_end c.frame ≤ length notes
+  pub notes_space : sets_end c.frame ≤ length notes
   pub blank : p.operators ≡ 0 → (j : ℕ) → sets_end c.frame ≤ j → get_or notes j 0 ≡ 0
 
 -- A batch has begun with it. Where it ends is left open but for these bounds: it costs time alone.
@@ -51,4 +51,4 @@ pub record TookBatch (c : Counts) (formulas effects operators notes' : List ℕ)
   pub more : p.operators < r.operators
   pub most : r.operators ≤ c.operators
   pub taken : Taken c.frame formulas effects operators s' scratch' records' r
-  pub leaves : Leaves r.full c.frame formulas effects notes' (size-at r) s'
+  pub leaves : Leaves r.full c.frame formulas effects notes' (size_at r) s'

@@ -1,11 +1,11 @@
 -- Writing the finished task from what was built: what it asks, and what it leaves.
 use Rattle.std.specs.Prelude.{ℕ, ◌+◌, ◌*◌, ◌≤◌, ◌≡◌, true, false, List, ◌++◌, length, take, drop}
 use Rattle.normal_form.specs.Assembly.{Assembled}
-use Rattle.normal_form.specs.Finished.{twin-values}
+use Rattle.normal_form.specs.Finished.{twin_values}
 use Rattle.formula_builder.specs.declared.Step.{Step}
 use Rattle.rule_writer.specs.declared.Frame.{Frame}
 use Rattle.rule_writer.specs.Inner.Writes.{InitialReady}
-use Rattle.assembling.specs.Inner.Assembles.{assembled-in, Holding, Assembles, Twinned}
+use Rattle.assembling.specs.Inner.Assembles.{assembled_in, Holding, Assembles, Twinned}
 use Rattle.compile_parts.specs.declared.Counts.{Counts}
 use Rattle.compile_parts.specs.declared.Filled.{Filled}
 
@@ -20,23 +20,23 @@ abbrev pub outputs : (values table effects operators : List ℕ) → Outputs
 outputs v t e o = record { values = v; table = t; effects = e; operators = o }
 
 -- the answer without room
-abbrev pub nothing-filled : Filled
-nothing-filled = record { rows = 0; twins = 0; effects = 0; goal = 0; full = true }
+abbrev pub nothing_filled : Filled
+nothing_filled = record { rows = 0; twins = 0; effects = 0; goal = 0; full = true }
 
 -- the counts of rules: source variables, the twins that were built, and room for effect rows
-abbrev pub rules-frame : Counts → Step → Frame
-rules-frame c w = record { variables = c.frame.variables; twins = w.twins; room = c.room }
+abbrev pub rules_frame : Counts → Step → Frame
+rules_frame c w = record { variables = c.frame.variables; twins = w.twins; room = c.room }
 
 -- the rules and operators that are to be written, from what was recorded
-abbrev pub rules-of : Counts → Step → (operators originals records : List ℕ) → Assembled
-rules-of c w operators originals records =
-    assembled-in c.frame.variables (take w.twins originals) operators records c.operators
+abbrev pub rules_of : Counts → Step → (operators originals records : List ℕ) → Assembled
+rules_of c w operators originals records =
+    assembled_in c.frame.variables (take w.twins originals) operators records c.operators
 
 -- What was built stands; the tables for rules and operators are all 0, and there is room for operators, initial values and rows.
 pub record Stands (c : Counts) (w : Step) (initial operators originals built records : List ℕ) (x : Outputs) : Type 0 where
-  pub assembles : Assembles (rules-frame c w) operators records c.operators x.effects x.operators
-  pub twinned : Twinned (rules-frame c w) originals
-  pub initial-ready : InitialReady initial originals x.values c.frame.variables w.twins
+  pub assembles : Assembles (rules_frame c w) operators records c.operators x.effects x.operators
+  pub twinned : Twinned (rules_frame c w) originals
+  pub initial_ready : InitialReady initial originals x.values c.frame.variables w.twins
   pub limit : w.rows ≤ 4096
   pub there : 3 * w.rows ≤ length built
   pub space : 3 * w.rows ≤ length x.table
@@ -48,11 +48,11 @@ pub record Finishes (c : Counts) (w : Step) (initial operators originals built r
 -- All is written.
 pub record Ended (c : Counts) (w : Step) (initial operators originals built records : List ℕ) (x y : Outputs) (r : Filled) : Type 0 where
   pub whole : w.full ≡ false
-  pub holding : Holding (rules-of c w operators originals records) r.effects c.operators y.effects y.operators
+  pub holding : Holding (rules_of c w operators originals records) r.effects c.operators y.effects y.operators
   pub within : r.effects ≤ c.room
   pub values :
       y.values
-      ≡ (take c.frame.variables initial ++ twin-values (take c.frame.variables initial) (take w.twins originals))
+      ≡ (take c.frame.variables initial ++ twin_values (take c.frame.variables initial) (take w.twins originals))
       ++ drop (c.frame.variables + w.twins) x.values
   pub table : y.table ≡ take (3 * w.rows) built ++ drop (3 * w.rows) x.table
   pub answer : r ≡ record { rows = w.rows; twins = w.twins; effects = r.effects; goal = w.row; full = false }
@@ -60,8 +60,8 @@ pub record Ended (c : Counts) (w : Step) (initial operators originals built reco
 -- There was no room to build, or is none for the rules. The tables of initial values and of formulas, which are written last, stay; what stands in
 -- the other two is left open, since `compile` then clears them.
 pub record Lacks (c : Counts) (w : Step) (operators originals records : List ℕ) (x y : Outputs) (r : Filled) : Type 0 where
-  pub misfit : w.full ≡ false → length (rules-of c w operators originals records).effects ≤ c.room → ⊥
-  pub answer : r ≡ nothing-filled
+  pub misfit : w.full ≡ false → length (rules_of c w operators originals records).effects ≤ c.room → ⊥
+  pub answer : r ≡ nothing_filled
   pub values : y.values ≡ x.values
   pub table : y.table ≡ x.table
 

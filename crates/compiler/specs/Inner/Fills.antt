@@ -1,9 +1,9 @@
 -- Filling the lent tables: what it asks, and what it leaves.
 use Rattle.std.specs.Prelude.{ℕ, ◌+◌, ◌*◌, ◌≤◌, ◌≡◌, true, false, List, [], length, replicate}
 use Rattle.task.specs.declared.Head.{Head}
-use Rattle.task.specs.Table.{Lent, lent, task-of, operator-width}
+use Rattle.task.specs.Table.{Lent, lent, task_of, operator_width}
 use Rattle.task.specs.Check.{refusal}
-use Rattle.task.specs.Words.{words_of, operator-words, head_of, padded}
+use Rattle.task.specs.Words.{words_of, operator_words, head_of, padded}
 use Rattle.normal_form.specs.Finished.{finished}
 use Rattle.normal_form.specs.Compiled.{Fits}
 use Rattle.normal_form.specs.Inner.Allowed.{Allows}
@@ -68,15 +68,15 @@ pub record Begins (g : Counted) (x : Tables) : Type 0 where
   pub imaged : g.frame.copied ≡ 0
   pub blank : Blanked x x
   pub memo : 2 * g.frame.formulas + 2 * g.frame.effects ≤ length x.scratch
-  pub rows-space : 3 * g.frame.rows ≤ length x.formulas
-  pub rows-limit : g.frame.rows ≤ 4096
-  pub twins-space : g.frame.twins ≤ length x.twins
-  pub variables-limit : g.frame.variables + g.frame.twins ≤ 512
-  pub initial-space : g.frame.variables + g.frame.twins ≤ length x.initial
-  pub effects-space : 3 * g.room ≤ length x.effects
-  pub effects-limit : g.room ≤ 4096
-  pub one-effect : 1 ≤ g.room
-  pub operators-space : operator-width * g.count ≤ length x.operators
+  pub rows_space : 3 * g.frame.rows ≤ length x.formulas
+  pub rows_limit : g.frame.rows ≤ 4096
+  pub twins_space : g.frame.twins ≤ length x.twins
+  pub variables_limit : g.frame.variables + g.frame.twins ≤ 512
+  pub initial_space : g.frame.variables + g.frame.twins ≤ length x.initial
+  pub effects_space : 3 * g.room ≤ length x.effects
+  pub effects_limit : g.room ≤ 4096
+  pub one_effect : 1 ≤ g.room
+  pub operators_space : operator_width * g.count ≤ length x.operators
 
 -- Rows, twins and effect rows are as many as the limits and the tables allow.
 pub record Roomy (g : Counted) (x : Tables) : Type 0 where
@@ -86,13 +86,13 @@ pub record Roomy (g : Counted) (x : Tables) : Type 0 where
 -- Few rows are asked for, of few effects and variables.
 pub record BeginsSmall (g : Counted) (x : Tables) : Type 0 where
   pub begins : Begins g x
-  pub few-rows : g.frame.rows ≤ 512
-  pub few-effects : g.frame.effects ≤ 512
-  pub few-variables : g.frame.variables ≤ 128
+  pub few_rows : g.frame.rows ≤ 512
+  pub few_effects : g.frame.effects ≤ 512
+  pub few_variables : g.frame.variables ≤ 128
 
 -- the head of the compiled task: operators keep their number
-abbrev pub head-after : Head → Filled → Head
-head-after h r =
+abbrev pub head_after : Head → Filled → Head
+head_after h r =
     record {
       variables = h.variables + r.twins;
       twins = r.twins;
@@ -104,13 +104,13 @@ head-after h r =
 
 -- The tables hold the finished task, which fits. What stands in scratch is left open: `compile` clears it (`compiling`).
 pub record Holds (l : Lent) (x y : Tables) (r : Filled) : Type 0 where
-  pub fits : Fits (finished (task-of l)) (room_of x)
-  pub head : head_of (finished (task-of l)) ≡ head-after l.head r
-  pub initial : y.initial ≡ padded (length x.initial) (finished (task-of l)).initial
-  pub twins : y.twins ≡ padded (length x.twins) (finished (task-of l)).originals
-  pub formulas : y.formulas ≡ padded (length x.formulas) (words_of (finished (task-of l)).formulas)
-  pub effects : y.effects ≡ padded (length x.effects) (words_of (finished (task-of l)).effects)
-  pub operators : y.operators ≡ padded (length x.operators) (operator-words (finished (task-of l)).operators)
+  pub fits : Fits (finished (task_of l)) (room_of x)
+  pub head : head_of (finished (task_of l)) ≡ head_after l.head r
+  pub initial : y.initial ≡ padded (length x.initial) (finished (task_of l)).initial
+  pub twins : y.twins ≡ padded (length x.twins) (finished (task_of l)).originals
+  pub formulas : y.formulas ≡ padded (length x.formulas) (words_of (finished (task_of l)).formulas)
+  pub effects : y.effects ≡ padded (length x.effects) (words_of (finished (task_of l)).effects)
+  pub operators : y.operators ≡ padded (length x.operators) (operator_words (finished (task_of l)).operators)
 
 -- They hold it, or are as they came.
 pub record Tries (g : Counted) (x y : Tables) (r : Filled) : Type 0 where
@@ -120,4 +120,4 @@ pub record Tries (g : Counted) (x y : Tables) (r : Filled) : Type 0 where
 -- They hold it, or it does not fit, and they are as they came.
 pub record Fills (g : Counted) (x y : Tables) (r : Filled) : Type 0 where
   pub tries : Tries g x y r
-  pub misfit : r.full ≡ true → Fits (finished (task-of (lent_of g))) (room_of x) → ⊥
+  pub misfit : r.full ≡ true → Fits (finished (task_of (lent_of g))) (room_of x) → ⊥

@@ -26,13 +26,13 @@ pub record Least (a b r : ℕ) : Type 0 where
 -- as many twins as the limit and two lengths allow
 pub record MostTwins (variables values originals r : ℕ) : Type 0 where
   pub limit : variables + r ≤ 512
-  pub initial-space : variables + r ≤ values
-  pub twins-space : r ≤ originals
+  pub initial_space : variables + r ≤ values
+  pub twins_space : r ≤ originals
   pub most : (k : ℕ) → variables + k ≤ 512 → variables + k ≤ values → k ≤ originals → k ≤ r
 
 -- a source's counts, with room for so many rows, twins and effect rows
-abbrev pub counts-by : Head → (rows twins room : ℕ) → Counts
-counts-by h rows twins room =
+abbrev pub counts_by : Head → (rows twins room : ℕ) → Counts
+counts_by h rows twins room =
     record {
       frame =
           record {
@@ -50,7 +50,7 @@ counts-by h rows twins room =
 
 -- a source's counts, with as much room as the limits and the lent tables allow
 pub record CountsOf (h : Head) (n : Lengths) (r : Counts) : Type 0 where
-  pub same : r ≡ counts-by h r.frame.rows r.frame.twins r.room
+  pub same : r ≡ counts_by h r.frame.rows r.frame.twins r.room
   pub rows : Least 4096 (n.table / 3) r.frame.rows
   pub twins : MostTwins h.variables n.values n.originals r.frame.twins
   pub room : Least 4096 (n.out / 3) r.room
@@ -81,5 +81,5 @@ pub record Fewer (c r : Counts) : Type 0 where
 
 -- a source that a small frame is tried for: which ones is left open, since filling comes to the same either way (`Fills`); what the frame needs of it holds
 pub record Small (c : Counts) (r : Bool) : Type 0 where
-  pub few-effects : r ≡ true → c.frame.effects ≤ 512
-  pub few-variables : r ≡ true → c.frame.variables ≤ 128
+  pub few_effects : r ≡ true → c.frame.effects ≤ 512
+  pub few_variables : r ≡ true → c.frame.variables ≤ 128

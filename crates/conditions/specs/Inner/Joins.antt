@@ -8,7 +8,7 @@ use Rattle.formula_builder.specs.declared.Step.{Step}
 use Rattle.formula_builder.specs.Inner.Held.{Store, store, held, size_of, sized, side, Ready, Builds}
 use Rattle.images.specs.Inner.Images.{Known}
 use Rattle.conditions.specs.declared.Target.{Target}
-use Rattle.conditions.specs.Inner.Conditions.{join-of, Noted, Looks}
+use Rattle.conditions.specs.Inner.Conditions.{join_of, Noted, Looks}
 
 -- Word w is 0, or the target is plain and w is what the notes keep of rows l and r for row e.
 pub record Rejoins (frame : Frame) (notes : List ℕ) (t : Target) (e l r w : ℕ) : Type 0 where
@@ -17,13 +17,13 @@ pub record Rejoins (frame : Frame) (notes : List ℕ) (t : Target) (e l r w : �
       (formulas effects : List ℕ) (s : St)
       → Noted frame formulas effects notes s
       → 0 < w
-      → Known (join-of effects e l r) s (w - 1)
+      → Known (join_of effects e l r) s (w - 1)
 
 -- The notes stay right if the target is negated, or row x is known as the join of rows l and r for row e.
 pub record KeepsJoin (frame : Frame) (notes notes' : List ℕ) (t : Target) (e l r x : ℕ) : Type 0 where
   pub noted :
       (formulas effects : List ℕ) (s : St)
-      → (t.negated ≡ false → Known (join-of effects e l r) s x)
+      → (t.negated ≡ false → Known (join_of effects e l r) s x)
       → Noted frame formulas effects notes s
       → Noted frame formulas effects notes' s
 

@@ -1,13 +1,13 @@
 -- Filling the columns of a batch: what it asks and leaves.
 use Rattle.std.specs.Prelude.{ℕ, ◌≤◌, ◌<◌, ◌≡◌, false, List, length, get_or}
-use Rattle.task.specs.Table.{operator-at}
+use Rattle.task.specs.Table.{operator_at}
 use Rattle.normal_form.specs.Builder.{St}
 use Rattle.formula_builder.specs.declared.Frame.{Frame}
 use Rattle.formula_builder.specs.declared.Size.{Size}
 use Rattle.formula_builder.specs.Inner.Held.{Store, held, Ready}
 use Rattle.images.specs.Inner.Images.{Memo, Source}
 use Rattle.conditions.specs.declared.Target.{Target}
-use Rattle.conditions.specs.Inner.Conditions.{condition-at, EffectMemo, EffectSource, Noted}
+use Rattle.conditions.specs.Inner.Conditions.{condition_at, EffectMemo, EffectSource, Noted}
 
 -- The plain conditions of all atoms at row e were built: building them adds nothing in this state.
 pub record Covered (frame : Frame) (formulas effects : List ℕ) (s : St) (e : ℕ) : Type 0 where
@@ -16,20 +16,20 @@ pub record Covered (frame : Frame) (formulas effects : List ℕ) (s : St) (e : �
       (t : Target)
       → t.negated ≡ false
       → t.variable < frame.variables
-      → (condition-at frame formulas effects t e s).st ≡ s
+      → (condition_at frame formulas effects t e s).st ≡ s
 
 -- So it is at the effects of the first n operators.
 pub record AllCovered (frame : Frame) (formulas effects operators : List ℕ) (n : ℕ) (s : St) : Type 0 where
-  pub covered : (k : ℕ) → k < n → Covered frame formulas effects s (operator-at operators k).effect
+  pub covered : (k : ℕ) → k < n → Covered frame formulas effects s (operator_at operators k).effect
 
 -- The source keeps the rules, and the tables, both memos and the notes hold what is built.
 pub record Stands (frame : Frame) (formulas effects notes : List ℕ) (at : Size) (s : Store) (scratch : List ℕ) : Type 0 where
   pub source : Source frame formulas scratch
-  pub effect-source : EffectSource frame effects scratch
+  pub effect_source : EffectSource frame effects scratch
   pub ready : Ready frame at s
   pub noted : Noted frame formulas effects notes (held at s)
   pub memo : Memo frame formulas scratch (held at s)
-  pub effect-memo : EffectMemo frame formulas effects scratch (held at s)
+  pub effect_memo : EffectMemo frame formulas effects scratch (held at s)
 
 -- For one row and one atom.
 pub record FillsRow (frame : Frame) (formulas effects notes : List ℕ) (t : Target) (at : Size) (s : Store) (scratch : List ℕ) (e : ℕ) : Type 0 where

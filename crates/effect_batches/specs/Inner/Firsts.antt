@@ -1,22 +1,22 @@
 -- For each effect row an operator that comes to it: what finding it asks and leaves.
 use Rattle.std.specs.Prelude.{ℕ, ◌+◌, ◌*◌, ◌≤◌, ◌<◌, ◌≡◌, ◌⊎◌, List, length, get_or}
-use Rattle.task.specs.Table.{row_at, operator-width, operator-at}
+use Rattle.task.specs.Table.{row_at, operator_width, operator_at}
 use Rattle.task.specs.Inner.Rows.{EffectsDown}
 use Rattle.formula_builder.specs.declared.Frame.{Frame}
-use Rattle.conditions.specs.Inner.Conditions.{effect-rows}
+use Rattle.conditions.specs.Inner.Conditions.{effect_rows}
 
 -- The effect rows keep the rules.
 pub record Rows (frame : Frame) (effects : List ℕ) : Type 0 where
   pub words : 3 * frame.effects ≤ length effects
   pub limit : frame.effects ≤ 4096
   pub variables : frame.variables ≤ 512
-  pub down : EffectsDown frame.variables frame.formulas (effect-rows frame effects)
+  pub down : EffectsDown frame.variables frame.formulas (effect_rows frame effects)
 
 -- Each operator's effect is one of n rows.
 pub record Roots (n : ℕ) (operators : List ℕ) (count : ℕ) : Type 0 where
   pub limit : count ≤ 256
-  pub words : operator-width * count ≤ length operators
-  pub effect : (k : ℕ) → k < count → (operator-at operators k).effect < n
+  pub words : operator_width * count ≤ length operators
+  pub effect : (k : ℕ) → k < count → (operator_at operators k).effect < n
 
 -- Row i names effect row e.
 pub data Names (effects : List ℕ) (i e : ℕ) : Type 0 where
@@ -37,7 +37,7 @@ pub data Below (effects : List ℕ) (top : ℕ) : ℕ → Type 0 where
 
 -- Word k + 1 of row e says that operator k comes to it; 0 says nothing. That no earlier operator does is left open: it costs time alone.
 pub record Comes (effects operators : List ℕ) (count w e : ℕ) : Type 0 where
-  pub below : (k : ℕ) → w ≡ k + 1 → (k < count) × Below effects (operator-at operators k).effect e
+  pub below : (k : ℕ) → w ≡ k + 1 → (k < count) × Below effects (operator_at operators k).effect e
 
 -- So it is for each row.
 pub record First (effects operators : List ℕ) (count : ℕ) (first : List ℕ) : Type 0 where

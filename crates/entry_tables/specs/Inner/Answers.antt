@@ -2,14 +2,14 @@
 use Rattle.std.specs.Prelude.{ℕ}
 use Rattle.task_file.specs.declared.ReadAnswer.{ReadAnswer}
 use Rattle.task_file.specs.declared.ReadAnswer.TheVariants.{Read, Refused}
-use Rattle.normal_form.specs.Compiled.{Answer, compiled-head, not-compiled}
+use Rattle.normal_form.specs.Compiled.{Answer, compiled_head, not_compiled}
 
 -- reading's
-abbrev pub refused-number : ReadAnswer → ℕ
-refused-number (Read head) = 0
-refused-number (Refused n) = n
+abbrev pub refused_number : ReadAnswer → ℕ
+refused_number (Read head) = 0
+refused_number (Refused n) = n
 
 -- compiling's
-abbrev pub refused-compile : Answer → ℕ
-refused-compile (compiled-head head) = 0
-refused-compile (not-compiled n) = n
+abbrev pub refused_compile : Answer → ℕ
+refused_compile (compiled_head head) = 0
+refused_compile (not_compiled n) = n

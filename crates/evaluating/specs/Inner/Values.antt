@@ -2,7 +2,7 @@
 use Rattle.std.specs.Prelude.{ℕ, ◌+◌, ◌*◌, ◌≤◌, ◌<◌, ◌≡◌, Bool, true, false, not, ◌&&◌, ◌||◌, List, length, get_or, drop}
 use Rattle.std.specs.Bool.{beq}
 use Rattle.task.specs.Bounded.{upto}
-use Rattle.task.specs.Table.{Row, row_at, FormulaKind, false-kind, true-kind, variable-kind, not-kind, and-kind, or-kind, implies-kind, equivalent-kind, unknown-formula}
+use Rattle.task.specs.Table.{Row, row_at, FormulaKind, false_kind, true_kind, variable_kind, not_kind, and_kind, or_kind, implies_kind, equivalent_kind, unknown_formula}
 use Rattle.task.specs.Inner.Rows.{FormulaKept}
 use Rattle.task.specs.Inner.Values.{bit, Values}
 
@@ -12,34 +12,34 @@ rows_of n words = upto n (row_at words)
 
 -- what the kinds that name two formulas make of their truth values
 unfoldable pub joins : FormulaKind → (p q : Bool) → Bool
-joins false-kind p q = false
-joins true-kind p q = false
-joins variable-kind p q = false
-joins not-kind p q = false
-joins and-kind p q = p && q
-joins or-kind p q = p || q
-joins implies-kind p q = not p || q
-joins equivalent-kind p q = beq p q
-joins unknown-formula p q = false
+joins false_kind p q = false
+joins true_kind p q = false
+joins variable_kind p q = false
+joins not_kind p q = false
+joins and_kind p q = p && q
+joins or_kind p q = p || q
+joins implies_kind p q = not p || q
+joins equivalent_kind p q = beq p q
+joins unknown_formula p q = false
 
 -- the same as a number: bit 2x + y for the bits x and y
-unfoldable pub truth-table : FormulaKind → ℕ
-truth-table k =
+unfoldable pub truth_table : FormulaKind → ℕ
+truth_table k =
     bit (joins k false false) + 2 * bit (joins k false true) + 4 * bit (joins k true false) + 8 * bit (joins k true true)
 
 -- what the value of row i asks: the row is there and keeps its rule, the state has bits, and so have the rows below
 pub record RowReady (words : List ℕ) (i : ℕ) (s values : List ℕ) : Type 0 where
   pub there : 3 * i + 3 ≤ length words
   pub rule : FormulaKept (length s) i (row_at words i)
-  pub state-bits : (v : ℕ) → v < length s → get_or s v 0 ≤ 1
+  pub state_bits : (v : ℕ) → v < length s → get_or s v 0 ≤ 1
   pub room : i ≤ length values
-  pub value-bits : (j : ℕ) → j < i → get_or values j 0 ≤ 1
+  pub value_bits : (j : ℕ) → j < i → get_or values j 0 ≤ 1
 
 -- what the values of the rows from .. n - 1 ask: those of the rows below stand there already
 pub record Valuable (words : List ℕ) (from n : ℕ) (s scratch : List ℕ) : Type 0 where
   pub there : 3 * n ≤ length words
   pub rule : (i : ℕ) → i < n → FormulaKept (length s) i (row_at words i)
-  pub state-bits : (v : ℕ) → v < length s → get_or s v 0 ≤ 1
+  pub state_bits : (v : ℕ) → v < length s → get_or s v 0 ≤ 1
   pub room : n ≤ length scratch
   pub order : from ≤ n
   pub below : Values s (rows_of n words) from scratch

@@ -3,7 +3,7 @@ use Rattle.std.specs.Prelude.{ℕ, ◌+◌, ◌*◌, ◌≤◌, ◌<◌, ◌≡�
 use Rattle.task.specs.declared.TableRow.{TableRow}
 use Rattle.task.specs.Bounded.{upto}
 use Rattle.task.specs.Table.{Row, row_at}
-use Rattle.translation.specs.Flags.{first-flag, own-flags}
+use Rattle.translation.specs.Flags.{first_flag, own_flags}
 use Rattle.flag_tables.specs.Inner.Front.{at_front}
 
 -- There are the counts of v variables, each of at most 16 values, and a word for each, and one for all.
@@ -15,10 +15,10 @@ pub record CountsReady (counts : List ℕ) (v : ℕ) (firsts : List ℕ) : Type 
 
 -- Word a is the first flag of variable a, word v the number of all flags.
 pub record FirstFlags (counts : List ℕ) (v : ℕ) (firsts : List ℕ) : Type 0 where
-  pub at : (a : ℕ) → a ≤ v → get_or firsts a 0 ≡ first-flag counts a
+  pub at : (a : ℕ) → a ≤ v → get_or firsts a 0 ≡ first_flag counts a
 
 pub record FirstsFound (counts : List ℕ) (v : ℕ) (before after : List ℕ) (flags : ℕ) : Type 0 where
-  pub count : flags ≡ first-flag counts v
+  pub count : flags ≡ first_flag counts v
   pub limit : flags ≤ 1024
   pub found : FirstFlags counts v after
   pub behind : drop (v + 1) after ≡ drop (v + 1) before
@@ -31,13 +31,13 @@ abbrev pub in_words : TableRow → Row → TableRow
 in_words w r = record { first = r.kind; second = r.a; third = r.b; fourth = w.fourth }
 
 -- a leaf as the row of its flag; every other row as it is
-unfoldable pub leaf-over : (firsts : List ℕ) → (leaf kind : ℕ) → Row → Row
-leaf-over firsts leaf kind r =
+unfoldable pub leaf_over : (firsts : List ℕ) → (leaf kind : ℕ) → Row → Row
+leaf_over firsts leaf kind r =
     cond (eqb r.kind leaf) (record { kind = kind; a = get_or firsts r.a 0 + r.b; b = 0 }) r
 
 -- the first n rows of a table of words
-unfoldable pub rows-over : (firsts : List ℕ) → (leaf kind : ℕ) → List ℕ → ℕ → List Row
-rows-over firsts leaf kind words n = upto n (λ i. leaf-over firsts leaf kind (row_at words i))
+unfoldable pub rows_over : (firsts : List ℕ) → (leaf kind : ℕ) → List ℕ → ℕ → List Row
+rows_over firsts leaf kind words n = upto n (λ i. leaf_over firsts leaf kind (row_at words i))
 
 -- A leaf names a variable whose first flag is told, and its flag is one of a task.
 pub record LeafReady (firsts : List ℕ) (leaf : ℕ) (r : Row) : Type 0 where
@@ -50,8 +50,8 @@ pub record LeavesReady (words : List ℕ) (n leaf : ℕ) (firsts out : List ℕ)
   pub leaves : (i : ℕ) → i < n → LeafReady firsts leaf (row_at words i)
 
 -- 1 for the value that a variable has
-abbrev pub flag-bit : (value has : ℕ) → ℕ
-flag-bit value has = cond (eqb value has) 1 0
+abbrev pub flag_bit : (value has : ℕ) → ℕ
+flag_bit value has = cond (eqb value has) 1 0
 
 -- Behind the bytes that stand at the front, the flags of one variable.
 pub record OwnWritten (n d at : ℕ) (before after : List ℕ) : Type 0 where
@@ -59,10 +59,10 @@ pub record OwnWritten (n d at : ℕ) (before after : List ℕ) : Type 0 where
       (bytes table : List ℕ)
       → length bytes ≡ at
       → before ≡ at_front bytes table
-      → after ≡ at_front (bytes ++ own-flags n d) table
+      → after ≡ at_front (bytes ++ own_flags n d) table
 
 -- There are counts and values of v variables, and a byte for each flag.
 pub record ValuesReady (counts initial : List ℕ) (v : ℕ) (out : List ℕ) : Type 0 where
   pub there : v ≤ length counts
   pub values : v ≤ length initial
-  pub space : first-flag counts v ≤ length out
+  pub space : first_flag counts v ≤ length out

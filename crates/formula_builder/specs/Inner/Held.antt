@@ -53,8 +53,8 @@ abbrev pub stepped : ℕ → ℕ → ℕ → Step
 stepped n w k = record { rows = n; twins = w; row = k; full = eqb k 65535 }
 
 -- a step that answers row x and adds nothing
-abbrev pub done-step : Size → ℕ → Step
-done-step at x = record { rows = at.rows; twins = at.twins; row = x; full = false }
+abbrev pub done_step : Size → ℕ → Step
+done_step at x = record { rows = at.rows; twins = at.twins; row = x; full = false }
 
 -- The table has room for so many rows and their index, no more stand, and the index finds them.
 pub record RowsReady (most stand : ℕ) (table : List ℕ) : Type 0 where
@@ -71,16 +71,16 @@ pub record JoinReady (most stand : ℕ) (table : List ℕ) (a b : ℕ) : Type 0 
   pub right : b < stand
 
 -- the row of a variable
-abbrev pub variable-of : ℕ → Row
-variable-of v = record { kind = 2; a = v; b = 0 }
+abbrev pub variable_of : ℕ → Row
+variable_of v = record { kind = 2; a = v; b = 0 }
 
 -- the word of a variable, behind the index
-abbrev pub twin-word : Frame → ℕ → ℕ
-twin-word frame v = 9 * frame.rows + v
+abbrev pub twin_word : Frame → ℕ → ℕ
+twin_word frame v = 9 * frame.rows + v
 
 -- where the twin of a variable stands among the twins that are held; behind them, if it has none
-abbrev pub twin-place : Size → Store → ℕ → ℕ
-twin-place at s v = place eqb v (take at.twins s.originals)
+abbrev pub twin_place : Size → Store → ℕ → ℕ
+twin_place at s v = place eqb v (take at.twins s.originals)
 
 -- The word of each variable names the row of its twin, by its number and 1; 0 says that it has no twin.
 pub record TwinsNamed (frame : Frame) (at : Size) (s : Store) : Type 0 where
@@ -88,10 +88,10 @@ pub record TwinsNamed (frame : Frame) (at : Size) (s : Store) : Type 0 where
   pub stands :
       (v r : ℕ)
       → v < frame.variables
-      → get_or s.table (twin-word frame v) 0 ≡ suc r
-      → (twin-place at s v < at.twins) × (row_at s.table r ≡ variable-of (frame.variables + twin-place at s v))
+      → get_or s.table (twin_word frame v) 0 ≡ suc r
+      → (twin_place at s v < at.twins) × (row_at s.table r ≡ variable_of (frame.variables + twin_place at s v))
   pub missing :
-      (v : ℕ) → v < frame.variables → get_or s.table (twin-word frame v) 0 ≡ 0 → twin-place at s v ≡ at.twins
+      (v : ℕ) → v < frame.variables → get_or s.table (twin_word frame v) 0 ≡ 0 → twin_place at s v ≡ at.twins
 
 -- Both tables are ready: false and true stand, the twins' rows are named, and behind the twins all words are 0.
 pub record Ready (frame : Frame) (at : Size) (s : Store) : Type 0 where
@@ -100,7 +100,7 @@ pub record Ready (frame : Frame) (at : Size) (s : Store) : Type 0 where
   pub twins : at.twins ≤ frame.twins
   pub originals : frame.twins ≤ length s.originals
   pub variables : frame.variables + frame.twins ≤ 512
-  pub past-twins : (j : ℕ) → at.twins ≤ j → get_or s.originals j 0 ≡ 0
+  pub past_twins : (j : ℕ) → at.twins ≤ j → get_or s.originals j 0 ≡ 0
   pub named : TwinsNamed frame at s
 
 -- A state within the frame.

@@ -15,16 +15,16 @@ unfoldable pub head_of : (most key : ℕ) → ℕ
 head_of most key = key * 2654435769 % 4294967296 * (4 * most) / 4294967296
 
 -- the word of a row's head, and that of the link of row i that the lowest of these bits says
-abbrev pub head-word : (most : ℕ) → Row → ℕ
-head-word most r = 5 * most + head_of most (key_of r)
+abbrev pub head_word : (most : ℕ) → Row → ℕ
+head_word most r = 5 * most + head_of most (key_of r)
 
-abbrev pub link-word : (most i bits : ℕ) → ℕ
-link-word most i bits = 3 * most + 2 * i + bits % 2
+abbrev pub link_word : (most i bits : ℕ) → ℕ
+link_word most i bits = 3 * most + 2 * i + bits % 2
 
 -- The walk from word w, with these bits left of a key, comes to word p.
 pub data Leads (most : ℕ) (t : List ℕ) (p : ℕ) : ℕ → ℕ → Type 0 where
   here : (w bits : ℕ) → w ≡ p → Leads most t p w bits
-  onward : (w bits i : ℕ) → get_or t w 0 ≡ suc i → Leads most t p (link-word most i bits) (bits / 2) → Leads most t p w bits
+  onward : (w bits i : ℕ) → get_or t w 0 ≡ suc i → Leads most t p (link_word most i bits) (bits / 2) → Leads most t p w bits
 
 -- It comes to a word that names row i.
 pub record Comes (most : ℕ) (t : List ℕ) (w bits i : ℕ) : Type 0 where
@@ -34,7 +34,7 @@ pub record Comes (most : ℕ) (t : List ℕ) (w bits i : ℕ) : Type 0 where
 
 -- From its head, with its key, it comes to row i.
 abbrev pub Reached : (most : ℕ) → List ℕ → ℕ → Type 0
-Reached most t i = Comes most t (head-word most (row_at t i)) (key_of (row_at t i)) i
+Reached most t i = Comes most t (head_word most (row_at t i)) (key_of (row_at t i)) i
 
 -- The words of the index name none but the first n rows, and a link names a later row than its own.
 pub record Trees (most n : ℕ) (t : List ℕ) : Type 0 where
@@ -58,7 +58,7 @@ pub record Searchable (most : ℕ) (t : List ℕ) : Type 0 where
 pub record Found (most : ℕ) (t : List ℕ) (r : Row) (p : ℕ) : Type 0 where
   pub low : 3 * most ≤ p
   pub high : p < 9 * most
-  pub leads : Leads most t p (head-word most r) (key_of r)
+  pub leads : Leads most t p (head_word most r) (key_of r)
   pub stands : (i : ℕ) → get_or t p 0 ≡ suc i → row_at t i ≡ r
   pub missing : get_or t p 0 ≡ 0 → (i : ℕ) → Reached most t i → row_at t i ≡ r → ⊥
 
@@ -84,8 +84,8 @@ pub data Put (most n : ℕ) (t : List ℕ) (r : Row) (t' : List ℕ) (k : ℕ) :
       → Put most n t r t' k
 
 -- how many rows stand after row k was put among n
-abbrev pub rows-after : (n k : ℕ) → ℕ
-rows-after n k = cond (eqb k n) (n + 1) n
+abbrev pub rows_after : (n k : ℕ) → ℕ
+rows_after n k = cond (eqb k n) (n + 1) n
 
 -- A table that nothing stands in, with room for two rows at least.
 pub record Empty (most : ℕ) (t : List ℕ) : Type 0 where

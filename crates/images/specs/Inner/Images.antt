@@ -3,7 +3,7 @@ use Rattle.std.specs.Prelude.{ℕ, ◌+◌, ◌-◌, ◌*◌, ◌≤◌, ◌<◌
 use Rattle.task.specs.Bounded.{upto}
 use Rattle.task.specs.Table.{Row, row_at}
 use Rattle.task.specs.Semantics.{Formula}
-use Rattle.task.specs.Tree.{formula-of}
+use Rattle.task.specs.Tree.{formula_of}
 use Rattle.task.specs.Inner.Rows.{FormulasDown}
 use Rattle.normal_form.specs.Builder.{St, Build, Polarity, plain, negated, give, pair}
 use Rattle.normal_form.specs.Image.{literal, image}
@@ -15,31 +15,31 @@ use Rattle.formula_builder.specs.declared.Step.{Step}
 use Rattle.formula_builder.specs.Inner.Held.{Store, held, size_of, side, Ready, Builds}
 
 -- the source's formula rows
-unfoldable pub source-rows : Frame → List ℕ → List Row
-source-rows frame formulas = upto frame.formulas (row_at formulas)
+unfoldable pub source_rows : Frame → List ℕ → List Row
+source_rows frame formulas = upto frame.formulas (row_at formulas)
 
 -- the formula of row i
 unfoldable pub tree : Frame → List ℕ → ℕ → Formula
-tree frame formulas i = formula-of (source-rows frame formulas) i
+tree frame formulas i = formula_of (source_rows frame formulas) i
 
 -- what a formula becomes, by the frame: its image (negated, its negated image), or itself
 unfoldable pub becoming : Frame → Becoming
 becoming frame = cond (eqb frame.copied 0) (image frame.variables) itself
 
 -- what formula i becomes
-unfoldable pub image-at : Frame → List ℕ → Polarity → ℕ → Build ℕ
-image-at frame formulas p i = becoming frame p (tree frame formulas i)
+unfoldable pub image_at : Frame → List ℕ → Polarity → ℕ → Build ℕ
+image_at frame formulas p i = becoming frame p (tree frame formulas i)
 
 -- row i's operands, each on its side, and their join, "and" or "or"
-unfoldable pub pair-at : Frame → List ℕ → ℕ → Bool → Bool → Bool → Build ℕ
-pair-at frame formulas i left right or =
-    pair (side or) (image-at frame formulas (side left) (row_at formulas i).a)
-    (image-at frame formulas (side right) (row_at formulas i).b)
+unfoldable pub pair_at : Frame → List ℕ → ℕ → Bool → Bool → Bool → Build ℕ
+pair_at frame formulas i left right or =
+    pair (side or) (image_at frame formulas (side left) (row_at formulas i).a)
+    (image_at frame formulas (side right) (row_at formulas i).b)
 
 -- row i as (a and b) or (not a and not b); negated, (a and not b) or (not a and b)
-unfoldable pub equivalent-at : Frame → List ℕ → ℕ → Bool → Build ℕ
-equivalent-at frame formulas i b =
-    pair negated (pair-at frame formulas i false b false) (pair-at frame formulas i true (not b) false)
+unfoldable pub equivalent_at : Frame → List ℕ → ℕ → Bool → Build ℕ
+equivalent_at frame formulas i b =
+    pair negated (pair_at frame formulas i false b false) (pair_at frame formulas i true (not b) false)
 
 -- row 0 for false, row 1 for true; negated, the other way round
 abbrev pub constant_by : Polarity → ℕ → ℕ
@@ -47,13 +47,13 @@ constant_by plain k = k
 constant_by negated k = 1 - k
 
 -- a row without operands, from its words
-unfoldable pub leaf-built : ℕ → Polarity → Row → Build ℕ
-leaf-built n p w = cond (eqb w.kind 2) (literal n p w.a) (give (constant_by p w.kind))
+unfoldable pub leaf_built : ℕ → Polarity → Row → Build ℕ
+leaf_built n p w = cond (eqb w.kind 2) (literal n p w.a) (give (constant_by p w.kind))
 
 -- where the memo has formula i
-abbrev pub memo-place : Frame → Polarity → ℕ → ℕ
-memo-place frame plain i = i
-memo-place frame negated i = frame.formulas + i
+abbrev pub memo_place : Frame → Polarity → ℕ → ℕ
+memo_place frame plain i = i
+memo_place frame negated i = frame.formulas + i
 
 -- A row that building gives now, adding nothing.
 pub record Known (m : Build ℕ) (s : St) (r : ℕ) : Type 0 where
@@ -66,17 +66,17 @@ pub record Memo (frame : Frame) (formulas scratch : List ℕ) (s : St) : Type 0 
   pub known :
       (p : Polarity) (i r : ℕ)
       → i < frame.formulas
-      → get_or scratch (memo-place frame p i) 0 ≡ r + 1
-      → Known (image-at frame formulas p i) s r
+      → get_or scratch (memo_place frame p i) 0 ≡ r + 1
+      → Known (image_at frame formulas p i) s r
   pub full :
-      (frame.copied ≡ 0 → ⊥) → (p : Polarity) (i : ℕ) → i < frame.formulas → get_or scratch (memo-place frame p i) 0 ≡ 0 → ⊥
+      (frame.copied ≡ 0 → ⊥) → (p : Polarity) (i : ℕ) → i < frame.formulas → get_or scratch (memo_place frame p i) 0 ≡ 0 → ⊥
 
 -- The source keeps the rules of formulas, and the scratch has two words for each.
 pub record Source (frame : Frame) (formulas scratch : List ℕ) : Type 0 where
   pub words : 3 * frame.formulas ≤ length formulas
   pub memo : 2 * frame.formulas ≤ length scratch
   pub limit : frame.formulas ≤ 4096
-  pub down : FormulasDown frame.variables (source-rows frame formulas)
+  pub down : FormulasDown frame.variables (source_rows frame formulas)
 
 pub record Asks (frame : Frame) (formulas : List ℕ) (at : Size) (before : Store) (scratch : List ℕ) (i : ℕ) : Type 0 where
   pub source : Source frame formulas scratch

@@ -5,12 +5,12 @@ use Rattle.normal_form.specs.Builder.{St, Build, give, each, row, Polarity}
 use Rattle.normal_form.specs.Copy.{copy}
 use Rattle.formula_builder.specs.declared.Frame.{Frame}
 use Rattle.formula_builder.specs.Inner.Held.{store, held, sized, Within}
-use Rattle.images.specs.Inner.Images.{tree, memo-place, Known, Source, Memo}
+use Rattle.images.specs.Inner.Images.{tree, memo_place, Known, Source, Memo}
 use Rattle.operator_guards.specs.Inner.Steps.{TableReady}
 
 -- a row as it stands, from its words and the rows of its operands
-unfoldable pub copied-row : Row → (a b : ℕ) → Build ℕ
-copied-row w a b =
+unfoldable pub copied_row : Row → (a b : ℕ) → Build ℕ
+copied_row w a b =
     cond (ltb w.kind 2) (give w.kind)
     (cond (eqb w.kind 2) (row (record { kind = 2; a = w.a; b = 0 }))
     (cond (eqb w.kind 3) (row (record { kind = 3; a = a; b = 0 })) (row (record { kind = w.kind; a = a; b = b }))))
@@ -34,7 +34,7 @@ pub record CopiesRow (frame : Frame) (n : ℕ) (table scratch : List ℕ) (w : R
 pub record Copied (frame : Frame) (formulas scratch : List ℕ) (s : St) (i : ℕ) : Type 0 where
   pub at : ℕ
   pub known : Known (copy (tree frame formulas i)) s at
-  pub words : (p : Polarity) → get_or scratch (memo-place frame p i) 0 ≡ at + 1
+  pub words : (p : Polarity) → get_or scratch (memo_place frame p i) 0 ≡ at + 1
 
 -- The source keeps the rules, and nothing of it is copied.
 pub record Copies (frame : Frame) (formulas : List ℕ) (n : ℕ) (table scratch : List ℕ) : Type 0 where

@@ -4,49 +4,49 @@ use Rattle.task.specs.Semantics.{Atom, sets, clears}
 use Rattle.task.specs.Words.{words_of, padded}
 use Rattle.task.specs.Inner.Stored.{three}
 use Rattle.normal_form.specs.Operators.{Changes}
-use Rattle.normal_form.specs.Assembly.{Rule, rule, Written, write-rules}
+use Rattle.normal_form.specs.Assembly.{Rule, rule, Written, write_rules}
 use Rattle.rule_writer.specs.declared.Frame.{Frame}
 use Rattle.rule_writer.specs.declared.Chain.{Chain}
 use Rattle.rule_writer.specs.declared.Rule.{Rule as CodeRule}
 use Rattle.rule_writer.specs.declared.Changes.{Changes as CodeChanges}
 
 -- the atom, and its effect kind
-abbrev pub atom-of : Bool → ℕ → Atom
-atom-of true v = sets v
-atom-of false v = clears v
+abbrev pub atom_of : Bool → ℕ → Atom
+atom_of true v = sets v
+atom_of false v = clears v
 
-abbrev pub kind-of : Bool → ℕ
-kind-of true = 1
-kind-of false = 2
+abbrev pub kind_of : Bool → ℕ
+kind_of true = 1
+kind_of false = 2
 
 -- what the code's structs stand for
-abbrev pub changes-in : CodeChanges → Changes
-changes-in c = record { variable = c.variable; adds = c.adds; deletes = c.deletes }
+abbrev pub changes_in : CodeChanges → Changes
+changes_in c = record { variable = c.variable; adds = c.adds; deletes = c.deletes }
 
 -- a rule whose condition is not row 0
 abbrev pub alone : CodeRule → List Rule
-alone r = record { condition = r.condition; atom = atom-of r.sets r.variable } ∷ []
+alone r = record { condition = r.condition; atom = atom_of r.sets r.variable } ∷ []
 
-abbrev pub rule-in : CodeRule → List Rule
-rule-in r = rule r.condition (atom-of r.sets r.variable)
+abbrev pub rule_in : CodeRule → List Rule
+rule_in r = rule r.condition (atom_of r.sets r.variable)
 
 -- the opposite rule for the twin at place k, if there is one
-abbrev pub twin-rule-in : Frame → ℕ → CodeRule → List Rule
-twin-rule-in frame k r =
-    cond (ltb k frame.twins) (rule r.condition (atom-of (not r.sets) (frame.variables + k))) []
+abbrev pub twin_rule_in : Frame → ℕ → CodeRule → List Rule
+twin_rule_in frame k r =
+    cond (ltb k frame.twins) (rule r.condition (atom_of (not r.sets) (frame.variables + k))) []
 
-abbrev pub opposed-in : Frame → ℕ → CodeRule → List Rule
-opposed-in frame k r = rule-in r ++ twin-rule-in frame k r
+abbrev pub opposed_in : Frame → ℕ → CodeRule → List Rule
+opposed_in frame k r = rule_in r ++ twin_rule_in frame k r
 
 -- for the variable and its twin at place k: set and cleared under A, then cleared and set under D
 abbrev pub all_in : Frame → ℕ → CodeChanges → List Rule
 all_in frame k c =
-    opposed-in frame k (record { sets = true; variable = c.variable; condition = c.adds })
-    ++ opposed-in frame k (record { sets = false; variable = c.variable; condition = c.deletes })
+    opposed_in frame k (record { sets = true; variable = c.variable; condition = c.adds })
+    ++ opposed_in frame k (record { sets = false; variable = c.variable; condition = c.deletes })
 
 -- a rule's two rows stored as rows n and n + 1
-abbrev pub two-rows : List ℕ → ℕ → CodeRule → List ℕ
-two-rows t n r = three (three t n (kind-of r.sets) r.variable 0) (n + 1) 4 r.condition n
+abbrev pub two_rows : List ℕ → ℕ → CodeRule → List ℕ
+two_rows t n r = three (three t n (kind_of r.sets) r.variable 0) (n + 1) 4 r.condition n
 
 -- The table holds what is written, and 0 in all past it.
 pub record Holds (w : Written) (at : Chain) (table : List ℕ) : Type 0 where
@@ -81,13 +81,13 @@ pub record Next (room : ℕ) (at : Chain) (table : List ℕ) : Type 0 where
 pub record Writes (rs : List Rule) (room : ℕ) (at : Chain) (before after : List ℕ) (r : Chain) : Type 0 where
   pub ready : Ready room r after
   pub stays : at.full ≡ true → r.full ≡ true
-  pub done : (w : Written) → Holds w at before → r.full ≡ false → Holds (write-rules w rs) r after
+  pub done : (w : Written) → Holds w at before → r.full ≡ false → Holds (write_rules w rs) r after
   pub over :
       (w : Written)
       → Holds w at before
       → at.full ≡ false
       → r.full ≡ true
-      → length (write-rules w rs).rows ≤ room
+      → length (write_rules w rs).rows ≤ room
       → ⊥
 
 -- The initial values of v source variables and of w twins have room, and each twin's original is a source variable of value 0 or 1.

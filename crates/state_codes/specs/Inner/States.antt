@@ -11,6 +11,6 @@ code [] = 0
 code (b ∷ s) = b + 2 * code s
 
 -- the state of v bits that has code n
-unfoldable pub state-of : (v n : ℕ) → List ℕ
-state-of zero n = []
-state-of (suc v) n = n % 2 ∷ state-of v (n / 2)
+unfoldable pub state_of : (v n : ℕ) → List ℕ
+state_of zero n = []
+state_of (suc v) n = n % 2 ∷ state_of v (n / 2)

@@ -2,16 +2,16 @@
 use Rattle.std.specs.Prelude.{ℕ, ◌+◌, ◌-◌, ◌*◌, ◌/◌, ◌≤◌, ◌<◌, ◌≡◌, Bool, true, false, cond, List, eqb, leb, ltb, length, get_or, set}
 
 -- the cost by which a state is queued, from its word: the word is 0 if the state was taken, and else its cost and one
-unfoldable pub queue-cost : ℕ → ℕ
-queue-cost word = cond (eqb word 0) 4294967295 (word - 1)
+unfoldable pub queue_cost : ℕ → ℕ
+queue_cost word = cond (eqb word 0) 4294967295 (word - 1)
 
 -- a state is in the queue unless it was taken, or not reached, which is the largest word
 unfoldable pub queued : ℕ → Bool
-queued word = ltb (queue-cost word) 4294967294
+queued word = ltb (queue_cost word) 4294967294
 
 -- what states are compared by: the cost, then the steps, of 32 bits
 unfoldable pub key : List ℕ → ℕ → ℕ → ℕ
-key words n s = queue-cost (get_or words s 0) * 4294967296 + get_or words (n + s) 0
+key words n s = queue_cost (get_or words s 0) * 4294967296 + get_or words (n + s) 0
 
 -- the state that node i names; nodes n .. 2n - 1 are the states themselves
 unfoldable pub winner : List ℕ → ℕ → ℕ → ℕ
@@ -52,7 +52,7 @@ pub record Sets (words : List ℕ) (n i : ℕ) : Type 0 where
 -- two nodes are the children of one
 pub data Siblings (a : ℕ) : ℕ → Type 0 where
   right_of : (b : ℕ) → a ≡ 2 * (a / 2) → b ≡ 2 * (a / 2) + 1 → Siblings a b
-  left-of : (b : ℕ) → a ≡ 2 * (a / 2) + 1 → b ≡ 2 * (a / 2) → Siblings a b
+  left_of : (b : ℕ) → a ≡ 2 * (a / 2) + 1 → b ≡ 2 * (a / 2) → Siblings a b
 
 -- every node plays but those over one state
 pub record Waits (words : List ℕ) (n state : ℕ) : Type 0 where
@@ -61,7 +61,7 @@ pub record Waits (words : List ℕ) (n state : ℕ) : Type 0 where
 
 -- every node plays, one state aside
 pub record NearlyPlays (n : ℕ) (first key : ℕ → ℕ) (state i : ℕ) : Type 0 where
-  pub state-below : first i < n
+  pub state_below : first i < n
   pub below : Over (n + first i) i
   pub least : (s : ℕ) → s < n → (s ≡ state → ⊥) → Over (n + s) i → key (first i) ≤ key s
 
@@ -77,12 +77,12 @@ pub record Climbs (words : List ℕ) (n state node : ℕ) : Type 0 where
 
 -- what one node makes of it, and whether those above are looked at: it names the state already; it names it now; another state stays
 pub data Climbed (n state node : ℕ) (before after : List ℕ) : Bool → Type 0 where
-  named-already : winner before n node ≡ state → after ≡ before → Climbed n state node before after true
-  named-now :
+  named_already : winner before n node ≡ state → after ≡ before → Climbed n state node before after true
+  named_now :
       key before n state < key before n (winner before n node)
       → after ≡ set before (3 * n + node) state
       → Climbed n state node before after true
-  other-stays :
+  other_stays :
       (winner before n node ≡ state → ⊥)
       → key before n (winner before n node) ≤ key before n state
       → after ≡ before

@@ -4,25 +4,25 @@ use Rattle.task.specs.declared.Head.{Head}
 use Rattle.task.specs.declared.Table.{Table}
 use Rattle.task.specs.declared.Table.TheVariants.{Formulas, Effects, Operators}
 use Rattle.task.specs.declared.TableRow.{TableRow}
-use Rattle.task.specs.Table.{Row, Operator, operator-width, operator, row_at, operator-at}
-use Rattle.task.specs.Check.{unless, formula-kept, effect-kept, operator-number}
-use Rattle.task.specs.Inner.Stored.{three, operator-stored}
+use Rattle.task.specs.Table.{Row, Operator, operator_width, operator, row_at, operator_at}
+use Rattle.task.specs.Check.{unless, formula_kept, effect_kept, operator_number}
+use Rattle.task.specs.Inner.Stored.{three, operator_stored}
 
 -- how many words a row has
 abbrev pub width : Table → ℕ
 width Formulas = 3
 width Effects = 3
-width Operators = operator-width
+width Operators = operator_width
 
 -- row i: its words in order; a row of three has 0 behind them
 abbrev in_order : Row → TableRow
 in_order r = record { first = r.kind; second = r.a; third = r.b; fourth = 0 }
 
-abbrev pub words-at : Table → List ℕ → ℕ → TableRow
-words-at Formulas words i = in_order (row_at words i)
-words-at Effects words i = in_order (row_at words i)
-words-at Operators words i =
-    let o = operator-at words i in
+abbrev pub words_at : Table → List ℕ → ℕ → TableRow
+words_at Formulas words i = in_order (row_at words i)
+words_at Effects words i = in_order (row_at words i)
+words_at Operators words i =
+    let o = operator_at words i in
     record { first = o.precondition; second = o.effect; third = o.cost; fourth = o.percent }
 
 -- the words that a row of a table has
@@ -32,21 +32,21 @@ listed Effects r = r.first ∷ r.second ∷ r.third ∷ []
 listed Operators r = r.first ∷ r.second ∷ r.third ∷ r.fourth ∷ []
 
 -- a row stored as row i
-abbrev pub row-stored : Table → List ℕ → ℕ → TableRow → List ℕ
-row-stored Formulas t i r = three t i r.first r.second r.third
-row-stored Effects t i r = three t i r.first r.second r.third
-row-stored Operators t i r = operator-stored t i (operator r.first r.second r.third r.fourth)
+abbrev pub row_stored : Table → List ℕ → ℕ → TableRow → List ℕ
+row_stored Formulas t i r = three t i r.first r.second r.third
+row_stored Effects t i r = three t i r.first r.second r.third
+row_stored Operators t i r = operator_stored t i (operator r.first r.second r.third r.fourth)
 
 -- the number of a row's words: 0, 10, 11, or 12 and 24
-abbrev pub words-number : Table → Head → ℕ → TableRow → ℕ
-words-number Formulas h i r = unless (formula-kept h.variables i (record { kind = r.first; a = r.second; b = r.third })) 10 0
-words-number Effects h i r =
-    unless (effect-kept h.variables h.formulas i (record { kind = r.first; a = r.second; b = r.third })) 11 0
-words-number Operators h i r =
-    operator-number h.formulas h.effects (operator r.first r.second r.third r.fourth)
+abbrev pub words_number : Table → Head → ℕ → TableRow → ℕ
+words_number Formulas h i r = unless (formula_kept h.variables i (record { kind = r.first; a = r.second; b = r.third })) 10 0
+words_number Effects h i r =
+    unless (effect_kept h.variables h.formulas i (record { kind = r.first; a = r.second; b = r.third })) 11 0
+words_number Operators h i r =
+    operator_number h.formulas h.effects (operator r.first r.second r.third r.fourth)
 
 -- the same of row i
 abbrev pub row_number : Table → Head → List ℕ → ℕ → ℕ
-row_number Formulas h words = λ i. unless (formula-kept h.variables i (row_at words i)) 10 0
-row_number Effects h words = λ i. unless (effect-kept h.variables h.formulas i (row_at words i)) 11 0
-row_number Operators h words = λ i. operator-number h.formulas h.effects (operator-at words i)
+row_number Formulas h words = λ i. unless (formula_kept h.variables i (row_at words i)) 10 0
+row_number Effects h words = λ i. unless (effect_kept h.variables h.formulas i (row_at words i)) 11 0
+row_number Operators h words = λ i. operator_number h.formulas h.effects (operator_at words i)

@@ -1,7 +1,7 @@
 -- What filling leaves: the answer, and on success the words of the task.
 use Rattle.std.specs.Prelude.{ℕ, ◌≡◌, List, ◌++◌, length, drop}
 use Rattle.task.specs.Table.{Task}
-use Rattle.task.specs.Words.{head_of, words_of, operator-words}
+use Rattle.task.specs.Words.{head_of, words_of, operator_words}
 use Rattle.task_file.specs.declared.ReadAnswer.{ReadAnswer}
 use Rattle.task_file.specs.declared.ReadAnswer.TheVariants.{Read, Refused}
 use Rattle.file_format.specs.Reading.{Lengths, Verdict, accepted, rejected, reading}
@@ -16,7 +16,7 @@ pub record Holds (t : Task) (i w f e o i' w' f' e' o' : List ℕ) : Type 0 where
   pub twins : w' ≡ t.originals ++ drop (length t.originals) w
   pub formulas : f' ≡ words_of t.formulas ++ drop (length (words_of t.formulas)) f
   pub effects : e' ≡ words_of t.effects ++ drop (length (words_of t.effects)) e
-  pub operators : o' ≡ operator-words t.operators ++ drop (length (operator-words t.operators)) o
+  pub operators : o' ≡ operator_words t.operators ++ drop (length (operator_words t.operators)) o
 
 -- what filling leaves: the answer, and on success the task's words. After a refusal the tables are left open: `read` clears them all.
 pub record Filled (l : Lengths) (file : List ℕ) (r : ReadAnswer) (i w f e o i' w' f' e' o' : List ℕ) : Type 0 where

@@ -4,12 +4,12 @@ use Rattle.std.proofs.lemmas.List.Edits.{sets}
 use Rattle.task.specs.declared.Table.{Table}
 use Rattle.task.specs.declared.Table.TheVariants.{Formulas, Effects, Operators}
 use Rattle.task.specs.Bounded.{upto}
-use Rattle.task.specs.Table.{row_at, operator-at, Lent, operator}
+use Rattle.task.specs.Table.{row_at, operator_at, Lent, operator}
 use Rattle.task.specs.Words.{joined}
-use Rattle.file_format.specs.Bytes.{number, row-bytes, operator-bytes}
+use Rattle.file_format.specs.Bytes.{number, row_bytes, operator_bytes}
 use Rattle.task.specs.Rules.{LongEnough}
 use Rattle.task.specs.declared.TableRow.{TableRow}
-use Rattle.task.specs.Inner.Tables.{width, words-at}
+use Rattle.task.specs.Inner.Tables.{width, words_at}
 
 -- bytes stored one after the other from `at` on, and the place behind them
 pub record Put (bytes : List ℕ) (at r : ℕ) (out out' : List ℕ) : Type 0 where
@@ -23,25 +23,25 @@ MapFits Effects kind = kind < 16
 MapFits Operators kind = Unit {0}
 
 -- the bytes of a row, by its words
-abbrev pub kind-bytes : (kind a b : ℕ) → List ℕ
-kind-bytes kind a b = row-bytes (record { kind = kind; a = a; b = b })
+abbrev pub kind_bytes : (kind a b : ℕ) → List ℕ
+kind_bytes kind a b = row_bytes (record { kind = kind; a = a; b = b })
 
 abbrev pub bytes_of : Table → TableRow → List ℕ
-bytes_of Formulas r = kind-bytes r.first r.second r.third
-bytes_of Effects r = kind-bytes r.first r.second r.third
-bytes_of Operators r = operator-bytes (operator r.first r.second r.third r.fourth)
+bytes_of Formulas r = kind_bytes r.first r.second r.third
+bytes_of Effects r = kind_bytes r.first r.second r.third
+bytes_of Operators r = operator_bytes (operator r.first r.second r.third r.fourth)
 
 -- the bytes of the first n rows of a table
-abbrev pub rows-bytes : Table → List ℕ → ℕ → List ℕ
-rows-bytes Formulas words n = joined row-bytes (upto n (row_at words))
-rows-bytes Effects words n = joined row-bytes (upto n (row_at words))
-rows-bytes Operators words n = joined operator-bytes (upto n (operator-at words))
+abbrev pub rows_bytes : Table → List ℕ → ℕ → List ℕ
+rows_bytes Formulas words n = joined row_bytes (upto n (row_at words))
+rows_bytes Effects words n = joined row_bytes (upto n (row_at words))
+rows_bytes Operators words n = joined operator_bytes (upto n (operator_at words))
 
 -- a table whose rows can be put at a place
 pub record RowsIn (table : Table) (words : List ℕ) (count at : ℕ) : Type 0 where
   pub fit : width table * count ≤ length words
   pub room : at + 9 * count ≤ 1000000
-  pub maps : (i : ℕ) → i < count → MapFits table (words-at table words i).first
+  pub maps : (i : ℕ) → i < count → MapFits table (words_at table words i).first
 
 -- a state whose first variables are bits
 pub record StateIn (state : List ℕ) (count : ℕ) : Type 0 where
@@ -49,8 +49,8 @@ pub record StateIn (state : List ℕ) (count : ℕ) : Type 0 where
   pub bits : (v : ℕ) → v < count → get_or state v 0 ≤ 1
 
 -- byte j of a packed state
-unfoldable pub byte-number : List ℕ → ℕ → ℕ
-byte-number state j = number (upto 8 (λ k. get_or state (8 * j + k) 0))
+unfoldable pub byte_number : List ℕ → ℕ → ℕ
+byte_number state j = number (upto 8 (λ k. get_or state (8 * j + k) 0))
 
 -- what tables that pass the check bring to the writer
 pub record WriteIn (l : Lent) : Type 0 where
@@ -61,5 +61,5 @@ pub record WriteIn (l : Lent) : Type 0 where
   pub effects : l.head.effects ≤ 4096
   pub operators : l.head.operators ≤ 256
   pub state : StateIn l.initial l.head.variables
-  pub formula-maps : (i : ℕ) → i < l.head.formulas → MapFits Formulas (row_at l.formulas i).kind
-  pub effect-maps : (i : ℕ) → i < l.head.effects → MapFits Effects (row_at l.effects i).kind
+  pub formula_maps : (i : ℕ) → i < l.head.formulas → MapFits Formulas (row_at l.formulas i).kind
+  pub effect_maps : (i : ℕ) → i < l.head.effects → MapFits Effects (row_at l.effects i).kind

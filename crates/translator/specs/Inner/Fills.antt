@@ -1,12 +1,12 @@
 -- Filling the lent tables: what it asks, and what it leaves.
 use Rattle.std.specs.Prelude.{ℕ, ◌+◌, ◌*◌, ◌≤◌, ◌<◌, ◌≡◌, true, false, List, length, replicate}
 use Rattle.task.specs.declared.Head.{Head}
-use Rattle.task.specs.Table.{operator-width}
-use Rattle.task.specs.Words.{words_of, operator-words, head_of, padded}
+use Rattle.task.specs.Table.{operator_width}
+use Rattle.task.specs.Words.{words_of, operator_words, head_of, padded}
 use Rattle.normal_form.specs.Compiled.{Fits}
-use Rattle.finite_domain.specs.Table.{FiniteLent, finite-lent, FiniteTask, finite-task-of}
-use Rattle.finite_domain.specs.Check.{finite-refusal}
-use Rattle.translation.specs.Flags.{first-flag}
+use Rattle.finite_domain.specs.Table.{FiniteLent, finite_lent, FiniteTask, finite_task_of}
+use Rattle.finite_domain.specs.Check.{finite_refusal}
+use Rattle.translation.specs.Flags.{first_flag}
 use Rattle.translation.specs.Translated.{translated}
 use Rattle.flag_tables.specs.Inner.Flags.{FirstFlags}
 use Rattle.translator.specs.declared.Sizes.{Sizes}
@@ -38,7 +38,7 @@ counted n c i f e o s =
 -- what was lent
 abbrev pub lent_of : Counted → FiniteLent
 lent_of g =
-    finite-lent
+    finite_lent
     (record {
       variables = g.size.counts.variables;
       twins = 0;
@@ -51,27 +51,27 @@ lent_of g =
 
 -- the task that it holds
 unfoldable pub source_of : Counted → FiniteTask
-source_of g = finite-task-of (lent_of g)
+source_of g = finite_task_of (lent_of g)
 
 -- The source passes, formulas are copied, and there are no twins; the first flags are told, and so is how many flags there are: at most 512.
 pub record Source (g : Counted) : Type 0 where
-  pub passes : finite-refusal (lent_of g) ≡ 0
+  pub passes : finite_refusal (lent_of g) ≡ 0
   pub copied : g.size.counts.frame.copied ≡ 1
   pub untwinned : g.size.counts.frame.twins ≡ 0
   pub told : FirstFlags g.counts g.size.counts.variables g.firsts
   pub words : g.size.counts.variables < length g.firsts
-  pub flags : g.size.counts.frame.variables ≡ first-flag g.counts g.size.counts.variables
-  pub flags-limit : g.size.counts.frame.variables ≤ 512
+  pub flags : g.size.counts.frame.variables ≡ first_flag g.counts g.size.counts.variables
+  pub flags_limit : g.size.counts.frame.variables ≤ 512
 
 -- The lent tables have the room that is counted.
 pub record Spaced (g : Counted) (x : Tables) : Type 0 where
   pub memo : 2 * g.size.counts.frame.formulas + 2 * g.size.counts.frame.effects ≤ length x.scratch
-  pub initial-space : g.size.counts.frame.variables ≤ length x.initial
-  pub rows-limit : g.size.counts.frame.rows ≤ 4096
-  pub rows-space : 3 * g.size.counts.frame.rows ≤ length x.formulas
-  pub effects-limit : g.size.room ≤ 4096
-  pub effects-space : 3 * g.size.room ≤ length x.effects
-  pub operators-space : operator-width * g.size.counts.operators ≤ length x.operators
+  pub initial_space : g.size.counts.frame.variables ≤ length x.initial
+  pub rows_limit : g.size.counts.frame.rows ≤ 4096
+  pub rows_space : 3 * g.size.counts.frame.rows ≤ length x.formulas
+  pub effects_limit : g.size.room ≤ 4096
+  pub effects_space : 3 * g.size.room ≤ length x.effects
+  pub operators_space : operator_width * g.size.counts.operators ≤ length x.operators
 
 -- So have they, and they are all 0.
 pub record Begins (g : Counted) (x : Tables) : Type 0 where
@@ -82,30 +82,30 @@ pub record Begins (g : Counted) (x : Tables) : Type 0 where
 -- Rows and effect rows are as many as the limits and the tables allow.
 pub record Roomy (g : Counted) (x : Tables) : Type 0 where
   pub begins : Begins g x
-  pub rows-allowed : (n : ℕ) → n ≤ 4096 → 3 * n ≤ length x.formulas → n ≤ g.size.counts.frame.rows
-  pub effects-allowed : (n : ℕ) → n ≤ 4096 → 3 * n ≤ length x.effects → n ≤ g.size.room
+  pub rows_allowed : (n : ℕ) → n ≤ 4096 → 3 * n ≤ length x.formulas → n ≤ g.size.counts.frame.rows
+  pub effects_allowed : (n : ℕ) → n ≤ 4096 → 3 * n ≤ length x.effects → n ≤ g.size.room
 
 -- At most so many rows are asked for, of so many formulas and effects, and of so many flags.
 pub record BeginsWithin (rows source flags : ℕ) (g : Counted) (x : Tables) : Type 0 where
   pub begins : Begins g x
-  pub few-rows : g.size.counts.frame.rows ≤ rows
-  pub few-formulas : g.size.counts.frame.formulas ≤ source
-  pub few-effects : g.size.counts.frame.effects ≤ source
-  pub few-flags : g.size.counts.frame.variables ≤ flags
+  pub few_rows : g.size.counts.frame.rows ≤ rows
+  pub few_formulas : g.size.counts.frame.formulas ≤ source
+  pub few_effects : g.size.counts.frame.effects ≤ source
+  pub few_flags : g.size.counts.frame.variables ≤ flags
 
 -- the head of the translated task, with so many flags: operators keep their number, and there are no twins
-abbrev pub head-after : (flags operators : ℕ) → Filled → Head
-head-after flags operators r =
+abbrev pub head_after : (flags operators : ℕ) → Filled → Head
+head_after flags operators r =
     record { variables = flags; twins = 0; formulas = r.rows; effects = r.effects; operators = operators; goal = r.goal }
 
 -- The tables hold the translated task, which fits. What stands in scratch is left open: `translate` clears it (`translating`).
 pub record Holds (g : Counted) (x y : Tables) (r : Filled) : Type 0 where
   pub fits : Fits (translated (source_of g)) (room_of x)
-  pub head : head_of (translated (source_of g)) ≡ head-after g.size.counts.frame.variables g.size.counts.operators r
+  pub head : head_of (translated (source_of g)) ≡ head_after g.size.counts.frame.variables g.size.counts.operators r
   pub initial : y.initial ≡ padded (length x.initial) (translated (source_of g)).initial
   pub formulas : y.formulas ≡ padded (length x.formulas) (words_of (translated (source_of g)).formulas)
   pub effects : y.effects ≡ padded (length x.effects) (words_of (translated (source_of g)).effects)
-  pub operators : y.operators ≡ padded (length x.operators) (operator-words (translated (source_of g)).operators)
+  pub operators : y.operators ≡ padded (length x.operators) (operator_words (translated (source_of g)).operators)
 
 -- They hold it, or are as they came.
 pub record Tries (g : Counted) (x y : Tables) (r : Filled) : Type 0 where

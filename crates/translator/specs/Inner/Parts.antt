@@ -14,14 +14,14 @@ pub record Builds (n : Sizes) (formulas effects operators firsts own-formulas ow
   pub ranges : List ℕ
   pub initial : List ℕ
   pub source : Source (counted n ranges initial formulas effects operators firsts)
-  pub formulas-space : 3 * n.counts.frame.formulas ≤ length own-formulas
-  pub effects-space : 3 * n.counts.frame.effects ≤ length own-effects
-  pub notes-space : sets_end n.counts.frame ≤ length notes
-  pub blank-notes : Zeros notes
+  pub formulas_space : 3 * n.counts.frame.formulas ≤ length own-formulas
+  pub effects_space : 3 * n.counts.frame.effects ≤ length own-effects
+  pub notes_space : sets_end n.counts.frame ≤ length notes
+  pub blank_notes : Zeros notes
   pub fresh : Fresh n.counts.frame built
-  pub scratch-space : 2 * n.counts.frame.formulas + 2 * n.counts.frame.effects ≤ length scratch
-  pub blank-scratch : Zeros scratch
-  pub preconditions-space : n.counts.operators ≤ length preconditions
+  pub scratch_space : 2 * n.counts.frame.formulas + 2 * n.counts.frame.effects ≤ length scratch
+  pub blank_scratch : Zeros scratch
+  pub preconditions_space : n.counts.operators ≤ length preconditions
 
 -- The formulas of the translated task stand, r rows, or there was no room.
 abbrev pub StandsBuilt : Counted → (built scratch preconditions : List ℕ) → ℕ → Type 0
@@ -35,8 +35,8 @@ BuiltAll n formulas effects operators firsts built scratch preconditions r =
     → StandsBuilt g built scratch preconditions r
 
 -- the answer without room
-abbrev pub nothing-filled : Filled
-nothing-filled = record { rows = 0; effects = 0; goal = 0; full = true }
+abbrev pub nothing_filled : Filled
+nothing_filled = record { rows = 0; effects = 0; goal = 0; full = true }
 
 -- They stand, or there was no room; the output tables have the room that is counted, and are all 0.
 pub record Finishes (n : Sizes) (rows : ℕ) (ranges initial effects operators firsts preconditions built : List ℕ) (x : Tables) : Type 0 where
@@ -44,13 +44,13 @@ pub record Finishes (n : Sizes) (rows : ℕ) (ranges initial effects operators f
   pub source : Source (counted n ranges initial formulas effects operators firsts)
   pub stood : StandsBuilt (counted n ranges initial formulas effects operators firsts) built x.scratch preconditions rows
   pub spaced : Spaced (counted n ranges initial formulas effects operators firsts) x
-  pub built-space : 3 * n.counts.frame.rows ≤ length built
-  pub places-space : n.counts.frame.effects ≤ length built
-  pub preconditions-space : n.counts.operators ≤ length preconditions
-  pub blank-initial : x.initial ≡ replicate (length x.initial) 0
-  pub blank-formulas : x.formulas ≡ replicate (length x.formulas) 0
-  pub blank-effects : x.effects ≡ replicate (length x.effects) 0
-  pub blank-operators : x.operators ≡ replicate (length x.operators) 0
+  pub built_space : 3 * n.counts.frame.rows ≤ length built
+  pub places_space : n.counts.frame.effects ≤ length built
+  pub preconditions_space : n.counts.operators ≤ length preconditions
+  pub blank_initial : x.initial ≡ replicate (length x.initial) 0
+  pub blank_formulas : x.formulas ≡ replicate (length x.formulas) 0
+  pub blank_effects : x.effects ≡ replicate (length x.effects) 0
+  pub blank_operators : x.operators ≡ replicate (length x.operators) 0
 
 -- The tables hold the translated task, or it has more rows or effect rows than there is room for; then it is left open what stands in them.
 pub record Ends (g : Counted) (x y : Tables) (r : Filled) : Type 0 where

@@ -24,8 +24,8 @@ pub record Least (a b r : ℕ) : Type 0 where
   pub most : (k : ℕ) → k ≤ a → k ≤ b → k ≤ r
 
 -- a source's counts over so many flags, with room for so many rows and effect rows; formulas are copied, and there are no twins
-abbrev pub sizes-by : Head → (flags rows room : ℕ) → Sizes
-sizes-by h flags rows room =
+abbrev pub sizes_by : Head → (flags rows room : ℕ) → Sizes
+sizes_by h flags rows room =
     record {
       counts =
           record {
@@ -39,7 +39,7 @@ sizes-by h flags rows room =
 
 -- a source's counts, with as much room as the limits and the lent tables allow; the word behind the first flags is the number of all
 pub record SizesOf (h : Head) (n : Lengths) (firsts : List ℕ) (r : Sizes) : Type 0 where
-  pub same : r ≡ sizes-by h (get_or firsts h.variables 0) r.counts.frame.rows r.room
+  pub same : r ≡ sizes_by h (get_or firsts h.variables 0) r.counts.frame.rows r.room
   pub rows : Least 4096 (n.table / 3) r.counts.frame.rows
   pub room : Least 4096 (n.out / 3) r.room
 
@@ -74,6 +74,6 @@ pub record Fewer (most : ℕ) (n r : Sizes) : Type 0 where
 -- a source that a small frame is tried for: which ones is left open, since filling comes to the same either way (`Fills`); what the frame needs of it holds,
 -- at most so many formulas and effects, and so many flags
 pub record Small (source flags : ℕ) (n : Sizes) (r : Bool) : Type 0 where
-  pub few-formulas : r ≡ true → n.counts.frame.formulas ≤ source
-  pub few-effects : r ≡ true → n.counts.frame.effects ≤ source
-  pub few-flags : r ≡ true → n.counts.frame.variables ≤ flags
+  pub few_formulas : r ≡ true → n.counts.frame.formulas ≤ source
+  pub few_effects : r ≡ true → n.counts.frame.effects ≤ source
+  pub few_flags : r ≡ true → n.counts.frame.variables ≤ flags

@@ -12,10 +12,10 @@ use Rattle.variable_changes.specs.declared.Change.{Change}
 -- The source keeps the rules, and the tables and both memos hold what is built.
 pub record Stands (frame : Frame) (formulas effects : List ℕ) (at : Size) (s : Store) (scratch : List ℕ) : Type 0 where
   pub source : Source frame formulas scratch
-  pub effect-source : EffectSource frame effects scratch
+  pub effect_source : EffectSource frame effects scratch
   pub ready : Ready frame at s
   pub memo : Memo frame formulas scratch (held at s)
-  pub effect-memo : EffectMemo frame formulas effects scratch (held at s)
+  pub effect_memo : EffectMemo frame formulas effects scratch (held at s)
 
 -- It stands there with notes, before effect e.
 pub record StandsAt (frame : Frame) (formulas effects notes : List ℕ) (at : Size) (s : Store) (scratch : List ℕ) (e : ℕ) : Type 0 where
@@ -37,7 +37,7 @@ pub record Reached (t : St) (frame : Frame) (formulas effects : List ℕ) (at : 
   pub state : t ≡ held at after
   pub ready : Ready frame at after
   pub memo : Memo frame formulas scratch (held at after)
-  pub effect-memo : EffectMemo frame formulas effects scratch (held at after)
+  pub effect_memo : EffectMemo frame formulas effects scratch (held at after)
 
 -- A step reaches its state, or there is no room for it. Then tables, memos, notes, sizes and values are left open (`Builds` says why); otherwise only which
 -- words index, memos and notes have, if they are right.

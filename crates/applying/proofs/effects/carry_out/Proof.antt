@@ -4,13 +4,13 @@ use Rattle.applying.proofs.effects.carry_out.Statement.{statement}
 use Rattle.applying.proofs.effects.carry_out.Tie as tie
 use native.Mathlib.Omega.{arith}
 use mathlib.Core.Path.{refl}
-use Rattle.applying.proofs.Passes.{decided-ready, carried}
+use Rattle.applying.proofs.Passes.{decided_ready, carried}
 
 carry-out-atoms-requires-2 : tie.Need-carry-out-atoms-requires-2
 carry-out-atoms-requires-2 c κs =
     let at-carry-out-atoms = c.before.before.before.before.before.before in
     let at_pre = at-carry-out-atoms.before.before.before.before.before.before.before in
-    (decided-ready at_pre.requires at-carry-out-atoms.carry-out-atoms.ensures, omega arith)
+    (decided_ready at_pre.requires at-carry-out-atoms.carry-out-atoms.ensures, omega arith)
 
 returns : tie.Need-returns
 returns c =

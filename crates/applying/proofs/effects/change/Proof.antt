@@ -6,7 +6,7 @@ use mathlib.Core.Path.{◌≡◌}
 use lib.ListN.{length}
 use native.Mathlib.Omega.{arith}
 use Rattle.task.specs.Table.{row_at}
-use Rattle.applying.proofs.Passes.{acts-not-marked, acts-other-kind, acts-marked, Passing, begin, idle, act}
+use Rattle.applying.proofs.Passes.{acts_not_marked, acts-other-kind, acts-marked, Passing, begin, idle, act}
 
 abbrev invariant-loop : tie.invariant-loop
 invariant-loop effects rows kind value state₀ scratch at next₀ state next = (next ≤ rows) × Passing effects kind value scratch at next state₀ state
@@ -44,7 +44,7 @@ loop-again-2 c =
     (omega arith, idle at-loop.loop.invariant.1 (acts-other-kind _ _ _ _ _ c.before.before.if1.true c.if2.false))
 
 loop-again-3 : tie.Need-loop-preserved-3 invariant-loop decreases-loop
-loop-again-3 c = (omega arith, idle c.before.before.before.loop.invariant.1 (acts-not-marked _ _ _ _ _ c.if1.false))
+loop-again-3 c = (omega arith, idle c.before.before.before.loop.invariant.1 (acts_not_marked _ _ _ _ _ c.if1.false))
 
 same_length : tie.Need-same-length invariant-loop decreases-loop
 same_length c = c.before.loop.invariant.1.same

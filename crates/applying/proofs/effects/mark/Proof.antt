@@ -4,7 +4,7 @@ use Rattle.applying.proofs.effects.mark.Tie as tie
 use Prim.Native.Nat.{◌+◌, ◌≤◌}
 use native.Mathlib.Omega.{arith}
 use mathlib.Core.Path.{◌≡◌, ◌∙◌}
-use Rattle.applying.proofs.Marking.{Going, starts, still-markable, markable-here, passes, hands_on, finished}
+use Rattle.applying.proofs.Marking.{Going, starts, still_markable, markable-here, passes, hands_on, finished}
 
 abbrev invariant-loop : tie.invariant-loop
 invariant-loop effects root variables scratch₀ at left₀ scratch left =
@@ -36,7 +36,7 @@ hand-on-requires c κs =
     let at-loop = c.before.before.before.before in
     let at-begin-marks = at-loop.before.before.before in
     let at_pre = at-begin-marks.before.before.before.before in
-    markable-here (still-markable at_pre.requires at-begin-marks.begin-marks.ensures.same) (omega arith) at-loop.loop.invariant.0 at-loop.loop.invariant.1
+    markable-here (still_markable at_pre.requires at-begin-marks.begin-marks.ensures.same) (omega arith) at-loop.loop.invariant.0 at-loop.loop.invariant.1
 
 loop-again : tie.Need-loop-preserved invariant-loop decreases-loop
 loop-again c =
@@ -45,7 +45,7 @@ loop-again c =
     let at-begin-marks = at-loop.before.before.before in
     let at_pre = at-begin-marks.before.before.before.before in (
       omega arith,
-      hands_on (still-markable at_pre.requires at-begin-marks.begin-marks.ensures.same) (omega arith) at-loop.loop.invariant.0 at-loop.loop.invariant.1
+      hands_on (still_markable at_pre.requires at-begin-marks.begin-marks.ensures.same) (omega arith) at-loop.loop.invariant.0 at-loop.loop.invariant.1
           c.before.before.hand_on.new.1.1.1.0 at-if1.if1.true c.before.before.hand_on.ensures,
     )
 
@@ -55,7 +55,7 @@ loop-again-2 c =
     let at-begin-marks = at-loop.before.before.before in
     let at_pre = at-begin-marks.before.before.before.before in (
       omega arith,
-      passes (still-markable at_pre.requires at-begin-marks.begin-marks.ensures.same) (omega arith) at-loop.loop.invariant.0 at-loop.loop.invariant.1
+      passes (still_markable at_pre.requires at-begin-marks.begin-marks.ensures.same) (omega arith) at-loop.loop.invariant.0 at-loop.loop.invariant.1
           c.if1.false,
     )
 

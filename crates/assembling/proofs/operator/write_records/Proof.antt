@@ -11,13 +11,13 @@ use native.Mathlib.Omega.{arith}
 use lib.ListN.{length}
 use Rattle.normal_form.specs.Assembly.{rules}
 use Rattle.rule_writer.specs.Inner.Writes.{Ready, Writes}
-use Rattle.rule_writer.proofs.Writing.{writes-placed}
-use Rattle.assembling.specs.Inner.Assembles.{changes-between, ForTwins}
-use Rattle.assembling.proofs.Operators.{change-below, records-none, records-more, records-all}
+use Rattle.rule_writer.proofs.Writing.{writes_placed}
+use Rattle.assembling.specs.Inner.Assembles.{changes_between, ForTwins}
+use Rattle.assembling.proofs.Operators.{change_below, records-none, records-more, records-all}
 
 abbrev invariant-loop : tie.invariant-loop
 invariant-loop records places k end frame out₀ r₀ i₀ out r i =
-    (k ≤ i) × (i ≤ end) × (length out ≡ length out₀) × Ready frame.room r out × ForTwins frame places (λ twins. Writes (rules frame.variables twins (changes-between records k i)) frame.room r₀ out₀ out r)
+    (k ≤ i) × (i ≤ end) × (length out ≡ length out₀) × Ready frame.room r out × ForTwins frame places (λ twins. Writes (rules frame.variables twins (changes_between records k i)) frame.room r₀ out₀ out r)
 
 abbrev decreases-loop : tie.decreases-loop
 decreases-loop records places k end frame out₀ r₀ i₀ out r i = end - i
@@ -44,7 +44,7 @@ write-changes-requires : tie.Need-write-changes-requires invariant-loop decrease
 write-changes-requires c κs =
     let at-loop = c.before.before.before in
     let s = at-loop.before.before.before.before in
-    let below = change-below s.args.records.now at-loop.loop.i s.requires.in_order at-loop.loop.invariant.0 c.before.before.loop-test.true
+    let below = change_below s.args.records.now at-loop.loop.i s.requires.in_order at-loop.loop.invariant.0 c.before.before.loop-test.true
     c.before.read-row.ensures in
     (record { rows = at-loop.loop.invariant.3; variables = s.requires.ready.variables }, omega (arith, below, s.requires.each_placed))
 
@@ -64,7 +64,7 @@ loop-again c =
     let at-loop = at-loop-test.before in
     let s = at-loop.before.before.before.before in
     let w = at-read-row.read-row.result in
-    let below = change-below s.args.records.now at-loop.loop.i s.requires.in_order at-loop.loop.invariant.0 at-loop-test.loop-test.true
+    let below = change_below s.args.records.now at-loop.loop.i s.requires.in_order at-loop.loop.invariant.0 at-loop-test.loop-test.true
     at-read-row.read-row.ensures in (
       omega (arith, at-loop.loop.invariant.0),
       omega (arith, at-loop-test.loop-test.true),
@@ -73,7 +73,7 @@ loop-again c =
       λ twins p.
           records-more s.args.frame.variables twins s.args.records.now s.args.k at-loop.loop.i w at-loop.loop.invariant.0
           at-read-row.read-row.ensures (at-loop.loop.invariant.4 twins p)
-          (writes-placed s.args.frame (record { variable = w.kind; adds = w.a; deletes = w.b }) p below c.before.before.write-changes.ensures),
+          (writes_placed s.args.frame (record { variable = w.kind; adds = w.a; deletes = w.b }) p below c.before.before.write-changes.ensures),
     )
 
 same_length : tie.Need-same-length invariant-loop decreases-loop

@@ -6,12 +6,12 @@ use Prim.Native.Nat.{◌+◌, ◌-◌, ◌≤◌}
 use mathlib.Core.Path.{◌≡◌, refl, ◌∙◌}
 use native.Mathlib.Omega.{arith}
 use lib.ListN.{length}
-use Rattle.assembling.specs.Inner.Assembles.{begins-at, assembled-in, ForTwins, Holding}
-use Rattle.assembling.proofs.Operators.{begins-none, begins-next, assembling-begun, asks-operator, assembling-more, assembling-stop, assembling-done}
+use Rattle.assembling.specs.Inner.Assembles.{begins_at, assembled_in, ForTwins, Holding}
+use Rattle.assembling.proofs.Operators.{begins-none, begins-next, assembling-begun, asks_operator, assembling-more, assembling-stop, assembling-done}
 
 abbrev invariant-loop : tie.invariant-loop
 invariant-loop operators records places count frame out₀ written₀ rows₀ k₀ o₀ out written rows k o =
-    (o ≤ count) × (length out ≡ length out₀) × (length written ≡ length written₀) × (k ≡ begins-at records o) × ForTwins frame places (λ twins. Holding (assembled-in frame.variables twins operators records o) rows o out written) × (rows ≤ frame.room)
+    (o ≤ count) × (length out ≡ length out₀) × (length written ≡ length written₀) × (k ≡ begins_at records o) × ForTwins frame places (λ twins. Holding (assembled_in frame.variables twins operators records o) rows o out written) × (rows ≤ frame.room)
 
 abbrev decreases-loop : tie.decreases-loop
 decreases-loop operators records places count frame out₀ written₀ rows₀ k₀ o₀ out written rows k o = count - o
@@ -25,7 +25,7 @@ loop-holds c =
       refl,
       begins-none s.args.records.now,
       λ twins p. assembling-begun s.args.frame.variables twins s.args.operators.now s.args.records.now s.args.out.now
-          s.args.written.now (omega (arith, a.one, a.space)) a.blank a.blank-operators,
+          s.args.written.now (omega (arith, a.one, a.space)) a.blank a.blank_operators,
       a.one,
     )
 
@@ -40,20 +40,20 @@ assemble-operator-requires c κs =
     let at-loop = at-loop-test.before in
     let s = at-loop.before.before.before.before.before.before in
     let inv = at-loop.loop.invariant in
-    asks-operator c.before.before.read-row.result s.requires.0 s.requires.1 at-loop-test.loop-test.true c.before.before.read-row.ensures inv.3
+    asks_operator c.before.before.read-row.result s.requires.0 s.requires.1 at-loop-test.loop-test.true c.before.before.read-row.ensures inv.3
     inv.5 inv.1 inv.2
 
 same_length : tie.Need-same-length invariant-loop decreases-loop
 same_length c =
     let at-assemble-operator = c.before.before.before.before.before in
     let at-loop = at-assemble-operator.before.before.before.before.before in
-    at-assemble-operator.assemble-operator.auto.1.1.1.1.1.1.1.1.0 ∙ at-loop.loop.invariant.1
+    at-assemble-operator.assemble_operator.auto.1.1.1.1.1.1.1.1.0 ∙ at-loop.loop.invariant.1
 
 same-length-2 : tie.Need-same-length-2 invariant-loop decreases-loop
 same-length-2 c =
     let at-assemble-operator = c.before.before.before.before.before in
     let at-loop = at-assemble-operator.before.before.before.before.before in
-    at-assemble-operator.assemble-operator.auto.1.1.1.1.1.1.1.1.1.0 ∙ at-loop.loop.invariant.2
+    at-assemble-operator.assemble_operator.auto.1.1.1.1.1.1.1.1.1.0 ∙ at-loop.loop.invariant.2
 
 returns : tie.Need-returns invariant-loop decreases-loop
 returns c =
@@ -64,7 +64,7 @@ returns c =
     let s = at-loop.before.before.before.before.before.before in
     let at = at-loop.loop in
     let w = at-read-row.read-row in
-    let done = at-assemble-operator.assemble-operator in
+    let done = at-assemble-operator.assemble_operator in
     λ twins p.
     assembling-stop s.args.frame.variables twins s.args.operators.now s.args.records.now at.o w.result w.ensures at.invariant.3
     (at.invariant.4 twins p) (done.ensures.1 twins p) s.args.count at-loop-test.loop-test.true c.if1.true
@@ -89,7 +89,7 @@ loop-again c =
     let s = at-loop.before.before.before.before.before.before in
     let at = at-loop.loop in
     let w = at-read-row.read-row in
-    let done = at-assemble-operator.assemble-operator in (
+    let done = at-assemble-operator.assemble_operator in (
       omega (arith, at-loop-test.loop-test.true),
       done.auto.1.1.1.1.1.1.1.1.0 ∙ at.invariant.1,
       done.auto.1.1.1.1.1.1.1.1.1.0 ∙ at.invariant.2,

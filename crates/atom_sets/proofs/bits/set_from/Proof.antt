@@ -7,21 +7,21 @@ use Rattle.atom_sets.proofs.bits.set_from.Reads as reads
 use Rattle.atom_sets.proofs.bits.set_from.Lts as lts
 use Rattle.atom_sets.proofs.bits.set_word.Reads as set-word-reads
 use native.Mathlib.Omega.{arith}
-use Rattle.atom_sets.proofs.Places.{place-within, from-by}
+use Rattle.atom_sets.proofs.Places.{place_within, from_by}
 
 -- src/bits.rt:49:5
 mul-result : tie.Need-overflow-mul-result
-mul-result c = omega (arith, place-within c.before.before.requires.0, c.set_word.ensures, c.before.before.well-formed)
+mul-result c = omega (arith, place_within c.before.before.requires.0, c.set_word.ensures, c.before.before.well-formed)
 
 -- src/bits.rt:49:5
 shared-slice-read-result : tie.Need-shared-slice-read-result
-shared-slice-read-result c = omega (arith, place-within c.before.before.before.requires.0, c.before.set_word.ensures, c.before.before.before.requires.1)
+shared-slice-read-result c = omega (arith, place_within c.before.before.before.requires.0, c.before.set_word.ensures, c.before.before.before.requires.1)
 
 -- src/bits.rt:43:1
 returns : tie.Need-returns
 returns c =
     let at-args = c.before.before.before in
-    from-by at-args.args.frame at-args.args.notes.now at-args.args.v at-args.args.e c.before.set_word.result
+    from_by at-args.args.frame at-args.args.notes.now at-args.args.v at-args.args.e c.before.set_word.result
     c.before.set_word.ensures
 
 pub set-from-spec : {M : Type 1} → statement M

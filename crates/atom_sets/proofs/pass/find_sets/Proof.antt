@@ -8,7 +8,7 @@ use Prim.Native.Nat.{◌-◌}
 use native.Mathlib.Omega.{arith}
 use mathlib.Core.Path.{◌≡◌, refl, ◌∙◌}
 use lib.ListN.{length}
-use Rattle.atom_sets.proofs.Finds.{Finding, finding-none, finding-asks, finding-more, finding-all}
+use Rattle.atom_sets.proofs.Finds.{Finding, finding_none, finding_asks, finding_more, finding_all}
 
 abbrev invariant-loop : tie.invariant-loop
 invariant-loop effects frame notes₀ i₀ notes i = (length notes ≡ length notes₀) × Finding frame effects notes₀ i notes
@@ -18,11 +18,11 @@ decreases-loop effects frame notes₀ i₀ notes i = frame.effects - i
 
 -- src/pass.rt:116:5
 loop-holds : tie.Need-loop-init invariant-loop decreases-loop
-loop-holds c = (refl, finding-none c.before.before.args.frame c.before.before.args.effects.now c.before.before.args.notes.now)
+loop-holds c = (refl, finding_none c.before.before.args.frame c.before.before.args.effects.now c.before.before.args.notes.now)
 
 -- src/pass.rt:117:9
 set-of-requires : tie.Need-set-of-requires invariant-loop decreases-loop
-set-of-requires c κs = finding-asks c.before.before.before.before.before.before.requires c.before.before.before.loop.invariant.0 (omega arith)
+set-of-requires c κs = finding_asks c.before.before.before.before.before.before.requires c.before.before.before.loop.invariant.0 (omega arith)
 
 -- src/pass.rt:118:9
 add-i : tie.Need-overflow-add-i invariant-loop decreases-loop
@@ -33,8 +33,8 @@ loop-again : tie.Need-loop-preserved invariant-loop decreases-loop
 loop-again c =
     let at-loop = c.before.before.before.before.before.before in
     let at_pre = at-loop.before.before.before in (
-      c.before.before.set-of.auto.1.1.1.0 ∙ at-loop.loop.invariant.0,
-      finding-more at_pre.requires (omega arith) at-loop.loop.invariant.1 c.before.before.set-of.ensures,
+      c.before.before.set_of.auto.1.1.1.0 ∙ at-loop.loop.invariant.0,
+      finding_more at_pre.requires (omega arith) at-loop.loop.invariant.1 c.before.before.set_of.ensures,
     )
 
 -- src/pass.rt:111:1
@@ -43,7 +43,7 @@ same_length c = c.before.before.loop.invariant.0
 
 -- src/pass.rt:111:1
 returns : tie.Need-returns invariant-loop decreases-loop
-returns c = finding-all c.before.before.before.before.before.requires c.before.before.loop.invariant.0 c.before.before.loop.invariant.1 (omega arith)
+returns c = finding_all c.before.before.before.before.before.requires c.before.before.loop.invariant.0 c.before.before.loop.invariant.1 (omega arith)
 
 pub find-sets-spec : {M : Type 1} → statement M
 find-sets-spec =

@@ -11,8 +11,8 @@ use Rattle.atom_sets.proofs.pass.set_start.Reads as set-start-reads
 use Rattle.atom_sets.proofs.pass.unite.Reads as unite-reads
 use Rattle.formula_builder.proofs.read_row.Reads as read-row-reads
 use native.Mathlib.Omega.{arith}
-use Rattle.atom_sets.proofs.Places.{whole-fours}
-use Rattle.atom_sets.proofs.Finds.{both-lower, under-lower, row_within, atom-within, row_room, found-both, found-under, found-empty, found-atom}
+use Rattle.atom_sets.proofs.Places.{whole_fours}
+use Rattle.atom_sets.proofs.Finds.{both-lower, under-lower, row_within, atom_within, row_room, found-both, found-under, found-empty, found-atom}
 
 -- src/pass.rt:94:13
 set-start-requires-2 : tie.Need-set-start-requires-2
@@ -41,10 +41,10 @@ unite-requires c κs =
     let at-read-row = at-set-words.before in
     let s = at-read-row.before.before.before in
     let r = at-read-row.read-row in let low = both-lower s.requires r.result r.ensures at-if1.if1.true in (
-      omega (arith, whole-fours s.args.frame, at-set-words.set_words.ensures),
-      row_room s.requires r.result r.ensures at-set-words.set_words.ensures.0 at-set-start.set-start.ensures r.result.a low.0
+      omega (arith, whole_fours s.args.frame, at-set-words.set_words.ensures),
+      row_room s.requires r.result r.ensures at-set-words.set_words.ensures.0 at-set-start.set_start.ensures r.result.a low.0
           at-set-start2.set-start2.ensures,
-      row_room s.requires r.result r.ensures at-set-words.set_words.ensures.0 at-set-start.set-start.ensures r.result.b low.1
+      row_room s.requires r.result r.ensures at-set-words.set_words.ensures.0 at-set-start.set_start.ensures r.result.b low.1
           c.before.set-start3.ensures,
     )
 
@@ -59,7 +59,7 @@ returns c =
     let at-read-row = at-set-words.before in
     let s = at-read-row.before.before.before in
     let r = at-read-row.read-row in found-both s.requires r.result r.ensures at-set-words.set_words.ensures.0
-    at-set-start.set-start.ensures at-if1.if1.true at-set-start2.set-start2.ensures at-set-start3.set-start3.ensures
+    at-set-start.set_start.ensures at-if1.if1.true at-set-start2.set-start2.ensures at-set-start3.set-start3.ensures
     c.before.before.unite.ensures
 
 -- src/pass.rt:100:13
@@ -79,8 +79,8 @@ copy-requires c κs =
     let at-read-row = at-set-words.before in
     let s = at-read-row.before.before.before in
     let r = at-read-row.read-row in (
-      omega (arith, whole-fours s.args.frame, at-set-words.set_words.ensures),
-      row_room s.requires r.result r.ensures at-set-words.set_words.ensures.0 at-set-start.set-start.ensures r.result.b
+      omega (arith, whole_fours s.args.frame, at-set-words.set_words.ensures),
+      row_room s.requires r.result r.ensures at-set-words.set_words.ensures.0 at-set-start.set_start.ensures r.result.b
           (under-lower s.requires r.result r.ensures at-if2.if2.true) c.before.set-start4.ensures,
     )
 
@@ -94,7 +94,7 @@ returns-2 c =
     let at-read-row = at-set-words.before in
     let s = at-read-row.before.before.before in
     let r = at-read-row.read-row in found-under s.requires r.result r.ensures at-set-words.set_words.ensures.0
-    at-set-start.set-start.ensures at-if2.if2.true at-set-start4.set-start4.ensures c.before.before.copy.ensures
+    at-set-start.set_start.ensures at-if2.if2.true at-set-start4.set-start4.ensures c.before.before.copy.ensures
 
 -- src/pass.rt:105:9
 returns-3 : tie.Need-returns-3
@@ -112,7 +112,7 @@ put-atom-requires c κs =
     let at-read-row = at-if1.before.before.before.before in
     let s = at-read-row.before.before.before in
     let r = at-read-row.read-row in
-    (atom-within s.requires r.result r.ensures at-if1.if1.false at-if2.if2.false at-if3.if3.false, s.requires.finds.room)
+    (atom_within s.requires r.result r.ensures at-if1.if1.false at-if2.if2.false at-if3.if3.false, s.requires.finds.room)
 
 -- src/pass.rt:86:1
 returns-4 : tie.Need-returns-4

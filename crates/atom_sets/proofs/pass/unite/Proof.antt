@@ -9,7 +9,7 @@ use native.Mathlib.Omega.{arith}
 use mathlib.Core.Path.{◌≡◌, refl, ◌∙◌}
 use lib.ListN.{length}
 use Rattle.atom_sets.specs.Inner.Finds.{united, Written}
-use Rattle.atom_sets.proofs.Words.{written_none, room-four, united-more, written_all}
+use Rattle.atom_sets.proofs.Words.{written_none, room-four, united_more, written_all}
 
 abbrev invariant-loop : tie.invariant-loop
 invariant-loop notes₀ n a b i k₀ notes k = (k ≤ n) × (k % 4 ≡ 0) × (length notes ≡ length notes₀) × Written k i (united notes₀ a b) notes₀ notes
@@ -60,7 +60,7 @@ loop-again c =
       h,
       omega (arith, at-loop.loop.invariant),
       c.before.before.unite-four.auto.0 ∙ at-loop.loop.invariant.2,
-      united-more at-args.requires.1 at-args.requires.2 h at-loop.loop.invariant.3 c.before.before.unite-four.ensures,
+      united_more at-args.requires.1 at-args.requires.2 h at-loop.loop.invariant.3 c.before.before.unite-four.ensures,
     )
 
 -- src/pass.rt:29:1

@@ -6,13 +6,13 @@ use Rattle.building.proofs.taking.begin.Reads as reads
 use Rattle.building.proofs.taking.begin.Lts as lts
 use Rattle.building.proofs.taking.no_room.Reads as no-room-reads
 use Rattle.formula_builder.proofs.first_rows.Reads as first-rows-reads
-use Rattle.building.proofs.Begun.{no-beginning, beginning}
+use Rattle.building.proofs.Begun.{no_beginning, beginning}
 
 -- src/taking.rt:33:9
 returns : tie.Need-returns
 returns c =
     let at-args = c.before.before.before.before in
-    no-beginning at-args.args.frame at-args.args.table.now c.before.if1.true c.no_room.ensures
+    no_beginning at-args.args.frame at-args.args.table.now c.before.if1.true c.no_room.ensures
 
 -- src/taking.rt:28:1
 returns-2 : tie.Need-returns-2

@@ -5,15 +5,15 @@ use Rattle.building.proofs.taking.take_operator.Statement.{statement}
 use Rattle.building.proofs.taking.take_operator.Tie as tie
 use mathlib.Core.Path.{refl, ◌∙◌}
 use native.Mathlib.Omega.{arith}
-use Rattle.building.proofs.Begun.{leaves-stopped, took-full, asks-operator, opens, took-over, took-many, took}
-use Rattle.variable_changes.proofs.Standing.{leaves-same}
+use Rattle.building.proofs.Begun.{leaves_stopped, took-full, asks_operator, opens, took-over, took-many, took}
+use Rattle.variable_changes.proofs.Standing.{leaves_same}
 
 returns : tie.Need-returns
 returns c =
     let start = c.before.before.before.before.before.before.before.before.before.before.before in
     let a = start.args in (
       took-full a.frame a.formulas.now a.effects.now a.operators.now start.requires c.before.if1.true c.no_room.ensures,
-      leaves-stopped c.no_room.ensures,
+      leaves_stopped c.no_room.ensures,
     )
 
 build-operator-requires : tie.Need-build-operator-requires
@@ -23,9 +23,9 @@ build-operator-requires c κs =
     let at-if1 = at-precondition-of.before in
     let start = at-if1.before.before.before.before.before.before.before.before.before.before in
     let a = start.args in (
-      asks-operator a.frame a.formulas.now a.effects.now a.operators.now start.requires at-if1.if1.false
-          at-precondition-of.precondition-of.ensures at-effect-of.effect_of.ensures,
-      opens a.frame a.formulas.now a.effects.now a.operators.now start.requires at-if1.if1.false at-precondition-of.precondition-of.ensures
+      asks_operator a.frame a.formulas.now a.effects.now a.operators.now start.requires at-if1.if1.false
+          at-precondition-of.precondition_of.ensures at-effect-of.effect_of.ensures,
+      opens a.frame a.formulas.now a.effects.now a.operators.now start.requires at-if1.if1.false at-precondition-of.precondition_of.ensures
           at-effect-of.effect_of.ensures,
     )
 
@@ -64,9 +64,9 @@ returns-2 c =
     let a = start.args in
     let built = at-build-operator.build-operator in (
       took-over a.frame a.formulas.now a.effects.now a.operators.now start.requires at-if1.if1.false
-          at-precondition-of.precondition-of.ensures at-effect-of.effect_of.ensures built.result built.ensures.0 c.before.if2.true
+          at-precondition-of.precondition_of.ensures at-effect-of.effect_of.ensures built.result built.ensures.0 c.before.if2.true
           c.no-room2.ensures,
-      leaves-stopped c.no-room2.ensures,
+      leaves_stopped c.no-room2.ensures,
     )
 
 same-length-6 : tie.Need-same-length-6
@@ -105,9 +105,9 @@ returns-3 c =
     let a = start.args in
     let built = at-build-operator.build-operator in (
       took-many a.frame a.formulas.now a.effects.now a.operators.now start.requires at-if1.if1.false
-          at-precondition-of.precondition-of.ensures at-effect-of.effect_of.ensures built.result built.ensures.0 at-if2.if2.false
+          at-precondition-of.precondition_of.ensures at-effect-of.effect_of.ensures built.result built.ensures.0 at-if2.if2.false
           c.before.if3.true c.no-room3.ensures,
-      leaves-stopped c.no-room3.ensures,
+      leaves_stopped c.no-room3.ensures,
     )
 
 store-requires : tie.Need-store-requires
@@ -152,10 +152,10 @@ returns-4 c =
     let start = at-if1.before.before.before.before.before.before.before.before.before.before in
     let a = start.args in
     let built = at-build-operator.build-operator in (
-      took a.frame a.formulas.now a.effects.now a.operators.now start.requires at-if1.if1.false at-precondition-of.precondition-of.ensures
+      took a.frame a.formulas.now a.effects.now a.operators.now start.requires at-if1.if1.false at-precondition-of.precondition_of.ensures
           at-effect-of.effect_of.ensures built.result built.ensures.0 at-if2.if2.false at-if3.if3.false built.auto.1.1.1.1.1.1.1.1.1.0
           built.auto.1.1.1.1.1.1.1.1.1.1.1.0 c.before.before.store.ensures refl,
-      leaves-same (built.ensures.1.noted at-if2.if2.false),
+      leaves_same (built.ensures.1.noted at-if2.if2.false),
     )
 
 pub take-operator-spec : {M : Type 1} → statement M

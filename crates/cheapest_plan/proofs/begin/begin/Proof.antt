@@ -2,7 +2,7 @@
 use native.Mathlib.Omega.{arith}
 use mathlib.Core.Path.{◌∙◌}
 use lib.ListN.{length-set}
-use Rattle.state_queue.proofs.Playing.{roomy-on}
+use Rattle.state_queue.proofs.Playing.{roomy_on}
 use Rattle.cheapest_plan.proofs.Beginning.{begin-nearly, begins}
 use borrow.Author.Rules.{rules}
 use Rattle.cheapest_plan.proofs.begin.begin.Statement.{statement}
@@ -34,10 +34,10 @@ raise-requires : tie.Need-raise-requires
 raise-requires c κs =
     let at-set-nodes = c.before.before.before in
     let at-empty = at-set-nodes.before.before.before.before in
-    let at-start = at-empty.before.before.before in
+    let at_start = at-empty.before.before.before in
     let long = at-set-nodes.set-nodes.auto.0 ∙ at-empty.empty.auto.0 in (
-      roomy-on at-start.requires.0 (length-set at-set-nodes.set-nodes.new.0 at-start.args.start 1 ∙ long),
-      begin-nearly at-empty.empty.ensures at-set-nodes.set-nodes.ensures at-start.requires.1 (omega (arith, at-start.requires.0, long)),
+      roomy_on at_start.requires.0 (length-set at-set-nodes.set-nodes.new.0 at_start.args.start 1 ∙ long),
+      begin-nearly at-empty.empty.ensures at-set-nodes.set-nodes.ensures at_start.requires.1 (omega (arith, at_start.requires.0, long)),
     )
 
 -- src/begin.rt:24:1
@@ -45,17 +45,17 @@ same_length : tie.Need-same-length
 same_length c =
     let at-set-nodes = c.before.before.before.before.before.before in
     let at-empty = at-set-nodes.before.before.before.before in
-    let at-start = at-empty.before.before.before in
-    c.before.before.raise.auto.0 ∙ length-set at-set-nodes.set-nodes.new.0 at-start.args.start 1 ∙ at-set-nodes.set-nodes.auto.0 ∙ at-empty.empty.auto.0
+    let at_start = at-empty.before.before.before in
+    c.before.before.raise.auto.0 ∙ length-set at-set-nodes.set-nodes.new.0 at_start.args.start 1 ∙ at-set-nodes.set-nodes.auto.0 ∙ at-empty.empty.auto.0
 
 -- src/begin.rt:24:1
 returns : tie.Need-returns
 returns c =
     let at-set-nodes = c.before.before.before.before.before.before in
     let at-empty = at-set-nodes.before.before.before.before in
-    let at-start = at-empty.before.before.before in
+    let at_start = at-empty.before.before.before in
     let long = at-set-nodes.set-nodes.auto.0 ∙ at-empty.empty.auto.0 in
-    begins at-empty.empty.ensures at-set-nodes.set-nodes.ensures at-start.requires.1 (omega (arith, at-start.requires.0, long)) c.before.before.raise.ensures
+    begins at-empty.empty.ensures at-set-nodes.set-nodes.ensures at_start.requires.1 (omega (arith, at_start.requires.0, long)) c.before.before.raise.ensures
 
 pub begin-spec : {M : Type 1} → statement M
 begin-spec =

@@ -2,7 +2,7 @@
 use Prim.Native.Nat.{◌-◌, ◌+◌}
 use native.Mathlib.Omega.{arith}
 use lib.ListN.{length-set, set}
-use Rattle.cheapest_plan.proofs.Beginning.{Emptying, emptying-begin, emptying-more, emptied}
+use Rattle.cheapest_plan.proofs.Beginning.{Emptying, emptying_begin, emptying_more, emptied}
 use Rattle.cheapest_plan.proofs.begin.empty.Statement.{statement}
 use Rattle.cheapest_plan.proofs.begin.empty.Tie as tie
 use Rattle.cheapest_plan.proofs.begin.empty.Reads as reads
@@ -16,7 +16,7 @@ decreases-loop words₀ n s₀ words s = n - s
 
 -- src/begin.rt:15:5
 loop-holds : tie.Need-loop-init invariant-loop decreases-loop
-loop-holds c = emptying-begin c.args.n c.args.words.now
+loop-holds c = emptying_begin c.args.n c.args.words.now
 
 -- src/begin.rt:16:9
 mul_words : tie.Need-overflow-mul-words invariant-loop decreases-loop
@@ -53,14 +53,14 @@ mul-words-4 c = omega (arith, c.before.before.requires, c.before.loop.invariant)
 -- src/begin.rt:18:9
 slice-write-words-3 : tie.Need-slice-write-words-3 invariant-loop decreases-loop
 slice-write-words-3 c =
-    let at-start = c.before.before in
+    let at_start = c.before.before in
     let at = c.before.loop in
     omega (
       arith,
-      at-start.requires,
+      at_start.requires,
       at.invariant,
       length-set at.words at.s 4294967295,
-      length-set (set at.words at.s 4294967295) (at-start.args.n + at.s) 0,
+      length-set (set at.words at.s 4294967295) (at_start.args.n + at.s) 0,
     )
 
 -- src/begin.rt:19:9
@@ -73,7 +73,7 @@ loop-less c = omega (arith, c.before.before.requires, c.before.loop.invariant)
 
 -- src/begin.rt:15:5
 loop-again : tie.Need-loop-preserved invariant-loop decreases-loop
-loop-again c = emptying-more c.before.before.requires c.loop-test.true c.before.loop.invariant
+loop-again c = emptying_more c.before.before.requires c.loop-test.true c.before.loop.invariant
 
 -- src/begin.rt:10:1
 same_length : tie.Need-same-length invariant-loop decreases-loop

@@ -4,9 +4,9 @@ use native.Mathlib.Omega.{arith}
 use mathlib.Core.Path.{◌≡◌, sym, ◌∙◌}
 use lib.ListN.{length, get_or}
 use Rattle.task.specs.Table.{lent}
-use Rattle.cheapest_plan.specs.Planned.{search-refusal}
-use Rattle.cheapest_plan.proofs.Refusing.{search-ready}
-use Rattle.cheapest_plan.proofs.Calls.{plan-refuses, plan-gives, clear-again, clear_behind, ready-told}
+use Rattle.cheapest_plan.specs.Planned.{search_refusal}
+use Rattle.cheapest_plan.proofs.Refusing.{search_ready}
+use Rattle.cheapest_plan.proofs.Calls.{plan-refuses, plan-gives, clear_again, clear_behind, ready_told}
 use borrow.Author.Rules.{rules}
 use Rattle.cheapest_plan.proofs.call.cheapest.Statement.{statement}
 use Rattle.cheapest_plan.proofs.call.cheapest.Tie as tie
@@ -59,8 +59,8 @@ returns c =
     let at-if1 = at-clear-bytes.before.before in
     let at-refused-early = at-if1.before in
     let at-clear-words = at-refused-early.before.before.before.before.before in
-    let at-start = at-clear-words.before.before.before.before.before.before.before.before.before.before in
-    let a = at-start.args in
+    let at_start = at-clear-words.before.before.before.before.before.before.before.before.before.before in
+    let a = at_start.args in
     let l = lent a.head a.initial.now a.twins.now a.formulas.now a.effects.now a.operators.now in
     let scratch = a.scratch.now in
     let words = a.words.now in
@@ -77,15 +77,15 @@ plan-ready-requires c κs =
     let at-refused-early = at-if1.before in
     let at-clear-words = at-refused-early.before.before.before.before.before in
     let at-shared-slice-known5 = at-clear-words.before.before.before.before.before in
-    let at-start = at-shared-slice-known5.before.before.before.before.before in
-    let a = at-start.args in
+    let at_start = at-shared-slice-known5.before.before.before.before.before in
+    let a = at_start.args in
     let l = lent a.head a.initial.now a.twins.now a.formulas.now a.effects.now a.operators.now in
     let scratch = a.scratch.now in
     let words = a.words.now in
     let known = at-shared-slice-known5.shared-slice-known5.given in
     let words16 : (i : ℕ) → get_or a.operators.now i 0 < 65536 = λ i. omega (arith, known i) in
-    let passed : search-refusal l scratch words ≡ 0 = sym at-refused-early.refused-early.ensures ∙ at-if1.if1.false in
-    (search-ready l words16 scratch words passed, clear-again (length a.plan.now) at-clear-words.clear-words.ensures)
+    let passed : search_refusal l scratch words ≡ 0 = sym at-refused-early.refused-early.ensures ∙ at-if1.if1.false in
+    (search_ready l words16 scratch words passed, clear_again (length a.plan.now) at-clear-words.clear-words.ensures)
 
 -- src/call.rt:148:5
 clear-bytes-requires-2 : tie.Need-clear-bytes-requires-2
@@ -117,19 +117,19 @@ returns-2 c =
     let at-refused-early = at-if1.before in
     let at-clear-words = at-refused-early.before.before.before.before.before in
     let at-shared-slice-known5 = at-clear-words.before.before.before.before.before in
-    let at-start = at-shared-slice-known5.before.before.before.before.before in
-    let a = at-start.args in
+    let at_start = at-shared-slice-known5.before.before.before.before.before in
+    let a = at_start.args in
     let l = lent a.head a.initial.now a.twins.now a.formulas.now a.effects.now a.operators.now in
     let scratch = a.scratch.now in
     let words = a.words.now in
     let known = at-shared-slice-known5.shared-slice-known5.given in
     let words16 : (i : ℕ) → get_or a.operators.now i 0 < 65536 = λ i. omega (arith, known i) in
-    let passed : search-refusal l scratch words ≡ 0 = sym at-refused-early.refused-early.ensures ∙ at-if1.if1.false in
+    let passed : search_refusal l scratch words ≡ 0 = sym at-refused-early.refused-early.ensures ∙ at-if1.if1.false in
     let ready = at-plan-ready.plan-ready in
     plan-gives l a.plan.now scratch words at-refused-early.refused-early.result at-refused-early.refused-early.ensures at-if1.if1.false
     ready.result at-clear-words.clear-words.new.0
     ready.new.1.1.1.1.1.0 at-clear-bytes2.clear-bytes2.new.0 at-clear-long-words2.clear-long-words2.new.0 at-clear-words.clear-words.auto.0
-    (ready-told l words16 scratch words passed (ready.ensures.told (search-ready l words16 scratch words passed)))
+    (ready_told l words16 scratch words passed (ready.ensures.told (search_ready l words16 scratch words passed)))
     (clear_behind ready.new.1.1.1.1.1.1.0 scratch at-clear-bytes2.clear-bytes2.ensures ready.auto.1.1.1.1.1.1.0)
     (clear_behind ready.new.1.1.1.1.1.1.1.0 words at-clear-long-words2.clear-long-words2.ensures ready.auto.1.1.1.1.1.1.1.0)
 

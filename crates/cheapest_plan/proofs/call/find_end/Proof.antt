@@ -3,9 +3,9 @@ use native.Mathlib.Omega.{arith}
 use mathlib.Core.Path.{◌∙◌}
 use Prim.Native.Nat.{◌-◌}
 use lib.ListN.{replicate, take}
-use Rattle.state_queue.proofs.Playing.{roomy-on}
-use Rattle.cheapest_plan.proofs.Rounds.{goal-ready-on}
-use Rattle.cheapest_plan.proofs.Calls.{search-roomy, search-goal, start-bits, start-few, searchable, searched, none_found, end-ready, end-found, front-is, front_length}
+use Rattle.state_queue.proofs.Playing.{roomy_on}
+use Rattle.cheapest_plan.proofs.Rounds.{goal_ready_on}
+use Rattle.cheapest_plan.proofs.Calls.{search-roomy, search-goal, start-bits, start-few, searchable, searched, none_found, end_ready, end-found, front_is, front_length}
 use borrow.Author.Rules.{rules}
 use Rattle.cheapest_plan.proofs.call.find_end.Statement.{statement}
 use Rattle.cheapest_plan.proofs.call.find_end.Tie as tie
@@ -46,11 +46,11 @@ part-code-of-end c = search rules
 -- src/call.rt:49:9
 code-of-requires : tie.Need-code-of-requires
 code-of-requires c κs =
-    let at-start = c.before.before.before.before.before.before.before.before.before in
-    let a = at-start.args in
-    let v = at-start.requires.0 in
-    let states = at-start.requires.1 in
-    let front = front-is a.head.variables a.initial.now in
+    let at_start = c.before.before.before.before.before.before.before.before.before in
+    let a = at_start.args in
+    let v = at_start.requires.0 in
+    let states = at_start.requires.1 in
+    let front = front_is a.head.variables a.initial.now in
     let size = front_length a.head.variables (replicate 10 0) v.few in
     (start-bits v states front, start-few v states front)
 
@@ -58,11 +58,11 @@ code-of-requires c κs =
 search-requires : tie.Need-search-requires
 search-requires c κs =
     let at-code-of = c.before.before.before in
-    let at-start = at-code-of.before.before.before.before.before.before.before.before.before.before in
-    let a = at-start.args in
-    let v = at-start.requires.0 in
-    let states = at-start.requires.1 in
-    let front = front-is a.head.variables a.initial.now in
+    let at_start = at-code-of.before.before.before.before.before.before.before.before.before.before in
+    let a = at_start.args in
+    let v = at_start.requires.0 in
+    let states = at_start.requires.1 in
+    let front = front_is a.head.variables a.initial.now in
     let size = front_length a.head.variables (replicate 10 0) v.few in (
       search-goal v states size,
       ((search-roomy v states, v.effects), searchable v states front at-code-of.code_of_lem.ensures),
@@ -81,11 +81,11 @@ returns : tie.Need-returns
 returns c =
     let at-search = c.before.before.before.before.before.before.before.before in
     let at-code-of = at-search.before.before.before.before in
-    let at-start = at-code-of.before.before.before.before.before.before.before.before.before.before in
-    let a = at-start.args in
-    let v = at-start.requires.0 in
-    let states = at-start.requires.1 in
-    let front = front-is a.head.variables a.initial.now in
+    let at_start = at-code-of.before.before.before.before.before.before.before.before.before.before in
+    let a = at_start.args in
+    let v = at_start.requires.0 in
+    let states = at_start.requires.1 in
+    let front = front_is a.head.variables a.initial.now in
     let size = front_length a.head.variables (replicate 10 0) v.few in
     let told = at-search.search.ensures in
     record {
@@ -99,17 +99,17 @@ best-end-requires : tie.Need-best-end-requires
 best-end-requires c κs =
     let at-search = c.before.before.before.before.before.before.before.before.before in
     let at-code-of = at-search.before.before.before.before in
-    let at-start = at-code-of.before.before.before.before.before.before.before.before.before.before in
-    let a = at-start.args in
-    let v = at-start.requires.0 in
-    let states = at-start.requires.1 in
-    let front = front-is a.head.variables a.initial.now in
+    let at_start = at-code-of.before.before.before.before.before.before.before.before.before.before in
+    let a = at_start.args in
+    let v = at_start.requires.0 in
+    let states = at_start.requires.1 in
+    let front = front_is a.head.variables a.initial.now in
     let size = front_length a.head.variables (replicate 10 0) v.few in
-    let roomy = roomy-on (search-roomy v states) at-search.search.auto.1.1.1.1.1.1.0 in
+    let roomy = roomy_on (search-roomy v states) at-search.search.auto.1.1.1.1.1.1.0 in
     let end = searched v states front at-code-of.code_of_lem.ensures (at-search.search.ensures.told (searchable v states front at-code-of.code_of_lem.ensures)) in (
-      goal-ready-on {state = take (a.head.variables - 0) (replicate 10 0)} (search-goal v states size) at-search.search.auto.1.1.1.1.1.0
+      goal_ready_on {state = take (a.head.variables - 0) (replicate 10 0)} (search-goal v states size) at-search.search.auto.1.1.1.1.1.0
           at-search.search.auto.1.1.1.1.1.1.1.1.0,
-      (roomy, end-ready v states roomy end c.before.before.if1.false),
+      (roomy, end_ready v states roomy end c.before.before.if1.false),
     )
 
 -- src/call.rt:33:1
@@ -127,13 +127,13 @@ returns-2 c =
     let at-if1 = at-best-end.before.before.before in
     let at-search = at-if1.before.before.before.before.before.before.before in
     let at-code-of = at-search.before.before.before.before in
-    let at-start = at-code-of.before.before.before.before.before.before.before.before.before.before in
-    let a = at-start.args in
-    let v = at-start.requires.0 in
-    let states = at-start.requires.1 in
-    let front = front-is a.head.variables a.initial.now in
+    let at_start = at-code-of.before.before.before.before.before.before.before.before.before.before in
+    let a = at_start.args in
+    let v = at_start.requires.0 in
+    let states = at_start.requires.1 in
+    let front = front_is a.head.variables a.initial.now in
     let size = front_length a.head.variables (replicate 10 0) v.few in
-    let roomy = roomy-on (search-roomy v states) at-search.search.auto.1.1.1.1.1.1.0 in
+    let roomy = roomy_on (search-roomy v states) at-search.search.auto.1.1.1.1.1.1.0 in
     let other = at-if1.if1.false in
     let told = at-search.search.ensures in
     let best = at-best-end.best-end.ensures in
@@ -141,7 +141,7 @@ returns-2 c =
     record {
       told = λ v.
           let end = searched v states front coded (told.told (searchable v states front coded)) in
-          end-found v states roomy end other best.there (best.told (end-ready v states roomy end other));
+          end-found v states roomy end other best.there (best.told (end_ready v states roomy end other));
     }
 
 pub find-end-spec : {M : Type 1} → statement M

@@ -1,6 +1,6 @@
 -- `plan_ready` meets its contract: the best end, and what is told of it. Assumes nothing.
-use Rattle.state_queue.proofs.Playing.{roomy-on}
-use Rattle.cheapest_plan.proofs.Calls.{search-roomy, told_none, tell-ready, told-found}
+use Rattle.state_queue.proofs.Playing.{roomy_on}
+use Rattle.cheapest_plan.proofs.Calls.{search-roomy, told_none, tell_ready, told-found}
 use borrow.Author.Rules.{rules}
 use Rattle.cheapest_plan.proofs.call.plan_ready.Statement.{statement}
 use Rattle.cheapest_plan.proofs.call.plan_ready.Tie as tie
@@ -35,8 +35,8 @@ same-length-2 c = search rules
 returns : tie.Need-returns
 returns c =
     let at-find-end = c.before.before.before.before.before.before in
-    let at-start = at-find-end.before.before.before.before.before.before.before.before.before.before.before in
-    let clear = at-start.requires.1 in
+    let at_start = at-find-end.before.before.before.before.before.before.before.before.before.before.before in
+    let clear = at_start.requires.1 in
     record { told = λ v. told_none (at-find-end.find-end.ensures.told v) clear c.before.if1.true c.refused.ensures }
 
 -- src/call.rt:103:5
@@ -44,10 +44,10 @@ tell-plan-requires : tie.Need-tell-plan-requires
 tell-plan-requires c κs =
     let at-find-end = c.before.before.before.before.before.before.before in
     let at-states-of = at-find-end.before.before.before in
-    let at-start = at-states-of.before.before.before.before.before.before.before.before in
-    let pre = at-start.requires in (
-      roomy-on (search-roomy pre.0 at-states-of.states-of.ensures.0) at-find-end.find-end.auto.1.1.1.1.1.1.0,
-      tell-ready (at-find-end.find-end.ensures.told pre.0) pre.1 c.before.before.if1.false,
+    let at_start = at-states-of.before.before.before.before.before.before.before.before in
+    let pre = at_start.requires in (
+      roomy_on (search-roomy pre.0 at-states-of.states-of.ensures.0) at-find-end.find-end.auto.1.1.1.1.1.1.0,
+      tell_ready (at-find-end.find-end.ensures.told pre.0) pre.1 c.before.before.if1.false,
     )
 
 -- src/call.rt:85:1
@@ -67,13 +67,13 @@ returns-2 : tie.Need-returns-2
 returns-2 c =
     let at-if1 = c.before.before.before.before.before in
     let at-find-end = at-if1.before.before.before.before.before in
-    let at-start = at-find-end.before.before.before.before.before.before.before.before.before.before.before in
-    let clear = at-start.requires.1 in
+    let at_start = at-find-end.before.before.before.before.before.before.before.before.before.before.before in
+    let clear = at_start.requires.1 in
     let other = at-if1.if1.false in
     record {
       told = λ v.
           let end = at-find-end.find-end.ensures.told v in
-          told-found end clear other (c.before.before.tell-plan.ensures.told (tell-ready end clear other));
+          told-found end clear other (c.before.before.tell-plan.ensures.told (tell_ready end clear other));
     }
 
 pub plan-ready-spec : {M : Type 1} → statement M

@@ -24,8 +24,8 @@ shared-slice-read-steps c = search rules
 -- src/call.rt:73:21
 cast-if1 : tie.Need-overflow-cast-if1
 cast-if1 c =
-    let at-start = c.before.before.before in
-    let at = end-at at-start.requires.1 in omega (arith, at.steps, at.few)
+    let at_start = c.before.before.before in
+    let at = end-at at_start.requires.1 in omega (arith, at.steps, at.few)
 
 -- src/call.rt:74:9
 refused-requires : tie.Need-refused-requires
@@ -42,8 +42,8 @@ cast-write-plan c = search rules
 -- src/call.rt:76:5
 write-plan-requires : tie.Need-write-plan-requires
 write-plan-requires c κs =
-    let at-start = c.before.before.before.before.before in
-    (at-start.requires.0, writable at-start.requires.1, omega arith)
+    let at_start = c.before.before.before.before.before in
+    (at_start.requires.0, writable at_start.requires.1, omega arith)
 
 -- src/call.rt:80:16
 mul-t7 : tie.Need-overflow-mul-t7
@@ -56,14 +56,14 @@ shared-slice-read-t9 c = search rules
 -- src/call.rt:80:16
 sub-t15 : tie.Need-overflow-sub-t15
 sub-t15 c =
-    let at-start = c.before.before.before.before.before.before.before.before.before in
-    let at = end-at at-start.requires.1 in omega (arith, at.word)
+    let at_start = c.before.before.before.before.before.before.before.before.before in
+    let at = end-at at_start.requires.1 in omega (arith, at.word)
 
 -- src/call.rt:80:15
 cast-t16 : tie.Need-overflow-cast-t16
 cast-t16 c =
-    let at-start = c.before.before.before.before.before.before.before.before.before in
-    let at = end-at at-start.requires.1 in omega (arith, at.word, at.bound)
+    let at_start = c.before.before.before.before.before.before.before.before.before in
+    let at = end-at at_start.requires.1 in omega (arith, at.word, at.bound)
 
 -- src/call.rt:68:1
 same_length : tie.Need-same-length

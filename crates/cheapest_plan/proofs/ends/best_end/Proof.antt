@@ -4,7 +4,7 @@ use native.Mathlib.Omega.{arith}
 use mathlib.Core.Path.{◌≡◌, refl, ◌∙◌}
 use lib.ListN.{length}
 use Rattle.cheapest_plan.specs.Inner.Visits.{EndReady}
-use Rattle.cheapest_plan.proofs.Rounds.{goal-ready-on}
+use Rattle.cheapest_plan.proofs.Rounds.{goal_ready_on}
 use Rattle.cheapest_plan.proofs.Ending.{Best, best-begin, candidate, best-round, best-found}
 use Rattle.cheapest_plan.proofs.ends.best_end.Statement.{statement}
 use Rattle.cheapest_plan.proofs.ends.best_end.Tie as tie
@@ -30,18 +30,18 @@ loop-holds c = (refl, refl, omega arith, λ v. best-begin v)
 replaces-requires : tie.Need-replaces-requires invariant-loop decreases-loop
 replaces-requires c κs =
     let at-loop = c.before.before.before in
-    let at-start = at-loop.before.before.before.before.before in
-    let pre = at-start.requires in
+    let at_start = at-loop.before.before.before.before.before in
+    let pre = at_start.requires in
     let inv = at-loop.loop.invariant in (
-      goal-ready-on pre.0 inv.0 inv.1,
+      goal_ready_on pre.0 inv.0 inv.1,
       ((pre.1.0, c.before.before.loop-test.true), candidate pre.1.1 (inv.3 pre.1.1)),
     )
 
 -- src/ends.rt:58:9
 add-t : tie.Need-overflow-add-t invariant-loop decreases-loop
 add-t c =
-    let at-start = c.before.before.before.before.before.before.before.before.before.before.before.before.before.before in
-    omega (arith, at-start.requires.1.0)
+    let at_start = c.before.before.before.before.before.before.before.before.before.before.before.before.before.before in
+    omega (arith, at_start.requires.1.0)
 
 -- src/ends.rt:54:5
 loop-less : tie.Need-loop-smaller invariant-loop decreases-loop
@@ -73,9 +73,9 @@ same-length-2 c = c.before.loop.invariant.1
 -- src/ends.rt:39:1
 returns : tie.Need-returns invariant-loop decreases-loop
 returns c =
-    let at-start = c.before.before.before.before.before.before in
+    let at_start = c.before.before.before.before.before.before in
     let at = c.before.loop in
-    let v = at-start.requires.1.1 in
+    let v = at_start.requires.1.1 in
     record { there = (at.invariant.3 v).there; told = λ v. best-found v (at.invariant.3 v) (omega arith) }
 
 pub best-end-spec : {M : Type 1} → statement M

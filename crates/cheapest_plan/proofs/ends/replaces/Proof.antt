@@ -1,6 +1,6 @@
 -- `replaces` meets its contract: the cost, the steps, the numbers and the goal decide. Assumes nothing.
 use borrow.Author.Tests.{not-true, not-false}
-use Rattle.cheapest_plan.proofs.Ending.{other-cost, other-steps, ends-comparable, comes-behind, goal-decides}
+use Rattle.cheapest_plan.proofs.Ending.{other-cost, other-steps, ends_comparable, comes-behind, goal-decides}
 use borrow.Author.Rules.{rules}
 use Rattle.cheapest_plan.proofs.ends.replaces.Statement.{statement}
 use Rattle.cheapest_plan.proofs.ends.replaces.Tie as tie
@@ -28,8 +28,8 @@ shared-slice-read-if1-2 c = search rules
 -- src/ends.rt:27:9
 returns : tie.Need-returns
 returns c =
-    let at-start = c.before.before.before.before.before.before.before in
-    record { told = λ v. other-cost v at-start.requires.1.0.1 c.if1.true }
+    let at_start = c.before.before.before.before.before.before.before in
+    record { told = λ v. other-cost v at_start.requires.1.0.1 c.if1.true }
 
 -- src/ends.rt:29:14
 add-if2 : tie.Need-overflow-add-if2
@@ -58,8 +58,8 @@ shared-slice-read-if2-2 c = search rules
 -- src/ends.rt:30:9
 returns-2 : tie.Need-returns-2
 returns-2 c =
-    let at-start = c.before.before.before.before.before.before.before.before.before.before in
-    record { told = λ v. other-steps v at-start.requires.1.0.1 c.if2.true }
+    let at_start = c.before.before.before.before.before.before.before.before.before.before in
+    record { told = λ v. other-steps v at_start.requires.1.0.1 c.if2.true }
 
 -- src/ends.rt:32:34
 mul-precedes : tie.Need-overflow-mul-precedes
@@ -97,21 +97,21 @@ shared-slice-read-precedes-2 c = search rules
 precedes-requires : tie.Need-precedes-requires
 precedes-requires c κs =
     let at-if1 = c.before.before.before.before.before in
-    let at-start = at-if1.before.before.before.before.before.before.before in
-    let pre = at-start.requires in
-    (pre.1.0.0, ends-comparable pre.1.1 pre.1.0.1 at-if1.if1.false c.before.before.if2.false)
+    let at_start = at-if1.before.before.before.before.before.before.before in
+    let pre = at_start.requires in
+    (pre.1.0.0, ends_comparable pre.1.1 pre.1.0.1 at-if1.if1.false c.before.before.if2.false)
 
 -- src/ends.rt:33:9
 returns-3 : tie.Need-returns-3
 returns-3 c =
     let at-if2 = c.before.before.before.before in
     let at-if1 = at-if2.before.before.before in
-    let at-start = at-if1.before.before.before.before.before.before.before in
-    let below = at-start.requires.1.0.1 in
+    let at_start = at-if1.before.before.before.before.before.before.before in
+    let below = at_start.requires.1.0.1 in
     let decided = c.before.precedes in
     record {
       told = λ v.
-          comes-behind v below at-if1.if1.false at-if2.if2.false (decided.ensures.told (ends-comparable v below at-if1.if1.false at-if2.if2.false))
+          comes-behind v below at-if1.if1.false at-if2.if2.false (decided.ensures.told (ends_comparable v below at-if1.if1.false at-if2.if2.false))
           (not-true decided.result c.if3.true);
     }
 
@@ -135,12 +135,12 @@ returns-4 c =
     let at-precedes = at-if3.before in
     let at-if2 = at-precedes.before.before.before in
     let at-if1 = at-if2.before.before.before in
-    let at-start = at-if1.before.before.before.before.before.before.before in
-    let below = at-start.requires.1.0.1 in
+    let at_start = at-if1.before.before.before.before.before.before.before in
+    let below = at_start.requires.1.0.1 in
     let decided = at-precedes.precedes in
     record {
       told = λ v.
-          goal-decides v below at-if1.if1.false at-if2.if2.false (decided.ensures.told (ends-comparable v below at-if1.if1.false at-if2.if2.false))
+          goal-decides v below at-if1.if1.false at-if2.if2.false (decided.ensures.told (ends_comparable v below at-if1.if1.false at-if2.if2.false))
           (not-false decided.result at-if3.if3.false) at-is-goal.is-goal.ensures;
     }
 

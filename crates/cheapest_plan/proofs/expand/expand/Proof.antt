@@ -3,11 +3,11 @@ use Prim.Native.Nat.{◌-◌, ◌≤◌}
 use native.Mathlib.Omega.{arith}
 use mathlib.Core.Path.{◌≡◌, refl, sym, ◌∙◌}
 use lib.ListN.{length, replicate, length-set}
-use Rattle.state_queue.proofs.Playing.{roomy-on}
+use Rattle.state_queue.proofs.Playing.{roomy_on}
 use Rattle.cheapest_plan.specs.Inner.Tables.{Zeros}
 use Rattle.cheapest_plan.specs.Inner.Visits.{Stage, SteppedTo, NotedTo}
-use Rattle.cheapest_plan.proofs.Comparing.{noted-own}
-use Rattle.cheapest_plan.proofs.Expanding.{zeros-none, zeros-on}
+use Rattle.cheapest_plan.proofs.Comparing.{noted_own}
+use Rattle.cheapest_plan.proofs.Expanding.{zeros_none, zeros_on}
 use Rattle.cheapest_plan.proofs.expand.expand.Statement.{statement}
 use Rattle.cheapest_plan.proofs.expand.expand.Tie as tie
 use Rattle.cheapest_plan.proofs.expand.expand.Reads as reads
@@ -28,13 +28,13 @@ decreases-loop operators count state cost steps values masks words₀ n notes₀
 -- src/expand.rt:60:5
 loop-holds : tie.Need-loop-init invariant-loop decreases-loop
 loop-holds c =
-    let at-start = c.before.before.before.before in
-    let pre = at-start.requires in
-    let state = at-start.args.state in (
+    let at_start = c.before.before.before.before in
+    let pre = at_start.requires in
+    let state = at_start.args.state in (
       omega arith,
       refl,
-      zeros-none,
-      λ h at. record { stepping = at; noted = noted-own 1024 state h.ground.few h.here at.is-taken },
+      zeros_none,
+      λ h at. record { stepping = at; noted = noted_own 1024 state h.ground.few h.here at.is_taken },
       length-set (replicate 1024 0) state 1,
     )
 
@@ -52,11 +52,11 @@ slice-aggregate-step-from c = sym c.before.before.before.loop.invariant.4
 step-from-requires : tie.Need-step-from-requires invariant-loop decreases-loop
 step-from-requires c κs =
     let at-loop = c.before.before.before in
-    let at-start = at-loop.before.before.before.before.before in
-    let pre = at-start.requires in
+    let at_start = at-loop.before.before.before.before.before in
+    let pre = at_start.requires in
     let inv = at-loop.loop.invariant in (
       c.before.before.loop-test.true,
-      record { roomy = roomy-on pre.roomy inv.1; stage = pre.stage; stepping = inv.3 pre.stage pre.stepping },
+      record { roomy = roomy_on pre.roomy inv.1; stage = pre.stage; stepping = inv.3 pre.stage pre.stepping },
     )
 
 -- src/expand.rt:74:9
@@ -77,7 +77,7 @@ loop-again c =
     let kept = at-step-from.step_from.auto.1.1.1.1.1.1.1.1 in (
       omega arith,
       kept.0 ∙ inv.1,
-      zeros-on inv.2 stepped.zeros,
+      zeros_on inv.2 stepped.zeros,
       λ h at. stepped.told h (inv.3 h at),
       kept.1.1.0 ∙ inv.4,
     )
@@ -90,8 +90,8 @@ same_length c = c.before.loop.invariant.1
 returns : tie.Need-returns invariant-loop decreases-loop
 returns c =
     let at-loop = c.before in
-    let at-start = at-loop.before.before.before.before.before in
-    let all : at-loop.loop.o ≡ at-start.args.count = omega (arith, at-loop.loop.invariant.0) in
+    let at_start = at-loop.before.before.before.before.before in
+    let all : at-loop.loop.o ≡ at_start.args.count = omega (arith, at-loop.loop.invariant.0) in
     record { zeros = at-loop.loop.invariant.2; told = λ h at. rw (← all) (at-loop.loop.invariant.3 h at).stepping }
 
 pub expand-spec : {M : Type 1} → statement M

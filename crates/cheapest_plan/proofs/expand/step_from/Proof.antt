@@ -1,6 +1,6 @@
 -- `step_from` meets its contract: an operator that is applicable is stepped. Assumes nothing.
 use native.Mathlib.Omega.{arith}
-use Rattle.cheapest_plan.proofs.Expanding.{zeros-none, asked-inside, not-stepped, effect-inside, sums-fit, relaxable, stepped-on}
+use Rattle.cheapest_plan.proofs.Expanding.{zeros_none, asked-inside, not-stepped, effect-inside, sums-fit, relaxable, stepped-on}
 use borrow.Author.Rules.{rules}
 use Rattle.cheapest_plan.proofs.expand.step_from.Statement.{statement}
 use Rattle.cheapest_plan.proofs.expand.step_from.Tie as tie
@@ -24,17 +24,17 @@ cast-precondition c = search rules
 shared-slice-read-if1 : tie.Need-shared-slice-read-if1
 shared-slice-read-if1 c =
     let at-precondition-of = c.before in
-    let at-start = at-precondition-of.before.before.before.before.before.before in
-    asked-inside at-start.requires.1.stage at-start.requires.1.stepping at-start.requires.0 at-precondition-of.precondition-of.ensures
+    let at_start = at-precondition-of.before.before.before.before.before.before in
+    asked-inside at_start.requires.1.stage at_start.requires.1.stepping at_start.requires.0 at-precondition-of.precondition_of.ensures
 
 -- src/expand.rt:33:9
 returns : tie.Need-returns
 returns c =
     let at-precondition-of = c.before.before in
-    let at-start = at-precondition-of.before.before.before.before.before.before in
+    let at_start = at-precondition-of.before.before.before.before.before.before in
     record {
-      zeros = zeros-none;
-      told = λ h at. not-stepped h at at-start.requires.0 at-precondition-of.precondition-of.ensures c.if1.true;
+      zeros = zeros_none;
+      told = λ h at. not-stepped h at at_start.requires.0 at-precondition-of.precondition_of.ensures c.if1.true;
     }
 
 -- src/expand.rt:35:18
@@ -53,8 +53,8 @@ mul-next-code c = search rules
 shared-slice-read-next-code : tie.Need-shared-slice-read-next-code
 shared-slice-read-next-code c =
     let at-effect-of = c.before in
-    let at-start = at-effect-of.before.before.before.before.before.before.before.before.before in
-    effect-inside at-start.requires.1.stage at-start.requires.1.stepping at-start.requires.0 at-effect-of.effect_of.ensures
+    let at_start = at-effect-of.before.before.before.before.before.before.before.before.before in
+    effect-inside at_start.requires.1.stage at_start.requires.1.stepping at_start.requires.0 at-effect-of.effect_of.ensures
 
 -- src/expand.rt:36:9
 next-code-requires : tie.Need-next-code-requires
@@ -87,11 +87,11 @@ add-relax c =
     let at-effect-of = at-charge-of.before.before.before in
     let at-if1 = at-effect-of.before in
     let at-precondition-of = at-if1.before.before in
-    let at-start = at-precondition-of.before.before.before.before.before.before in
-    let pre = at-start.requires.1 in
-    let below = at-start.requires.0 in
-    let fit = sums-fit pre.stage pre.stepping below at-precondition-of.precondition-of.ensures at-if1.if1.false
-    at-effect-of.effect_of.ensures at-charge-of.charge-of.ensures in
+    let at_start = at-precondition-of.before.before.before.before.before.before in
+    let pre = at_start.requires.1 in
+    let below = at_start.requires.0 in
+    let fit = sums-fit pre.stage pre.stepping below at-precondition-of.precondition_of.ensures at-if1.if1.false
+    at-effect-of.effect_of.ensures at-charge-of.charge_of.ensures in
     omega (arith, fit)
 
 -- src/expand.rt:39:39
@@ -101,11 +101,11 @@ add-relax-2 c =
     let at-effect-of = at-charge-of.before.before.before in
     let at-if1 = at-effect-of.before in
     let at-precondition-of = at-if1.before.before in
-    let at-start = at-precondition-of.before.before.before.before.before.before in
-    let pre = at-start.requires.1 in
-    let below = at-start.requires.0 in
-    let fit = sums-fit pre.stage pre.stepping below at-precondition-of.precondition-of.ensures at-if1.if1.false
-    at-effect-of.effect_of.ensures at-charge-of.charge-of.ensures in
+    let at_start = at-precondition-of.before.before.before.before.before.before in
+    let pre = at_start.requires.1 in
+    let below = at_start.requires.0 in
+    let fit = sums-fit pre.stage pre.stepping below at-precondition-of.precondition_of.ensures at-if1.if1.false
+    at-effect-of.effect_of.ensures at-charge-of.charge_of.ensures in
     omega (arith, fit)
 
 -- src/expand.rt:39:5
@@ -116,12 +116,12 @@ relax-requires c κs =
     let at-effect-of = at-next-code.before.before in
     let at-if1 = at-effect-of.before in
     let at-precondition-of = at-if1.before.before in
-    let at-start = at-precondition-of.before.before.before.before.before.before in
-    let pre = at-start.requires.1 in
-    let below = at-start.requires.0 in (
+    let at_start = at-precondition-of.before.before.before.before.before.before in
+    let pre = at_start.requires.1 in
+    let below = at_start.requires.0 in (
       pre.roomy,
-      relaxable pre.stage pre.stepping below at-precondition-of.precondition-of.ensures at-if1.if1.false at-effect-of.effect_of.ensures
-          at-charge-of.charge-of.ensures at-next-code.next-code.ensures,
+      relaxable pre.stage pre.stepping below at-precondition-of.precondition_of.ensures at-if1.if1.false at-effect-of.effect_of.ensures
+          at-charge-of.charge_of.ensures at-next-code.next_code.ensures,
     )
 
 -- src/expand.rt:15:1
@@ -141,13 +141,13 @@ returns-2 c =
     let at-effect-of = at-next-code.before.before in
     let at-if1 = at-effect-of.before in
     let at-precondition-of = at-if1.before.before in
-    let at-start = at-precondition-of.before.before.before.before.before.before in
+    let at_start = at-precondition-of.before.before.before.before.before.before in
     let relaxed = at-relax.relax.ensures in
     record {
       zeros = relaxed.zeros;
       told = λ h at.
-          stepped-on h at at-start.requires.0 at-precondition-of.precondition-of.ensures at-if1.if1.false at-effect-of.effect_of.ensures
-          at-charge-of.charge-of.ensures at-next-code.next-code.ensures relaxed;
+          stepped-on h at at_start.requires.0 at-precondition-of.precondition_of.ensures at-if1.if1.false at-effect-of.effect_of.ensures
+          at-charge-of.charge_of.ensures at-next-code.next_code.ensures relaxed;
     }
 
 pub step-from-spec : {M : Type 1} → statement M

@@ -2,7 +2,7 @@
 use borrow.Author.Rules.{rules}
 use native.Mathlib.Omega.{arith}
 use Rattle.cheapest_plan.specs.Inner.Tables.{Comparable}
-use Rattle.cheapest_plan.proofs.Comparing.{steps-to, Parted, parted-begin, apart, a-below, b-below, parted-on, parted-less, parted-end}
+use Rattle.cheapest_plan.proofs.Comparing.{steps_to, Parted, parted-begin, apart, a-below, b-below, parted-on, parted-less, parted-end}
 use Rattle.cheapest_plan.proofs.last_steps.precedes.Statement.{statement}
 use Rattle.cheapest_plan.proofs.last_steps.precedes.Tie as tie
 use Rattle.cheapest_plan.proofs.last_steps.precedes.Reads as reads
@@ -13,7 +13,7 @@ abbrev invariant-loop : tie.invariant-loop
 invariant-loop words n first second x₀ y₀ x y = (h : Comparable n words first second) → Parted h x y
 
 abbrev decreases-loop : tie.decreases-loop
-decreases-loop words n first second x₀ y₀ x y = steps-to words n x
+decreases-loop words n first second x₀ y₀ x y = steps_to words n x
 
 -- src/last_steps.rt:31:5
 loop-holds : tie.Need-loop-init invariant-loop decreases-loop
@@ -22,76 +22,76 @@ loop-holds c = λ h. parted-begin h
 -- src/last_steps.rt:32:13
 parent-of-requires : tie.Need-parent-of-requires invariant-loop decreases-loop
 parent-of-requires c κs =
-    let at-start = c.before.before.before in
-    let h = at-start.requires.1 in
-    omega (arith, (apart h (c.before.loop.invariant h) c.loop-test.true).a-is)
+    let at_start = c.before.before.before in
+    let h = at_start.requires.1 in
+    omega (arith, (apart h (c.before.loop.invariant h) c.loop-test.true).a_is)
 
 -- src/last_steps.rt:33:13
 parent-of-requires-2 : tie.Need-parent-of-requires-2 invariant-loop decreases-loop
 parent-of-requires-2 c κs =
-    let at-start = c.before.before.before.before in
-    let h = at-start.requires.1 in
-    omega (arith, (apart h (c.before.before.loop.invariant h) c.before.loop-test.true).b-is)
+    let at_start = c.before.before.before.before in
+    let h = at_start.requires.1 in
+    omega (arith, (apart h (c.before.before.loop.invariant h) c.before.loop-test.true).b_is)
 
 -- src/last_steps.rt:34:19
 mul-x : tie.Need-overflow-mul-x invariant-loop decreases-loop
 mul-x c =
-    let at-start = c.before.before.before.before.before in
-    omega (arith, at-start.requires.0)
+    let at_start = c.before.before.before.before.before in
+    omega (arith, at_start.requires.0)
 
 -- src/last_steps.rt:34:19
 add-x : tie.Need-overflow-add-x invariant-loop decreases-loop
 add-x c =
     let at-loop = c.before.before.before in
-    let at-start = at-loop.before.before in
-    let h = at-start.requires.1 in
+    let at_start = at-loop.before.before in
+    let h = at_start.requires.1 in
     let w = apart h (at-loop.loop.invariant h) c.before.before.loop-test.true in
-    omega (arith, at-start.requires.0, a-below h w c.before.parent_of.ensures c.parent-of2.ensures)
+    omega (arith, at_start.requires.0, a-below h w c.before.parent_of.ensures c.parent-of2.ensures)
 
 -- src/last_steps.rt:34:13
 mul-x-2 : tie.Need-overflow-mul-x-2 invariant-loop decreases-loop
 mul-x-2 c =
     let at-loop = c.before.before.before in
-    let at-start = at-loop.before.before in
-    let h = at-start.requires.1 in
+    let at_start = at-loop.before.before in
+    let h = at_start.requires.1 in
     let w = apart h (at-loop.loop.invariant h) c.before.before.loop-test.true in
-    omega (arith, at-start.requires.0, a-below h w c.before.parent_of.ensures c.parent-of2.ensures)
+    omega (arith, at_start.requires.0, a-below h w c.before.parent_of.ensures c.parent-of2.ensures)
 
 -- src/last_steps.rt:34:13
 shared-slice-read-x : tie.Need-shared-slice-read-x invariant-loop decreases-loop
 shared-slice-read-x c =
     let at-loop-test = c.before.before.before in
     let at-loop = at-loop-test.before in
-    let at-start = at-loop.before.before in
-    let h = at-start.requires.1 in
+    let at_start = at-loop.before.before in
+    let h = at_start.requires.1 in
     let w = apart h (at-loop.loop.invariant h) at-loop-test.loop-test.true in
-    omega (arith, at-start.requires.0, a-below h w c.before.before.parent_of.ensures c.before.parent-of2.ensures)
+    omega (arith, at_start.requires.0, a-below h w c.before.before.parent_of.ensures c.before.parent-of2.ensures)
 
 -- src/last_steps.rt:35:19
 mul-y : tie.Need-overflow-mul-y invariant-loop decreases-loop
 mul-y c =
-    let at-start = c.before.before.before.before.before.before in
-    omega (arith, at-start.requires.0)
+    let at_start = c.before.before.before.before.before.before in
+    omega (arith, at_start.requires.0)
 
 -- src/last_steps.rt:35:19
 add-y : tie.Need-overflow-add-y invariant-loop decreases-loop
 add-y c =
     let at-loop-test = c.before.before.before in
     let at-loop = at-loop-test.before in
-    let at-start = at-loop.before.before in
-    let h = at-start.requires.1 in
+    let at_start = at-loop.before.before in
+    let h = at_start.requires.1 in
     let w = apart h (at-loop.loop.invariant h) at-loop-test.loop-test.true in
-    omega (arith, at-start.requires.0, b-below h w c.before.before.parent_of.ensures c.before.parent-of2.ensures)
+    omega (arith, at_start.requires.0, b-below h w c.before.before.parent_of.ensures c.before.parent-of2.ensures)
 
 -- src/last_steps.rt:35:13
 mul-y-2 : tie.Need-overflow-mul-y-2 invariant-loop decreases-loop
 mul-y-2 c =
     let at-loop-test = c.before.before.before in
     let at-loop = at-loop-test.before in
-    let at-start = at-loop.before.before in
-    let h = at-start.requires.1 in
+    let at_start = at-loop.before.before in
+    let h = at_start.requires.1 in
     let w = apart h (at-loop.loop.invariant h) at-loop-test.loop-test.true in
-    omega (arith, at-start.requires.0, b-below h w c.before.before.parent_of.ensures c.before.parent-of2.ensures)
+    omega (arith, at_start.requires.0, b-below h w c.before.before.parent_of.ensures c.before.parent-of2.ensures)
 
 -- src/last_steps.rt:35:13
 shared-slice-read-y : tie.Need-shared-slice-read-y invariant-loop decreases-loop
@@ -99,10 +99,10 @@ shared-slice-read-y c =
     let at-parent-of = c.before.before.before in
     let at-loop-test = at-parent-of.before in
     let at-loop = at-loop-test.before in
-    let at-start = at-loop.before.before in
-    let h = at-start.requires.1 in
+    let at_start = at-loop.before.before in
+    let h = at_start.requires.1 in
     let w = apart h (at-loop.loop.invariant h) at-loop-test.loop-test.true in
-    omega (arith, at-start.requires.0, b-below h w at-parent-of.parent_of.ensures c.before.before.parent-of2.ensures)
+    omega (arith, at_start.requires.0, b-below h w at-parent-of.parent_of.ensures c.before.before.parent-of2.ensures)
 
 -- src/last_steps.rt:31:5
 loop-less : tie.Need-loop-smaller invariant-loop decreases-loop
@@ -110,8 +110,8 @@ loop-less c =
     let at-parent-of = c.before.before.before in
     let at-loop-test = at-parent-of.before in
     let at-loop = at-loop-test.before in
-    let at-start = at-loop.before.before in
-    let h = at-start.requires.1 in
+    let at_start = at-loop.before.before in
+    let h = at_start.requires.1 in
     let w = apart h (at-loop.loop.invariant h) at-loop-test.loop-test.true in
     parted-less h w at-parent-of.parent_of.ensures c.before.before.parent-of2.ensures
 

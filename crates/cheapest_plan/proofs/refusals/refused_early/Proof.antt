@@ -1,6 +1,6 @@
 -- `refused_early` gives the first number in order, each way out by a law of Refusing. Assumes nothing.
 use native.Mathlib.Omega.{arith}
-use Rattle.cheapest_plan.proofs.Refusing.{refused-tables, refused-variables, refused-bytes, refused-words, not-refused}
+use Rattle.cheapest_plan.proofs.Refusing.{refused-tables, refused-variables, refused-bytes, refused-words, not_refused}
 use borrow.Author.Rules.{rules}
 use Rattle.cheapest_plan.proofs.refusals.refused_early.Statement.{statement}
 use Rattle.cheapest_plan.proofs.refusals.refused_early.Tie as tie
@@ -65,7 +65,7 @@ returns-5 c =
     let at-if2 = c.before.before.before.before.before in
     let at-if1 = at-if2.before.before in
     let at-check = at-if1.before in
-    not-refused _ _ _ _ at-check.check.ensures at-if1.if1.false at-if2.if2.false c.before.before.if3.false c.before.states-of.ensures.0 c.if4.false
+    not_refused _ _ _ _ at-check.check.ensures at-if1.if1.false at-if2.if2.false c.before.before.if3.false c.before.states-of.ensures.0 c.if4.false
 
 pub refused-early-spec : {M : Type 1} → statement M
 refused-early-spec =

@@ -1,5 +1,5 @@
 -- `states_of` meets its contract: 2 to the number of variables. Assumes nothing.
-use Rattle.cheapest_plan.proofs.Refusing.{states-shifted}
+use Rattle.cheapest_plan.proofs.Refusing.{states_shifted}
 use borrow.Author.Rules.{rules}
 use Rattle.cheapest_plan.proofs.refusals.states_of.Statement.{statement}
 use Rattle.cheapest_plan.proofs.refusals.states_of.Tie as tie
@@ -12,7 +12,7 @@ shl-result c = search rules
 
 -- src/refusals.rt:11:1
 returns : tie.Need-returns
-returns c = states-shifted c.args.variables c.requires
+returns c = states_shifted c.args.variables c.requires
 
 pub states-of-spec : {M : Type 1} → statement M
 states-of-spec = tie.close (tie.spec shl-result returns)

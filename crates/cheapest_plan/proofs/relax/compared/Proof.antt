@@ -1,5 +1,5 @@
 -- `compared` meets its contract: what was noted is taken, or the lists are compared, and that is noted. Assumes nothing.
-use Rattle.cheapest_plan.proofs.Comparing.{noted-before, pair-comparable, pair-verdict, noted-now}
+use Rattle.cheapest_plan.proofs.Comparing.{noted-before, pair_comparable, pair-verdict, noted-now}
 use borrow.Author.Rules.{rules}
 use Rattle.cheapest_plan.proofs.relax.compared.Statement.{statement}
 use Rattle.cheapest_plan.proofs.relax.compared.Tie as tie
@@ -50,8 +50,8 @@ shared-slice-read-precedes-2 c = search rules
 -- src/relax.rt:22:8
 precedes-requires : tie.Need-precedes-requires
 precedes-requires c κs =
-    let at-start = c.before.before.before.before.before.before in
-    (at-start.requires.0, pair-comparable at-start.requires.1)
+    let at_start = c.before.before.before.before.before.before in
+    (at_start.requires.0, pair_comparable at_start.requires.1)
 
 -- src/relax.rt:23:9
 slice-write-notes : tie.Need-slice-write-notes

@@ -47,8 +47,8 @@ returns c =
     let at-joint2 = c.before in
     let at-joint = at-joint2.before in
     let at-shared-slice-known = at-joint.before.before.before.before in
-    let at-start = at-shared-slice-known.before in
-    let a = at-start.args in
+    let at_start = at-shared-slice-known.before in
+    let a = at_start.args in
     let low : get_or a.words.now (a.n + a.t) 0 < 4294967296 = omega (arith, at-shared-slice-known.shared-slice-known.given (a.n + a.t)) in
     record {
       told = λ h. rw (at-joint.joint.ensures, at-joint2.joint2.ensures)
@@ -83,11 +83,11 @@ parent-of-requires-2 c κs =
     let at-joint2 = at-if1.before in
     let at-joint = at-joint2.before in
     let at-shared-slice-known = at-joint.before.before.before.before in
-    let at-start = at-shared-slice-known.before in
-    let a = at-start.args in
+    let at_start = at-shared-slice-known.before in
+    let a = at_start.args in
     let low : get_or a.words.now (a.n + a.t) 0 < 4294967296 = omega (arith, at-shared-slice-known.shared-slice-known.given (a.n + a.t)) in
     let tie-is = sym at-joint.joint.ensures ∙ at-if1.if1.false ∙ at-joint2.joint2.ensures in
-    let pre = at-start.requires.1 in
+    let pre = at_start.requires.1 in
     omega (arith, (old-parent pre (key-cost pre low tie-is) (key-steps pre low tie-is)).last-is)
 
 -- src/relax.rt:60:6
@@ -99,12 +99,12 @@ compared-requires c κs =
     let at-joint2 = at-if1.before in
     let at-joint = at-joint2.before in
     let at-shared-slice-known = at-joint.before.before.before.before in
-    let at-start = at-shared-slice-known.before in
-    let a = at-start.args in
+    let at_start = at-shared-slice-known.before in
+    let a = at_start.args in
     let low : get_or a.words.now (a.n + a.t) 0 < 4294967296 = omega (arith, at-shared-slice-known.shared-slice-known.given (a.n + a.t)) in
     let tie-is = sym at-joint.joint.ensures ∙ at-if1.if1.false ∙ at-joint2.joint2.ensures in
-    let pre = at-start.requires.1 in
-    (at-start.requires.0, pairs pre (key-cost pre low tie-is) (key-steps pre low tie-is) at-parent-of.parent_of.ensures at-parent-of2.parent-of2.ensures)
+    let pre = at_start.requires.1 in
+    (at_start.requires.0, pairs pre (key-cost pre low tie-is) (key-steps pre low tie-is) at-parent-of.parent_of.ensures at-parent-of2.parent-of2.ensures)
 
 -- src/relax.rt:42:1
 same_length : tie.Need-same-length
@@ -120,8 +120,8 @@ returns-2 c =
     let at-joint2 = at-if1.before in
     let at-joint = at-joint2.before in
     let at-shared-slice-known = at-joint.before.before.before.before in
-    let at-start = at-shared-slice-known.before in
-    let a = at-start.args in
+    let at_start = at-shared-slice-known.before in
+    let a = at_start.args in
     let low : get_or a.words.now (a.n + a.t) 0 < 4294967296 = omega (arith, at-shared-slice-known.shared-slice-known.given (a.n + a.t)) in
     let tie-is = sym at-joint.joint.ensures ∙ at-if1.if1.false ∙ at-joint2.joint2.ensures in
     let found = at-compared.compared.ensures in

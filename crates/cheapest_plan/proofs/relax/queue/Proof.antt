@@ -58,21 +58,21 @@ slice-write-words-3 c =
 -- src/relax.rt:32:5
 raise-requires : tie.Need-raise-requires
 raise-requires c κs =
-    let at-start = c.before.before in
-    (queue-roomy at-start.requires at-start.args.step, queue-nearly at-start.requires at-start.args.step)
+    let at_start = c.before.before in
+    (queue-roomy at_start.requires at_start.args.step, queue-nearly at_start.requires at_start.args.step)
 
 -- src/relax.rt:25:1
 same_length : tie.Need-same-length
 same_length c =
-    let at-start = c.before.before.before.before.before in
-    let a = at-start.args in
+    let at_start = c.before.before.before.before.before in
+    let a = at_start.args in
     c.before.before.raise.auto.0 ∙ length-stored a.words.now a.n a.t a.cost a.steps a.step
 
 -- src/relax.rt:25:1
 returns : tie.Need-returns
 returns c =
-    let at-start = c.before.before.before.before.before in
-    queued-now at-start.requires at-start.args.step c.before.before.raise.ensures
+    let at_start = c.before.before.before.before.before in
+    queued-now at_start.requires at_start.args.step c.before.before.raise.ensures
 
 pub queue-spec : {M : Type 1} → statement M
 queue-spec =

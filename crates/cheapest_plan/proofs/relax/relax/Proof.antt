@@ -31,8 +31,8 @@ queue-requires : tie.Need-queue-requires
 queue-requires c κs =
     let at-if1 = c.before in
     let at-judge = at-if1.before.before.before in
-    let at-start = at-judge.before.before.before.before.before in
-    may-queue at-start.requires.1 at-start.requires.0 (rw at-if1.if1.false at (at-judge.judge.ensures.told at-start.requires.1))
+    let at_start = at-judge.before.before.before.before.before in
+    may-queue at_start.requires.1 at_start.requires.0 (rw at-if1.if1.false at (at-judge.judge.ensures.told at_start.requires.1))
 
 -- src/relax.rt:72:1
 same-length-3 : tie.Need-same-length-3
@@ -48,8 +48,8 @@ returns-2 c =
     let at-queue = c.before.before in
     let at-if1 = at-queue.before.before in
     let at-judge = at-if1.before.before.before in
-    let at-start = at-judge.before.before.before.before.before in
-    let pre = at-start.requires.1 in
+    let at_start = at-judge.before.before.before.before.before in
+    let pre = at_start.requires.1 in
     let judged = at-judge.judge.ensures in
     let queued = at-queue.queue.ensures in
     let comes = at-if1.if1.false in

@@ -20,8 +20,8 @@ cast-evaluate c = search rules
 evaluate-requires : tie.Need-evaluate-requires
 evaluate-requires c κs =
     let at-write-state = c.before.before.before.before.before in
-    let at-start = at-write-state.before.before.before.before.before in
-    goal-valuable at-start.requires at-start.args.s at-write-state.write-state.ensures
+    let at_start = at-write-state.before.before.before.before.before in
+    goal-valuable at_start.requires at_start.args.s at-write-state.write-state.ensures
 
 -- src/visits.rt:29:16
 cast-goal : tie.Need-overflow-cast-goal
@@ -44,8 +44,8 @@ returns : tie.Need-returns
 returns c =
     let at-evaluate = c.before.before.before.before in
     let at-write-state = at-evaluate.before.before.before.before.before.before in
-    let at-start = at-write-state.before.before.before.before.before in
-    goal-found at-start.requires at-start.args.s at-write-state.write-state.ensures at-evaluate.evaluate.ensures
+    let at_start = at-write-state.before.before.before.before.before in
+    goal-found at_start.requires at_start.args.s at-write-state.write-state.ensures at-evaluate.evaluate.ensures
 
 pub is-goal-spec : {M : Type 1} → statement M
 is-goal-spec =

@@ -3,10 +3,10 @@ use native.Mathlib.Omega.{arith}
 use mathlib.Core.Path.{◌≡◌, refl, sym, ◌∙◌}
 use lib.ListN.{length}
 use Rattle.state_queue.specs.Inner.Queue.{winner}
-use Rattle.state_queue.proofs.Playing.{roomy-on}
+use Rattle.state_queue.proofs.Playing.{roomy_on}
 use Rattle.cheapest_plan.specs.Inner.Visits.{Known, Searchable}
 use borrow.Author.Rules.{rules}
-use Rattle.cheapest_plan.proofs.Rounds.{untaken, state-below, goal-ready-on, round-less, begun-known, visitable, round-known, round-goal, search-none}
+use Rattle.cheapest_plan.proofs.Rounds.{untaken, state_below, goal_ready_on, round_less, begun-known, visitable, round-known, round-goal, search-none}
 use Rattle.cheapest_plan.proofs.visits.search.Statement.{statement}
 use Rattle.cheapest_plan.proofs.visits.search.Tie as tie
 use Rattle.cheapest_plan.proofs.visits.search.Reads as reads
@@ -32,15 +32,15 @@ decreases-loop head formulas effects operators start state₀ words₀ n scratch
 -- src/visits.rt:90:5
 begin-requires : tie.Need-begin-requires invariant-loop decreases-loop
 begin-requires c κs =
-    let at-start = c.before.before.before.before.before.before.before in
-    (at-start.requires.1.0.0, at-start.requires.1.1.there)
+    let at_start = c.before.before.before.before.before.before.before in
+    (at_start.requires.1.0.0, at_start.requires.1.1.there)
 
 -- src/visits.rt:91:9
 winner-requires : tie.Need-winner-requires invariant-loop decreases-loop
 winner-requires c κs =
     let at-begin = c.before.before.before in
-    let at-start = at-begin.before.before.before.before.before.before.before.before in
-    (roomy-on at-start.requires.1.0.0 at-begin.begin.auto.0, omega (arith, at-start.requires.1.0.0.some))
+    let at_start = at-begin.before.before.before.before.before.before.before.before in
+    (roomy_on at_start.requires.1.0.0 at-begin.begin.auto.0, omega (arith, at_start.requires.1.0.0.some))
 
 -- src/visits.rt:92:5
 loop-holds : tie.Need-loop-init invariant-loop decreases-loop
@@ -52,27 +52,27 @@ loop-holds c =
 mul-is-queued : tie.Need-overflow-mul-is-queued invariant-loop decreases-loop
 mul-is-queued c =
     let at-begin = c.before.before.before.before.before in
-    let at-start = at-begin.before.before.before.before.before.before.before.before in
-    let pre = at-start.requires in
+    let at_start = at-begin.before.before.before.before.before.before.before.before in
+    let pre = at_start.requires in
     let at = c.loop in
     let inv = at.invariant in
     let long = inv.1 ∙ at-begin.begin.auto.0 in
-    let roomy = roomy-on {words = at.words} pre.1.0.0 long in
+    let roomy = roomy_on {words = at.words} pre.1.0.0 long in
     let searchable = pre.1.1 in
-    omega (arith, roomy, state-below (inv.4 searchable) inv.3 roomy.some)
+    omega (arith, roomy, state_below (inv.4 searchable) inv.3 roomy.some)
 
 -- src/visits.rt:92:21
 slice-read-is-queued : tie.Need-slice-read-is-queued invariant-loop decreases-loop
 slice-read-is-queued c =
     let at-begin = c.before.before.before.before.before.before in
-    let at-start = at-begin.before.before.before.before.before.before.before.before in
-    let pre = at-start.requires in
+    let at_start = at-begin.before.before.before.before.before.before.before.before in
+    let pre = at_start.requires in
     let at = c.before.loop in
     let inv = at.invariant in
     let long = inv.1 ∙ at-begin.begin.auto.0 in
-    let roomy = roomy-on {words = at.words} pre.1.0.0 long in
+    let roomy = roomy_on {words = at.words} pre.1.0.0 long in
     let searchable = pre.1.1 in
-    omega (arith, roomy, state-below (inv.4 searchable) inv.3 roomy.some)
+    omega (arith, roomy, state_below (inv.4 searchable) inv.3 roomy.some)
 
 -- src/visits.rt:92:11
 is-queued-requires : tie.Need-is-queued-requires invariant-loop decreases-loop
@@ -91,15 +91,15 @@ visit-requires c κs =
     let at-is-queued = at-if1.before in
     let at-loop = at-is-queued.before.before in
     let at-begin = at-loop.before.before.before.before.before in
-    let at-start = at-begin.before.before.before.before.before.before.before.before in
-    let pre = at-start.requires in
+    let at_start = at-begin.before.before.before.before.before.before.before.before in
+    let pre = at_start.requires in
     let at = at-loop.loop in
     let inv = at.invariant in
     let long = inv.1 ∙ at-begin.begin.auto.0 in
-    let roomy = roomy-on {words = at.words} pre.1.0.0 long in
+    let roomy = roomy_on {words = at.words} pre.1.0.0 long in
     let searchable = pre.1.1 in
-    let waiting = sym at-is-queued.is-queued.ensures ∙ at-if1.if1.true in (
-      goal-ready-on pre.0 inv.0 inv.2,
+    let waiting = sym at-is-queued.is_queued.ensures ∙ at-if1.if1.true in (
+      goal_ready_on pre.0 inv.0 inv.2,
       ((roomy, omega (arith, pre.1.0.1, inv.5)), visitable searchable (inv.4 searchable) inv.3 waiting),
     )
 
@@ -133,17 +133,17 @@ returns c =
     let at-is-queued = at-if1.before in
     let at-loop = at-is-queued.before.before in
     let at-begin = at-loop.before.before.before.before.before in
-    let at-start = at-begin.before.before.before.before.before.before.before.before in
-    let pre = at-start.requires in
+    let at_start = at-begin.before.before.before.before.before.before.before.before in
+    let pre = at_start.requires in
     let at = at-loop.loop in
     let inv = at.invariant in
     let long = inv.1 ∙ at-begin.begin.auto.0 in
-    let roomy = roomy-on {words = at.words} pre.1.0.0 long in
+    let roomy = roomy_on {words = at.words} pre.1.0.0 long in
     let searchable = pre.1.1 in
-    let waiting = sym at-is-queued.is-queued.ensures ∙ at-if1.if1.true in
+    let waiting = sym at-is-queued.is_queued.ensures ∙ at-if1.if1.true in
     record {
       told = λ v.
-          round-goal v (inv.4 v) inv.3 waiting c.if2.true (state-below (inv.4 searchable) inv.3 roomy.some)
+          round-goal v (inv.4 v) inv.3 waiting c.if2.true (state_below (inv.4 searchable) inv.3 roomy.some)
           (at-visit.visit.ensures.told (visitable v (inv.4 v) inv.3 waiting));
     }
 
@@ -153,14 +153,14 @@ winner-requires-2 c κs =
     let at-visit = c.before.before.before.before.before.before.before.before.before in
     let at-loop = at-visit.before.before.before.before.before.before.before.before in
     let at-begin = at-loop.before.before.before.before.before in
-    let at-start = at-begin.before.before.before.before.before.before.before.before in
-    let pre = at-start.requires in
+    let at_start = at-begin.before.before.before.before.before.before.before.before in
+    let pre = at_start.requires in
     let at = at-loop.loop in
     let inv = at.invariant in
     let long = inv.1 ∙ at-begin.begin.auto.0 in
-    let roomy = roomy-on {words = at.words} pre.1.0.0 long in
+    let roomy = roomy_on {words = at.words} pre.1.0.0 long in
     let searchable = pre.1.1 in
-    (roomy-on roomy at-visit.visit.auto.1.1.1.1.1.1.1.0, omega (arith, roomy.some))
+    (roomy_on roomy at-visit.visit.auto.1.1.1.1.1.1.1.0, omega (arith, roomy.some))
 
 -- src/visits.rt:92:5
 loop-less : tie.Need-loop-smaller invariant-loop decreases-loop
@@ -170,15 +170,15 @@ loop-less c =
     let at-is-queued = at-if1.before in
     let at-loop = at-is-queued.before.before in
     let at-begin = at-loop.before.before.before.before.before in
-    let at-start = at-begin.before.before.before.before.before.before.before.before in
-    let pre = at-start.requires in
+    let at_start = at-begin.before.before.before.before.before.before.before.before in
+    let pre = at_start.requires in
     let at = at-loop.loop in
     let inv = at.invariant in
     let long = inv.1 ∙ at-begin.begin.auto.0 in
-    let roomy = roomy-on {words = at.words} pre.1.0.0 long in
+    let roomy = roomy_on {words = at.words} pre.1.0.0 long in
     let searchable = pre.1.1 in
-    let waiting = sym at-is-queued.is-queued.ensures ∙ at-if1.if1.true in
-    round-less at-visit.visit.ensures c.before.before.if2.false (state-below (inv.4 searchable) inv.3 roomy.some) waiting
+    let waiting = sym at-is-queued.is_queued.ensures ∙ at-if1.if1.true in
+    round_less at-visit.visit.ensures c.before.before.if2.false (state_below (inv.4 searchable) inv.3 roomy.some) waiting
 
 -- src/visits.rt:92:5
 loop-again : tie.Need-loop-preserved invariant-loop decreases-loop
@@ -188,14 +188,14 @@ loop-again c =
     let at-is-queued = at-if1.before in
     let at-loop = at-is-queued.before.before in
     let at-begin = at-loop.before.before.before.before.before in
-    let at-start = at-begin.before.before.before.before.before.before.before.before in
-    let pre = at-start.requires in
+    let at_start = at-begin.before.before.before.before.before.before.before.before in
+    let pre = at_start.requires in
     let at = at-loop.loop in
     let inv = at.invariant in
     let long = inv.1 ∙ at-begin.begin.auto.0 in
-    let roomy = roomy-on {words = at.words} pre.1.0.0 long in
+    let roomy = roomy_on {words = at.words} pre.1.0.0 long in
     let searchable = pre.1.1 in
-    let waiting = sym at-is-queued.is-queued.ensures ∙ at-if1.if1.true in (
+    let waiting = sym at-is-queued.is_queued.ensures ∙ at-if1.if1.true in (
       at-visit.visit.auto.1.1.1.1.1.0 ∙ inv.0,
       at-visit.visit.auto.1.1.1.1.1.1.1.0 ∙ inv.1,
       at-visit.visit.auto.1.1.1.1.1.1.1.1.1.0 ∙ inv.2,
@@ -228,14 +228,14 @@ returns-2 : tie.Need-returns-2 invariant-loop decreases-loop
 returns-2 c =
     let at-loop = c.before.before.before in
     let at-begin = at-loop.before.before.before.before.before in
-    let at-start = at-begin.before.before.before.before.before.before.before.before in
-    let pre = at-start.requires in
+    let at_start = at-begin.before.before.before.before.before.before.before.before in
+    let pre = at_start.requires in
     let at = at-loop.loop in
     let inv = at.invariant in
     let long = inv.1 ∙ at-begin.begin.auto.0 in
-    let roomy = roomy-on {words = at.words} pre.1.0.0 long in
+    let roomy = roomy_on {words = at.words} pre.1.0.0 long in
     let searchable = pre.1.1 in
-    record { told = λ v. search-none v (inv.4 v) inv.3 roomy (sym c.before.is-queued.ensures ∙ c.if1.false) }
+    record { told = λ v. search-none v (inv.4 v) inv.3 roomy (sym c.before.is_queued.ensures ∙ c.if1.false) }
 
 pub search-spec : {M : Type 1} → statement M
 search-spec =

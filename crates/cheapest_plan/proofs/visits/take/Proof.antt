@@ -1,7 +1,7 @@
 -- `take` meets its contract: the state's word is 0, and the nodes over it are set. Assumes nothing.
 use mathlib.Core.Path.{◌∙◌}
 use lib.ListN.{length-set}
-use Rattle.state_queue.proofs.Playing.{roomy-on}
+use Rattle.state_queue.proofs.Playing.{roomy_on}
 use Rattle.cheapest_plan.proofs.Visiting.{take-waits, taken-now}
 use borrow.Author.Rules.{rules}
 use Rattle.cheapest_plan.proofs.visits.take.Statement.{statement}
@@ -21,20 +21,20 @@ slice-write-words c = search rules
 -- src/visits.rt:39:5
 lower-requires : tie.Need-lower-requires
 lower-requires c κs =
-    let at-start = c.before.before in
-    (roomy-on at-start.requires.0 (length-set at-start.args.words.now at-start.args.s 0), take-waits at-start.requires.0 at-start.requires.1 at-start.requires.2)
+    let at_start = c.before.before in
+    (roomy_on at_start.requires.0 (length-set at_start.args.words.now at_start.args.s 0), take-waits at_start.requires.0 at_start.requires.1 at_start.requires.2)
 
 -- src/visits.rt:34:1
 same_length : tie.Need-same-length
 same_length c =
-    let at-start = c.before.before.before.before.before in
-    c.before.before.lower.auto.0 ∙ length-set at-start.args.words.now at-start.args.s 0
+    let at_start = c.before.before.before.before.before in
+    c.before.before.lower.auto.0 ∙ length-set at_start.args.words.now at_start.args.s 0
 
 -- src/visits.rt:34:1
 returns : tie.Need-returns
 returns c =
-    let at-start = c.before.before.before.before.before in
-    taken-now at-start.requires.0 at-start.requires.1 at-start.requires.2 c.before.before.lower.ensures
+    let at_start = c.before.before.before.before.before in
+    taken-now at_start.requires.0 at_start.requires.1 at_start.requires.2 c.before.before.lower.ensures
 
 pub take_spec : {M : Type 1} → statement M
 take_spec = tie.close (tie.spec mul_words slice-write-words lower-requires same_length returns)

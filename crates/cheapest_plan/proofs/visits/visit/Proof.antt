@@ -4,9 +4,9 @@ use native.Mathlib.Omega.{arith}
 use mathlib.Core.Path.{◌≡◌, sym, ◌∙◌}
 use mathlib.Core.Bool.{false≢true}
 use lib.ListN.{length}
-use Rattle.state_queue.proofs.Playing.{roomy-on}
-use Rattle.cheapest_plan.proofs.Expanding.{zeros-none, zeros-on}
-use Rattle.cheapest_plan.proofs.Visiting.{take-zeros, first_below, visited-goal, visit-stage, visit-expandable, visited-on, visit-maskable}
+use Rattle.state_queue.proofs.Playing.{roomy_on}
+use Rattle.cheapest_plan.proofs.Expanding.{zeros_none, zeros_on}
+use Rattle.cheapest_plan.proofs.Visiting.{take_zeros, first_below, visited-goal, visit_stage, visit-expandable, visited-on, visit_maskable}
 use borrow.Author.Rules.{rules}
 use Rattle.cheapest_plan.proofs.visits.visit.Statement.{statement}
 use Rattle.cheapest_plan.proofs.visits.visit.Tie as tie
@@ -33,58 +33,58 @@ same-length-2 c = search rules
 returns : tie.Need-returns
 returns c =
     let at-is-goal = c.before.before.before.before.before in
-    let at-start = at-is-goal.before.before.before.before.before.before.before.before.before.before in
+    let at_start = at-is-goal.before.before.before.before.before.before.before.before.before.before in
     record {
-      zeros = zeros-none;
+      zeros = zeros_none;
       gone = λ e. absurd (false≢true (sym e));
-      told = λ v. visited-goal v at-start.requires.1.0.0 at-is-goal.is-goal.ensures c.if1.true;
+      told = λ v. visited-goal v at_start.requires.1.0.0 at-is-goal.is-goal.ensures c.if1.true;
     }
 
 -- src/visits.rt:63:16
 mul-cost : tie.Need-overflow-mul-cost
 mul-cost c =
-    let at-start = c.before.before.before.before.before.before.before.before.before.before.before.before.before.before.before in
-    let pre = at-start.requires in
+    let at_start = c.before.before.before.before.before.before.before.before.before.before.before.before.before.before.before in
+    let pre = at_start.requires in
     let below = first_below pre.1.1 pre.1.0.0 in
     omega (arith, pre.1.0.0)
 
 -- src/visits.rt:63:16
 slice-read-cost : tie.Need-slice-read-cost
 slice-read-cost c =
-    let at-start = c.before.before.before.before.before.before.before.before.before.before.before.before.before.before.before.before in
-    let pre = at-start.requires in
+    let at_start = c.before.before.before.before.before.before.before.before.before.before.before.before.before.before.before.before in
+    let pre = at_start.requires in
     let below = first_below pre.1.1 pre.1.0.0 in
     omega (arith, pre.1.0.0)
 
 -- src/visits.rt:64:23
 add-steps : tie.Need-overflow-add-steps
 add-steps c =
-    let at-start = c.before.before.before.before.before.before.before.before.before.before.before.before.before.before.before.before in
-    let pre = at-start.requires in
+    let at_start = c.before.before.before.before.before.before.before.before.before.before.before.before.before.before.before.before in
+    let pre = at_start.requires in
     let below = first_below pre.1.1 pre.1.0.0 in
     omega (arith, pre.1.0.0)
 
 -- src/visits.rt:64:17
 mul-steps : tie.Need-overflow-mul-steps
 mul-steps c =
-    let at-start = c.before.before.before.before.before.before.before.before.before.before.before.before.before.before.before.before in
-    let pre = at-start.requires in
+    let at_start = c.before.before.before.before.before.before.before.before.before.before.before.before.before.before.before.before in
+    let pre = at_start.requires in
     let below = first_below pre.1.1 pre.1.0.0 in
     omega (arith, pre.1.0.0)
 
 -- src/visits.rt:64:17
 slice-read-steps : tie.Need-slice-read-steps
 slice-read-steps c =
-    let at-start = c.before.before.before.before.before.before.before.before.before.before.before.before.before.before.before.before.before in
-    let pre = at-start.requires in
+    let at_start = c.before.before.before.before.before.before.before.before.before.before.before.before.before.before.before.before.before in
+    let pre = at_start.requires in
     let below = first_below pre.1.1 pre.1.0.0 in
     omega (arith, pre.1.0.0)
 
 -- src/visits.rt:65:5
 take-requires : tie.Need-take-requires
 take-requires c κs =
-    let at-start = c.before.before.before.before.before.before.before.before.before.before.before.before.before.before.before.before.before.before in
-    let pre = at-start.requires in
+    let at_start = c.before.before.before.before.before.before.before.before.before.before.before.before.before.before.before.before.before.before in
+    let pre = at_start.requires in
     let below = first_below pre.1.1 pre.1.0.0 in
     (pre.1.0.0, pre.1.1.known.queue, below)
 
@@ -96,8 +96,8 @@ cast-find-masks c = search rules
 find-masks-requires : tie.Need-find-masks-requires
 find-masks-requires c κs =
     let at-is-goal = c.before.before.before.before.before.before.before.before.before.before.before.before.before.before in
-    let at-start = at-is-goal.before.before.before.before.before.before.before.before.before.before in
-    visit-maskable at-start.requires.1.1 at-start.requires.0.few (omega (arith, at-start.requires.0.room, at-is-goal.is-goal.auto.1.1.1.1.0)) at-start.requires.1.0.1
+    let at_start = at-is-goal.before.before.before.before.before.before.before.before.before.before in
+    visit_maskable at_start.requires.1.1 at_start.requires.0.few (omega (arith, at_start.requires.0.room, at-is-goal.is-goal.auto.1.1.1.1.0)) at_start.requires.1.0.1
 
 -- src/visits.rt:67:17
 cast-count : tie.Need-overflow-cast-count
@@ -110,12 +110,12 @@ expand-requires c κs =
     let at_take = at-find-masks.before.before.before.before.before.before in
     let at-if1 = at_take.before.before.before.before in
     let at-is-goal = at-if1.before.before.before.before.before in
-    let at-start = at-is-goal.before.before.before.before.before.before.before.before.before.before in
-    let pre = at-start.requires in
+    let at_start = at-is-goal.before.before.before.before.before.before.before.before.before.before in
+    let pre = at_start.requires in
     visit-expandable pre.1.1 pre.1.0.0 at-is-goal.is-goal.ensures at-if1.if1.false at_take.take.ensures pre.0.few
-    at-find-masks.find-masks.ensures (omega (arith, at-start.requires.0.room, at-is-goal.is-goal.auto.1.1.1.1.0)) (omega
-    (arith, at-start.requires.1.0.1, at-find-masks.find-masks.auto.1.1.1.0))
-    (roomy-on pre.1.0.0 at_take.take.auto.0)
+    at-find-masks.find-masks.ensures (omega (arith, at_start.requires.0.room, at-is-goal.is-goal.auto.1.1.1.1.0)) (omega
+    (arith, at_start.requires.1.0.1, at-find-masks.find-masks.auto.1.1.1.0))
+    (roomy_on pre.1.0.0 at_take.take.auto.0)
 
 -- src/visits.rt:43:1
 same-length-3 : tie.Need-same-length-3
@@ -141,20 +141,20 @@ returns-2 c =
     let at_take = at-find-masks.before.before.before.before.before.before in
     let at-if1 = at_take.before.before.before.before in
     let at-is-goal = at-if1.before.before.before.before.before in
-    let at-start = at-is-goal.before.before.before.before.before.before.before.before.before.before in
-    let pre = at-start.requires in
+    let at_start = at-is-goal.before.before.before.before.before.before.before.before.before.before in
+    let pre = at_start.requires in
     let roomy = pre.1.0.0 in
-    let room : at-start.args.head.formulas ≤ length at-is-goal.is-goal.new.1.1.1.1.0 = omega
-    (arith, at-start.requires.0.room, at-is-goal.is-goal.auto.1.1.1.1.0) in
-    let masks-room : at-start.args.head.effects ≤ length at-find-masks.find-masks.new.1.1.1.0 = omega
-    (arith, at-start.requires.1.0.1, at-find-masks.find-masks.auto.1.1.1.0) in
+    let room : at_start.args.head.formulas ≤ length at-is-goal.is-goal.new.1.1.1.1.0 = omega
+    (arith, at_start.requires.0.room, at-is-goal.is-goal.auto.1.1.1.1.0) in
+    let masks-room : at_start.args.head.effects ≤ length at-find-masks.find-masks.new.1.1.1.0 = omega
+    (arith, at_start.requires.1.0.1, at-find-masks.find-masks.auto.1.1.1.0) in
     record {
-      zeros = zeros-on (take-zeros at_take.take.ensures) at-expand.expand.ensures.zeros;
-      gone = λ e. at-expand.expand.ensures.zeros.stay at-start.args.s (first_below pre.1.1 roomy) at_take.take.ensures.word;
+      zeros = zeros_on (take_zeros at_take.take.ensures) at-expand.expand.ensures.zeros;
+      gone = λ e. at-expand.expand.ensures.zeros.stay at_start.args.s (first_below pre.1.1 roomy) at_take.take.ensures.word;
       told = λ v.
           visited-on v roomy at-is-goal.is-goal.ensures at-if1.if1.false at_take.take.ensures pre.0.few at-find-masks.find-masks.ensures room masks-room
           (at-expand.expand.ensures.told
-          (visit-stage v roomy at-is-goal.is-goal.ensures at-if1.if1.false at_take.take.ensures pre.0.few
+          (visit_stage v roomy at-is-goal.is-goal.ensures at-if1.if1.false at_take.take.ensures pre.0.few
           at-find-masks.find-masks.ensures room masks-room));
     }
 

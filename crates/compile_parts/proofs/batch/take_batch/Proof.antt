@@ -7,7 +7,7 @@ use mathlib.Core.Path.{◌≡◌, refl, ◌∙◌}
 use lib.ListN.{length}
 use Rattle.formula_builder.specs.Inner.Held.{store}
 use Rattle.variable_changes.specs.Inner.Stands.{Leaves}
-use Rattle.building.specs.Inner.Taken.{size-at, Taken}
+use Rattle.building.specs.Inner.Taken.{size_at, Taken}
 use Rattle.compile_parts.proofs.Batched.{still-taken, next-asks}
 
 abbrev invariant-loop : tie.invariant-loop
@@ -19,7 +19,7 @@ invariant-loop counts formulas effects operators first notes₀ built₀ origina
     × (length scratch ≡ length scratch₀)
     × (length records ≡ length records₀)
     × Taken counts.frame formulas effects operators (store built originals) scratch records at
-    × Leaves at.full counts.frame formulas effects notes (size-at at) (store built originals)
+    × Leaves at.full counts.frame formulas effects notes (size_at at) (store built originals)
 
 abbrev decreases-loop : tie.decreases-loop
 decreases-loop counts formulas effects operators first notes₀ built₀ originals₀ scratch₀ records₀ end at₀ notes built originals scratch records at =

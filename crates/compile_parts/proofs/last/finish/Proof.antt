@@ -31,7 +31,7 @@ write-initial-requires c κs =
     let at_entry_lem = at_entry_lem in
     let at-if1 = at_entry_lem in
     let at_pre = at-if1.before.before.before.before.before.before.before.before.before.before in
-    (at_pre.requires.stands at-if1.if1.false).initial-ready
+    (at_pre.requires.stands at-if1.if1.false).initial_ready
 
 mul-copy-words : tie.Need-overflow-mul-copy-words
 mul-copy-words c =
@@ -75,7 +75,7 @@ cast-t28 c =
     let at-if1 = at-assemble-operators.before.before.before.before in
     let at_pre = at-if1.before.before.before.before.before.before.before.before.before.before in
     omega
-    (arith, at-assemble-operators.assemble-operators.ensures.within at-if2.if2.false, (at_pre.requires.stands at-if1.if1.false).assembles.rows-limit)
+    (arith, at-assemble-operators.assemble-operators.ensures.within at-if2.if2.false, (at_pre.requires.stands at-if1.if1.false).assembles.rows_limit)
 
 returns-3 : tie.Need-returns-3
 returns-3 c =

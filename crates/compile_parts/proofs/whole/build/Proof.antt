@@ -9,8 +9,8 @@ use lib.ListN.{length, get_or}
 use Rattle.formula_builder.specs.Inner.Held.{store}
 use Rattle.atom_sets.specs.Inner.Sets.{sets_end}
 use Rattle.variable_changes.specs.Inner.Stands.{Leaves}
-use Rattle.variable_changes.proofs.Standing.{leaves-same}
-use Rattle.building.specs.Inner.Taken.{size-at, Taken}
+use Rattle.variable_changes.proofs.Standing.{leaves_same}
+use Rattle.building.specs.Inner.Taken.{size_at, Taken}
 use Rattle.compile_parts.proofs.Asked.{finds, finds-first, known, none_kept, noted, first_taken, next-batch, last-asks, all-built}
 
 abbrev invariant-loop : tie.invariant-loop
@@ -22,7 +22,7 @@ invariant-loop counts formulas effects operators originals₀ scratch₀ notes�
     × (length built ≡ length built₀)
     × (length records ≡ length records₀)
     × Taken frame formulas effects operators (store built originals) scratch records at
-    × Leaves at.full frame formulas effects notes (size-at at) (store built originals)
+    × Leaves at.full frame formulas effects notes (size_at at) (store built originals)
     × (at.operators ≡ 0 → (j : ℕ) → sets_end frame ≤ j → get_or notes j 0 ≡ 0)
 
 abbrev decreases-loop : tie.decreases-loop
@@ -59,7 +59,7 @@ loop-holds c =
       refl,
       refl,
       first_taken asked begun,
-      leaves-same found,
+      leaves_same found,
       λ _. none_kept asked sets.ensures sets.auto.1.1.0,
     )
 

@@ -4,7 +4,7 @@ use lib.ListN.{length}
 use borrow.Author.Rules.{rules}
 use Rattle.task.specs.Table.{lent}
 use Rattle.compile_text.specs.Text.{most}
-use Rattle.compile_text.proofs.PrintWays.{task-given}
+use Rattle.compile_text.proofs.PrintWays.{task_given}
 use Rattle.compile_text.proofs.answers.task_lines.Statement.{statement}
 use Rattle.compile_text.proofs.answers.task_lines.Tie as tie
 
@@ -14,7 +14,7 @@ returns c =
     let at-args = at-shared-slice-known5.before.before.before.before.before in
     let a = at-args.args in
     let n : length a.out.now ≡ most = search (rules, at-args.well-formed) in
-    task-given (lent a.head a.initial.now a.twins.now a.formulas.now a.effects.now a.operators.now) (length a.out.now) at-args.requires
+    task_given (lent a.head a.initial.now a.twins.now a.formulas.now a.effects.now a.operators.now) (length a.out.now) at-args.requires
     (λ i. (at-shared-slice-known5.shared-slice-known5.given i).fits) n c.before.print.ensures c.printed.ensures
     c.before.print.auto.1.1.1.1.1.1.0
 

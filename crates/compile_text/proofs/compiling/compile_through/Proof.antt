@@ -11,7 +11,7 @@ returns c =
     let at-compile = at-enum-told.before.before.before.before.before.before.before.before.before.before.before.before.before.before in
     let at-args = at-compile.before.before.before.before.before.before.before.before.before.before.before.before.before.before.before.before.before.before in
     let a = at-args.args in number-given (lent a.head a.initial.now a.twins.now a.formulas.now a.effects.now a.operators.now)
-    at-args.requires at-compile.compile.result at-compile.compile.ensures at-enum-told.enum_told.given.1 c.before.before.not-compiled.ensures
+    at-args.requires at-compile.compile.result at-compile.compile.ensures at-enum-told.enum_told.given.1 c.before.before.not_compiled.ensures
     c.number-line.ensures
 
 task-lines-requires : tie.Need-task-lines-requires

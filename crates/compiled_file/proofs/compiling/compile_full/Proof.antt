@@ -13,7 +13,7 @@ returns c =
     let at-compile-through = c.before.before.before.before.before.before.before.before.before.before in
     let at-args = at-compile-through.before.before.before.before.before.before.before.before.before.before.before.before.before.before.before.before in
     let a = at-args.args in full-given (lent a.head a.initial.now a.twins.now a.formulas.now a.effects.now a.operators.now)
-    at-args.requires (length a.out.now) (length a.result.now) at-compile-through.compile-through.ensures
+    at-args.requires (length a.out.now) (length a.result.now) at-compile-through.compile_through.ensures
 
 pub compile-full-spec : {M : Type 1} → statement M
 compile-full-spec =

@@ -4,8 +4,8 @@ use lib.ListN.{length}
 use Rattle.task.specs.Table.{lent}
 use Rattle.compiler.specs.Left.{tables, room_of}
 use Rattle.compiler.specs.declared.CompileAnswer.{CompileAnswer}
-use Rattle.compiler.specs.Left.{answer-of}
-use Rattle.entry_tables.specs.Inner.Answers.{refused-compile}
+use Rattle.compiler.specs.Left.{answer_of}
+use Rattle.entry_tables.specs.Inner.Answers.{refused_compile}
 use Rattle.compiled_file.proofs.CompileWays.{no-task-compiled, compiled-kept, compiled-given}
 use borrow.Author.Rules.{rules}
 use Rattle.compiled_file.proofs.compiling.compile_through.Statement.{statement}
@@ -21,7 +21,7 @@ returns c =
     let a = at-args.args in no-task-compiled (lent a.head a.initial.now a.twins.now a.formulas.now a.effects.now a.operators.now)
     (room_of (tables a.values.now a.originals.now a.table.now a.rules.now a.written.now a.scratch.now)) at-compile.compile.ensures
     (length a.out.now) (length a.result.now) at-enum-told.enum_told.given.1
-    (at-refused.refused.ensures ∙ ap (λ (x : CompileAnswer). refused-compile (answer-of x)) at-enum-told.enum_told.given.1) at-refuse.refuse.ensures
+    (at-refused.refused.ensures ∙ ap (λ (x : CompileAnswer). refused_compile (answer_of x)) at-enum-told.enum_told.given.1) at-refuse.refuse.ensures
 
 give-file-requires : tie.Need-give-file-requires
 give-file-requires c κs =

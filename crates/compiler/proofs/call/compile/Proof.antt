@@ -15,9 +15,9 @@ use mathlib.Core.Path.{ap, ◌∙◌}
 use lib.ListN.{replicate}
 use Rattle.task.specs.Table.{lent}
 use Rattle.normal_form.specs.Compiled.{compiling}
-use Rattle.compiler.proofs.Source.{few-variables}
-use Rattle.compiler.proofs.Cleared.{blanked-self, same-room}
-use Rattle.compiler.proofs.Ways.{refuses-first, roomy, filled-over, variables-fit, filled-done}
+use Rattle.compiler.proofs.Source.{few_variables}
+use Rattle.compiler.proofs.Cleared.{blanked_self, same_room}
+use Rattle.compiler.proofs.Ways.{refuses_first, roomy, filled-over, variables-fit, filled-done}
 
 same_length : tie.Need-same-length
 same_length c =
@@ -55,15 +55,15 @@ returns c =
     let at-args = at-clear-all.before.before.before.before.before.before.before.before.before.before.before.before.before.before.before.before.before.before in
     let a = at-args.args in
     let l = lent a.head a.initial.now a.twins.now a.formulas.now a.effects.now a.operators.now in
-    refuses-first l c.before.first-number.result (c.before.first-number.ensures.refuses c.if1.true) at-clear-all.clear-all.ensures
+    refuses_first l c.before.first_number.result (c.before.first_number.ensures.refuses c.if1.true) at-clear-all.clear-all.ensures
 
 counts-of-requires : tie.Need-counts-of-requires
 counts-of-requires c κs =
     let at-args = c.before.before.before.before.before.before.before.before.before.before.before.before.before.before.before.before.before.before.before.before.before.before.before.before.before.before.before.before.before.before.before.before in
     let a = at-args.args in
     let l = lent a.head a.initial.now a.twins.now a.formulas.now a.effects.now a.operators.now in
-    let passed = c.before.first-number.ensures.passed c.if1.false in
-    (few-variables l passed.passes, passed.initial)
+    let passed = c.before.first_number.ensures.passed c.if1.false in
+    (few_variables l passed.passes, passed.initial)
 
 fill-requires : tie.Need-fill-requires
 fill-requires c κs =
@@ -71,8 +71,8 @@ fill-requires c κs =
     let at-if1 = at-counts-of.before in
     let at-first-number = at-if1.before in
     let at-clear-all = at-first-number.before.before.before.before.before.before.before.before.before.before.before.before.before in
-    let passed = at-first-number.first-number.ensures.passed at-if1.if1.false in
-    roomy passed at-counts-of.counts_of.ensures (blanked-self at-clear-all.clear-all.ensures)
+    let passed = at-first-number.first_number.ensures.passed at-if1.if1.false in
+    roomy passed at-counts-of.counts_of.ensures (blanked_self at-clear-all.clear-all.ensures)
 
 same-length-7 : tie.Need-same-length-7
 same-length-7 c =
@@ -120,9 +120,9 @@ returns-2 c =
     let at-args = at-clear-all.before.before.before.before.before.before.before.before.before.before.before.before.before.before.before.before.before.before in
     let a = at-args.args in
     let l = lent a.head a.initial.now a.twins.now a.formulas.now a.effects.now a.operators.now in
-    let passed = at-first-number.first-number.ensures.passed at-if1.if1.false in
-    filled-over passed at-counts-of.counts_of.ensures at_fill_lem.fill.ensures (blanked-self at-clear-all.clear-all.ensures) c.if2.true
-    ∙ ap (compiling l) (same-room at-clear-all.clear-all.ensures)
+    let passed = at-first-number.first_number.ensures.passed at-if1.if1.false in
+    filled-over passed at-counts-of.counts_of.ensures at_fill_lem.fill.ensures (blanked_self at-clear-all.clear-all.ensures) c.if2.true
+    ∙ ap (compiling l) (same_room at-clear-all.clear-all.ensures)
 
 compiled-head-requires : tie.Need-compiled-head-requires
 compiled-head-requires c κs =
@@ -131,7 +131,7 @@ compiled-head-requires c κs =
     let at-counts-of = at_fill_lem.before.before.before.before.before.before.before in
     let at-if1 = at-counts-of.before in
     let at-first-number = at-if1.before in
-    let passed = at-first-number.first-number.ensures.passed at-if1.if1.false in
+    let passed = at-first-number.first_number.ensures.passed at-if1.if1.false in
     variables-fit passed at-counts-of.counts_of.ensures at_fill_lem.fill.ensures at-if2.if2.false
 
 same-length-13 : tie.Need-same-length-13
@@ -183,10 +183,10 @@ returns-3 c =
     let at-args = at-clear-all.before.before.before.before.before.before.before.before.before.before.before.before.before.before.before.before.before.before in
     let a = at-args.args in
     let l = lent a.head a.initial.now a.twins.now a.formulas.now a.effects.now a.operators.now in
-    let passed = at-first-number.first-number.ensures.passed at-if1.if1.false in
+    let passed = at-first-number.first_number.ensures.passed at-if1.if1.false in
     let zero = at-clear-words.clear-words.ensures ∙ ap (λ (m : ℕ). replicate m 0) at_fill_lem.fill.auto.1.1.1.1.1.1.1.1.1.1.0 in
-    filled-done passed at-counts-of.counts_of.ensures at_fill_lem.fill.ensures at-if2.if2.false c.compiled-head.ensures zero
-    ∙ ap (compiling l) (same-room at-clear-all.clear-all.ensures)
+    filled-done passed at-counts-of.counts_of.ensures at_fill_lem.fill.ensures at-if2.if2.false c.compiled_head.ensures zero
+    ∙ ap (compiling l) (same_room at-clear-all.clear-all.ensures)
 
 pub compile-spec : {M : Type 1} → statement M
 compile-spec =

@@ -5,12 +5,12 @@ use Rattle.compiler.proofs.sizes.most_twins.Tie as tie
 use Rattle.compiler.proofs.sizes.most_twins.Reads as reads
 use Rattle.compiler.proofs.sizes.most_twins.Lts as lts
 use Rattle.compiler.proofs.sizes.least.Reads as least-reads
-use Rattle.compiler.proofs.Lesser.{most-twins}
+use Rattle.compiler.proofs.Lesser.{most_twins}
 
 returns : tie.Need-returns
 returns c =
     let s = c.before.before in
-    most-twins s.requires.0 s.requires.1 c.before.least.ensures c.least2.ensures
+    most_twins s.requires.0 s.requires.1 c.before.least.ensures c.least2.ensures
 
 pub most-twins-spec : {M : Type 1} → statement M
 most-twins-spec =

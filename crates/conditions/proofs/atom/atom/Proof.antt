@@ -3,17 +3,17 @@ use borrow.Author.Rules.{rules}
 use Rattle.conditions.proofs.atom.atom.Statement.{statement}
 use Rattle.conditions.proofs.atom.atom.Tie as tie
 use mathlib.Core.Path.{sym, ◌∙◌}
-use Rattle.conditions.specs.Inner.Conditions.{atom-row}
+use Rattle.conditions.specs.Inner.Conditions.{atom_row}
 
 returns : tie.Need-returns
-unfolding atom-row
+unfolding atom_row
 returns c =
     let at-if1 = c.before in
     let at-touches = at-if1.before in
     rw (sym at-touches.touches.ensures ∙ at-if1.if1.true) c.truth.ensures
 
 returns-2 : tie.Need-returns-2
-unfolding atom-row
+unfolding atom_row
 returns-2 c =
     let at-if1 = c.before in
     let at-touches = at-if1.before in

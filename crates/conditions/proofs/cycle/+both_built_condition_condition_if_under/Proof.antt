@@ -33,9 +33,9 @@ use borrow.Author.Tests.{eq-eqb, ne_eqb}
 use native.Mathlib.Omega.{arith}
 use mathlib.Core.Path.{sym, ◌∙◌}
 use Rattle.conditions.proofs.Notes.{small_row}
-use Rattle.conditions.proofs.Memos.{asks-next, conditions-kept}
-use Rattle.conditions.proofs.Cases.{lacks-framed, kept-asks, in-set, answers-known, answers-lacking, answers-atom, composed, is-both, is-under}
-use Rattle.conditions.proofs.Cases.{effects-lower, left-asks, left-full, right-asks, right-full, left_false, right-false, both-join-asks, both-done}
+use Rattle.conditions.proofs.Memos.{asks-next, conditions_kept}
+use Rattle.conditions.proofs.Cases.{lacks_framed, kept-asks, in-set, answers-known, answers-lacking, answers-atom, composed, is-both, is-under}
+use Rattle.conditions.proofs.Cases.{effects-lower, left-asks, left-full, right-asks, right-full, left_false, right_false, both-join-asks, both-done}
 use Rattle.conditions.proofs.Cases.{inner-lower, inner-asks, inner-full, inner-false, image-asks, image-full, under-join-asks, under-done}
 
 -- a condition's row is above the rows that it names
@@ -61,14 +61,14 @@ module _ (t : ℕ) where
   abbrev both_below : In 9 both-kinds.ps
   both_below = and 9 both-kinds.ps (falls 9 both-kinds.ps ◌<◌ μ-both t) both.Pre
 
-  abbrev built-at : In 9 built-kinds.ps
-  built-at = and 9 built-kinds.ps (is 9 built-kinds.ps μ-built t) built.Pre
+  abbrev built_at : In 9 built-kinds.ps
+  built_at = and 9 built-kinds.ps (is 9 built-kinds.ps μ-built t) built.Pre
 
   abbrev built-below : In 9 built-kinds.ps
   built-below = and 9 built-kinds.ps (falls 9 built-kinds.ps ◌<◌ μ-built t) built.Pre
 
-  abbrev condition-at : In 9 condition-kinds.ps
-  condition-at = and 9 condition-kinds.ps (is 9 condition-kinds.ps μ-condition t) condition.Pre
+  abbrev condition_at : In 9 condition-kinds.ps
+  condition_at = and 9 condition-kinds.ps (is 9 condition-kinds.ps μ-condition t) condition.Pre
 
   abbrev condition-below : In 9 condition-kinds.ps
   condition-below = and 9 condition-kinds.ps (falls 9 condition-kinds.ps ◌<◌ μ-condition t) condition.Pre
@@ -146,7 +146,7 @@ module _ (t : ℕ) where
   both-read-row-requires : both-lts.Need-read-row-requires both-calls both_at both.Post
   both-read-row-requires c κs =
       let start = c.before.before.before.before.before.before in
-      omega (arith, start.requires.1.0.effect-source.words, start.requires.1.0.effect)
+      omega (arith, start.requires.1.0.effect_source.words, start.requires.1.0.effect)
 
   both-condition-if-requires : both-lts.Need-condition-if-requires both-calls both_at both.Post
   both-condition-if-requires c κs =
@@ -205,7 +205,7 @@ module _ (t : ℕ) where
       let at_left = at-if1.before.before.before.before.before.before.before.before.before in
       let at_row = at_left.before.before.before.before.before.before.before.before in
       let start = at_row.before.before.before.before.before.before.before in
-      right-false start.requires.1.0 start.requires.1.1 at_row.read-row.result at_row.read-row.ensures at_left.condition-if.ensures
+      right_false start.requires.1.0 start.requires.1.1 at_row.read-row.result at_row.read-row.ensures at_left.condition-if.ensures
       (ne_eqb _ 65535 at-if1.if1.false) at_right.condition-if2.ensures (ne_eqb _ 65535 at-if2.if2.false) (c.if4.true ∙ at-falsity.falsity.ensures)
 
   both-joined-requires : both-lts.Need-joined-requires both-calls both_at both.Post
@@ -259,12 +259,12 @@ module _ (t : ℕ) where
       (ne_eqb _ 65535 at-if1.if1.false) at_right.condition-if2.ensures (ne_eqb _ 65535 at-if2.if2.false) (at_joined.joined.ensures _ _)
 
   -- `built`
-  built-read-row-requires : built-lts.Need-read-row-requires built-calls built-at built.Post
+  built-read-row-requires : built-lts.Need-read-row-requires built-calls built_at built.Post
   built-read-row-requires c κs =
       let start = c.before.before.before.before.before.before in
-      omega (arith, start.requires.1.0.effect-source.words, start.requires.1.0.effect)
+      omega (arith, start.requires.1.0.effect_source.words, start.requires.1.0.effect)
 
-  built-both-requires : built-lts.Need-both-requires built-calls built-at built.Post
+  built-both-requires : built-lts.Need-both-requires built-calls built_at built.Post
   built-both-requires c κs =
       let at-if1 = c.before.before.before.before.before.before in
       let at_row = at-if1.before.before in
@@ -276,12 +276,12 @@ module _ (t : ℕ) where
         ),
       )
 
-  built-returns : built-lts.Need-returns built-calls built-at built.Post
+  built-returns : built-lts.Need-returns built-calls built_at built.Post
   built-returns c =
       let at_both = c.before.before.before.before.before.before.before.before in
       at_both.both.ensures
 
-  built-under-requires : built-lts.Need-under-requires built-calls built-at built.Post
+  built-under-requires : built-lts.Need-under-requires built-calls built_at built.Post
   built-under-requires c κs =
       let at-if1 = c.before.before.before.before.before.before in
       let at_row = at-if1.before.before in
@@ -293,48 +293,48 @@ module _ (t : ℕ) where
         ),
       )
 
-  built-returns-2 : built-lts.Need-returns-2 built-calls built-at built.Post
+  built-returns-2 : built-lts.Need-returns-2 built-calls built_at built.Post
   built-returns-2 c =
       let at_under = c.before.before.before.before.before.before.before.before in
       at_under.under.ensures
 
   -- `condition`
-  condition-recall-requires : condition-lts.Need-recall-requires condition-calls condition-at condition.Post
+  condition-recall-requires : condition-lts.Need-recall-requires condition-calls condition_at condition.Post
   condition-recall-requires c κs =
       let start = c.before.before.before.before.before.before.before.before in
       kept-asks start.requires.1
 
-  condition-returns : condition-lts.Need-returns condition-calls condition-at condition.Post
+  condition-returns : condition-lts.Need-returns condition-calls condition_at condition.Post
   condition-returns c =
       let at-recall = c.before in
       let start = at-recall.before.before.before.before.before.before.before.before.before in
       answers-known start.requires.1 at-recall.recall.ensures c.if1.true
 
-  condition-read-row-requires : condition-lts.Need-read-row-requires condition-calls condition-at condition.Post
+  condition-read-row-requires : condition-lts.Need-read-row-requires condition-calls condition_at condition.Post
   condition-read-row-requires c κs =
       let start = c.before.before.before.before.before.before.before.before.before.before in
-      omega (arith, start.requires.1.effect-source.words, start.requires.1.effect)
+      omega (arith, start.requires.1.effect_source.words, start.requires.1.effect)
 
-  condition-returns-2 : condition-lts.Need-returns-2 condition-calls condition-at condition.Post
+  condition-returns-2 : condition-lts.Need-returns-2 condition-calls condition_at condition.Post
   condition-returns-2 c =
       let at-if2 = c.before in
       let at_row = at-if2.before.before in
       let start = at_row.before.before.before.before.before.before.before.before.before.before.before in
       answers-atom start.requires.1 at_row.read-row.result at_row.read-row.ensures at-if2.if2.true c.atom.ensures
 
-  condition-built-requires : condition-lts.Need-built-requires condition-calls condition-at condition.Post
+  condition-built-requires : condition-lts.Need-built-requires condition-calls condition_at condition.Post
   condition-built-requires c κs =
       let at-if2 = c.before.before.before.before.before.before in
       let at_row = at-if2.before.before in
       let start = at_row.before.before.before.before.before.before.before.before.before.before.before in
       (omega (arith, start.requires.0), (start.requires.1, composed start.requires.1 at_row.read-row.result at_row.read-row.ensures at-if2.if2.false))
 
-  condition-returns-3 : condition-lts.Need-returns-3 condition-calls condition-at condition.Post
+  condition-returns-3 : condition-lts.Need-returns-3 condition-calls condition_at condition.Post
   condition-returns-3 c =
       let at-built = c.before.before.before.before.before.before.before.before.before in
       at-built.built.ensures
 
-  condition-keep-requires : condition-lts.Need-keep-requires condition-calls condition-at condition.Post
+  condition-keep-requires : condition-lts.Need-keep-requires condition-calls condition_at condition.Post
   condition-keep-requires c κs =
       let at-if3 = c.before.before in
       let at-built = at-if3.before.before.before.before.before.before.before.before.before in
@@ -343,33 +343,33 @@ module _ (t : ℕ) where
         small_row at-built.built.ensures.builds (ne_eqb _ 65535 at-if3.if3.false),
       )
 
-  condition-same-length-9 : condition-lts.Need-same-length-9 condition-calls condition-at condition.Post
+  condition-same-length-9 : condition-lts.Need-same-length-9 condition-calls condition_at condition.Post
   condition-same-length-9 c =
       let at-keep = c.before.before.before.before in
       let at-built = at-keep.before.before.before.before.before.before.before.before.before.before.before.before in
       at-keep.keep.auto.0 ∙ at-built.built.auto.1.1.0
 
-  condition-same-length-10 : condition-lts.Need-same-length-10 condition-calls condition-at condition.Post
+  condition-same-length-10 : condition-lts.Need-same-length-10 condition-calls condition_at condition.Post
   condition-same-length-10 c =
       let at-built = c.before.before.before.before.before.before.before.before.before.before.before.before.before.before.before.before in
       at-built.built.auto.1.1.1.1.1.1.1.1.0
 
-  condition-same-length-11 : condition-lts.Need-same-length-11 condition-calls condition-at condition.Post
+  condition-same-length-11 : condition-lts.Need-same-length-11 condition-calls condition_at condition.Post
   condition-same-length-11 c =
       let at-built = c.before.before.before.before.before.before.before.before.before.before.before.before.before.before.before.before in
       at-built.built.auto.1.1.1.1.1.1.1.1.1.0
 
-  condition-same-length-12 : condition-lts.Need-same-length-12 condition-calls condition-at condition.Post
+  condition-same-length-12 : condition-lts.Need-same-length-12 condition-calls condition_at condition.Post
   condition-same-length-12 c =
       let at-keep = c.before.before.before.before in
       let at-built = at-keep.before.before.before.before.before.before.before.before.before.before.before.before in
       at-keep.keep.auto.1.0 ∙ at-built.built.auto.1.1.1.1.1.1.1.1.1.1.0
 
-  condition-returns-4 : condition-lts.Need-returns-4 condition-calls condition-at condition.Post
+  condition-returns-4 : condition-lts.Need-returns-4 condition-calls condition_at condition.Post
   condition-returns-4 c =
       let at-keep = c.before.before.before.before in
       let at-built = at-keep.before.before.before.before.before.before.before.before.before.before.before.before in
-      conditions-kept at-built.built.ensures at-keep.keep.ensures
+      conditions_kept at-built.built.ensures at-keep.keep.ensures
 
   -- `condition_if`
   condition-if-lacks-requires : condition-if-lts.Need-lacks-requires condition-if-calls condition-if-at condition-if.Post
@@ -384,7 +384,7 @@ module _ (t : ℕ) where
       let at-lacks = at-if1.before in
       let at-frame-of = at-lacks.before.before in
       let start = at-frame-of.before.before.before.before.before.before.before.before in
-      answers-lacking start.requires.1 (lacks-framed _ _ _ _ at-frame-of.frame-of.ensures (sym at-if1.if1.true ∙ at-lacks.lacks.ensures))
+      answers-lacking start.requires.1 (lacks_framed _ _ _ _ at-frame-of.frame-of.ensures (sym at-if1.if1.true ∙ at-lacks.lacks.ensures))
       c.falsity.ensures
 
   condition-if-condition-requires : condition-if-lts.Need-condition-requires condition-if-calls condition-if-at condition-if.Post
@@ -401,7 +401,7 @@ module _ (t : ℕ) where
   under-read-row-requires : under-lts.Need-read-row-requires under-calls under_at under.Post
   under-read-row-requires c κs =
       let start = c.before.before.before.before.before.before in
-      omega (arith, start.requires.1.0.effect-source.words, start.requires.1.0.effect)
+      omega (arith, start.requires.1.0.effect_source.words, start.requires.1.0.effect)
 
   under-condition-requires : under-lts.Need-condition-requires under-calls under_at under.Post
   under-condition-requires c κs =
@@ -514,10 +514,10 @@ pub +both-built-condition-condition-if-under-spec : {M : Type 1} → statement M
     (λ c. search rules) (both-returns-2 t) (λ c κs. search rules) (λ c. search rules) (λ c. search rules) (λ c. search rules) (λ c. search rules)
     (both-returns-3 t) (λ c. search rules) (λ c. search rules) (λ c. search rules) (λ c. search rules) (both-returns-4 t) (both-joined-requires t)
     (both-same-length-17 t) (both-same-length-18 t) (both-same-length-19 t) (both-same-length-20 t) (both-returns-5 t))
-    (λ t. built-lts.spec (built-calls t) (built-at t) built.Post
+    (λ t. built-lts.spec (built-calls t) (built_at t) built.Post
     (built-read-row-requires t) (built-both-requires t) (λ c. search rules) (λ c. search rules) (λ c. search rules) (λ c. search rules)
     (built-returns t) (built-under-requires t) (λ c. search rules) (λ c. search rules) (λ c. search rules) (λ c. search rules) (built-returns-2 t))
-    (λ t. condition-lts.spec (condition-calls t) (condition-at t) condition.Post
+    (λ t. condition-lts.spec (condition-calls t) (condition_at t) condition.Post
     (condition-recall-requires t) (λ c. search rules) (λ c. search rules) (λ c. search rules) (condition-returns t) (condition-read-row-requires t)
     (λ c κs. search rules) (λ c. search rules) (λ c. search rules) (condition-returns-2 t) (condition-built-requires t) (λ c. search rules)
     (λ c. search rules) (λ c. search rules) (λ c. search rules) (condition-returns-3 t) (condition-keep-requires t) (condition-same-length-9 t)

@@ -4,12 +4,12 @@ use Rattle.conditions.proofs.joined.last_join.Statement.{statement}
 use Rattle.conditions.proofs.joined.last_join.Tie as tie
 use native.Mathlib.Omega.{arith}
 use Rattle.formula_builder.specs.Inner.Held.{framed}
-use Rattle.conditions.proofs.Joins.{rejoins-none, rejoins-kept, join-room}
+use Rattle.conditions.proofs.Joins.{rejoins_none, rejoins_kept, join-room}
 
 returns : tie.Need-returns
 returns c =
     let start = c.before in
-    rejoins-none (framed start.args.frame.now) start.args.notes.now start.args.t start.args.e start.args.l start.args.r
+    rejoins_none (framed start.args.frame.now) start.args.notes.now start.args.t start.args.e start.args.l start.args.r
 
 shared-slice-read-if2 : tie.Need-shared-slice-read-if2
 shared-slice-read-if2 c =
@@ -19,7 +19,7 @@ shared-slice-read-if2 c =
 returns-2 : tie.Need-returns-2
 returns-2 c =
     let start = c.before.before.before.before in
-    rejoins-none (framed start.args.frame.now) start.args.notes.now start.args.t start.args.e start.args.l start.args.r
+    rejoins_none (framed start.args.frame.now) start.args.notes.now start.args.t start.args.e start.args.l start.args.r
 
 shared-slice-read-if3 : tie.Need-shared-slice-read-if3
 shared-slice-read-if3 c =
@@ -29,7 +29,7 @@ shared-slice-read-if3 c =
 returns-3 : tie.Need-returns-3
 returns-3 c =
     let start = c.before.before.before.before.before.before in
-    rejoins-none (framed start.args.frame.now) start.args.notes.now start.args.t start.args.e start.args.l start.args.r
+    rejoins_none (framed start.args.frame.now) start.args.notes.now start.args.t start.args.e start.args.l start.args.r
 
 shared-slice-read-result : tie.Need-shared-slice-read-result
 shared-slice-read-result c =
@@ -42,7 +42,7 @@ returns-4 c =
     let at-if2 = at-if3.before.before in
     let at-if1 = at-if2.before.before.before in
     let start = at-if1.before in
-    rejoins-kept (framed start.args.frame.now) start.args.notes.now start.args.t start.args.e start.args.l start.args.r
+    rejoins_kept (framed start.args.frame.now) start.args.notes.now start.args.t start.args.e start.args.l start.args.r
     start.requires.effect at-if1.if1.false at-if2.if2.false at-if3.if3.false
 
 pub last-join-spec : {M : Type 1} → statement M

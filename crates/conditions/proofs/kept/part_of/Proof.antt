@@ -3,7 +3,7 @@ use borrow.Author.Rules.{rules}
 use Rattle.conditions.proofs.kept.part_of.Statement.{statement}
 use Rattle.conditions.proofs.kept.part_of.Tie as tie
 use native.Mathlib.Omega.{arith}
-use Rattle.conditions.proofs.Notes.{byte_small, part-made}
+use Rattle.conditions.proofs.Notes.{byte_small, part_made}
 
 mul-result : tie.Need-overflow-mul-result
 mul-result c =
@@ -18,7 +18,7 @@ add-result c =
 returns : tie.Need-returns
 returns c =
     let start = c.before.before in
-    part-made start.args.t
+    part_made start.args.t
 
 pub part-of-spec : {M : Type 1} → statement M
 part-of-spec =

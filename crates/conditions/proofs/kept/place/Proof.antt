@@ -6,7 +6,7 @@ use native.Mathlib.Omega.{arith}
 use lib.ListN.{get_or}
 use Rattle.formula_builder.specs.Inner.Held.{framed}
 use Rattle.atom_sets.proofs.Places.{sets_behind}
-use Rattle.conditions.proofs.Notes.{place_none, place-small, word_small, place-sum, place_found}
+use Rattle.conditions.proofs.Notes.{place_none, place_small, word_small, place_sum, place_found}
 
 shared-slice-read-c : tie.Need-shared-slice-read-c
 shared-slice-read-c c =
@@ -72,7 +72,7 @@ mul-k-2 c =
     let start = at-column.before.before in
     omega (
       arith,
-      place-small (get_or start.args.notes.now start.args.e 0) at-width-of.width_of_lem.result (framed start.args.frame.now).variables
+      place_small (get_or start.args.notes.now start.args.e 0) at-width-of.width_of_lem.result (framed start.args.frame.now).variables
           (omega (arith, at-column.shared-slice-known2.given start.args.e)) at-width-of.width_of_lem.ensures.1 start.requires.0.variables,
     )
 
@@ -85,7 +85,7 @@ add-k c =
     let start = at-column.before.before in
     omega (
       arith,
-      place-small (get_or start.args.notes.now start.args.e 0) at-width-of.width_of_lem.result (framed start.args.frame.now).variables
+      place_small (get_or start.args.notes.now start.args.e 0) at-width-of.width_of_lem.result (framed start.args.frame.now).variables
           (omega (arith, at-column.shared-slice-known2.given start.args.e)) at-width-of.width_of_lem.ensures.1 start.requires.0.variables,
       word_small at-width-of.width_of_lem.result start.args.t.variable at-width-of.width_of_lem.ensures.1
           (omega (arith, start.requires.0.variables, start.requires.1)),
@@ -102,7 +102,7 @@ add-k-2 c =
     let start = at-column.before.before in
     omega (
       arith,
-      place-small (get_or start.args.notes.now start.args.e 0) at-width-of.width_of_lem.result (framed start.args.frame.now).variables
+      place_small (get_or start.args.notes.now start.args.e 0) at-width-of.width_of_lem.result (framed start.args.frame.now).variables
           (omega (arith, at-column.shared-slice-known2.given start.args.e)) at-width-of.width_of_lem.ensures.1 start.requires.0.variables,
       word_small at-width-of.width_of_lem.result start.args.t.variable at-width-of.width_of_lem.ensures.1
           (omega (arith, start.requires.0.variables, start.requires.1)),
@@ -132,7 +132,7 @@ returns-4 c =
       at-width-of.width_of_lem.ensures.0,
       at-if2.if2.false,
     )) start.requires.1
-    (place-sum (framed start.args.frame.now) _ start.args.t (get_or start.args.notes.now start.args.e 0) _ _ at-frame-of.frame-of.ensures
+    (place_sum (framed start.args.frame.now) _ start.args.t (get_or start.args.notes.now start.args.e 0) _ _ at-frame-of.frame-of.ensures
     at-sets-end.sets_end.ensures.0 at-part-of.part_of.ensures.0 at-width-of.width_of_lem.ensures.0)
     (omega (arith, c.if3.false))
 

@@ -4,7 +4,7 @@ use Rattle.conditions.proofs.memo.tag_of.Statement.{statement}
 use Rattle.conditions.proofs.memo.tag_of.Tie as tie
 use native.Mathlib.Omega.{arith}
 use Rattle.conditions.proofs.Notes.{byte_small}
-use Rattle.conditions.proofs.Memos.{tag-made}
+use Rattle.conditions.proofs.Memos.{tag_made}
 
 add-result : tie.Need-overflow-add-result
 add-result c =
@@ -29,7 +29,7 @@ add-result-3 c =
 returns : tie.Need-returns
 returns c =
     let start = c.before.before.before in
-    tag-made start.args.t
+    tag_made start.args.t
 
 pub tag-of-spec : {M : Type 1} → statement M
 tag-of-spec =

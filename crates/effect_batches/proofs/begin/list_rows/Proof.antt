@@ -6,7 +6,7 @@ use mathlib.Core.Path.{◌≡◌, refl, ◌∙◌}
 use Prim.Native.Nat.{◌-◌, ◌≤◌}
 use lib.ListN.{length}
 use Rattle.effect_batches.specs.Inner.Numbers.{Listed}
-use Rattle.effect_batches.proofs.Numbers.{listed-none}
+use Rattle.effect_batches.proofs.Numbers.{listed_none}
 
 abbrev invariant-loop : tie.invariant-loop
 invariant-loop first from most rows notes list₀ k₀ e₀ list k e =
@@ -17,7 +17,7 @@ decreases-loop first from most rows notes list₀ k₀ e₀ list k e =
     rows - e
 
 loop-holds : tie.Need-loop-init invariant-loop decreases-loop
-loop-holds c = (refl, omega arith, omega arith, listed-none _)
+loop-holds c = (refl, omega arith, omega arith, listed_none _)
 
 list-row-requires : tie.Need-list-row-requires invariant-loop decreases-loop
 list-row-requires c κs =

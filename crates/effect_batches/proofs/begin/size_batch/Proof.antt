@@ -7,7 +7,7 @@ use mathlib.Core.Path.{◌≡◌, refl, ◌∙◌}
 use Prim.Native.Nat.{◌+◌, ◌≤◌, ◌<◌}
 use lib.ListN.{length}
 use Rattle.effect_batches.specs.Inner.Numbers.{Renumbered}
-use Rattle.effect_batches.proofs.Numbers.{room-then, roots-fewer, renumbered-here, renumbered-again}
+use Rattle.effect_batches.proofs.Numbers.{room_then, roots_fewer, renumbered_here, renumbered_again}
 
 abbrev invariant-loop : tie.invariant-loop
 invariant-loop effects operators from count most first frame notes₀ size₀ columns₀ notes size columns =
@@ -25,13 +25,13 @@ sub-size c =
 number-batch-requires : tie.Need-number-batch-requires invariant-loop decreases-loop
 number-batch-requires c κs =
     let start = c.before.before.before.before.before in
-    (start.requires.room, roots-fewer (omega (arith, start.requires.next)) start.requires.roots)
+    (start.requires.room, roots_fewer (omega (arith, start.requires.next)) start.requires.roots)
 
 loop-holds : tie.Need-loop-init invariant-loop decreases-loop
 loop-holds c =
     let start = c.before.before.before.before.before.before.before.before in
     let number-batch = c.before.before.number-batch in
-    (refl, omega (arith, start.requires.next), omega (arith, start.requires.next), renumbered-here number-batch.ensures)
+    (refl, omega (arith, start.requires.next), omega (arith, start.requires.next), renumbered_here number-batch.ensures)
 
 number-batch-requires-2 : tie.Need-number-batch-requires-2 invariant-loop decreases-loop
 number-batch-requires-2 c κs =
@@ -40,7 +40,7 @@ number-batch-requires-2 c κs =
     let start = at-number-batch.before.before.before.before.before.before in
     let loop = at-loop.loop in
     let number-batch = at-number-batch.number-batch in
-    (room-then (loop.invariant.0 ∙ number-batch.auto.1.1.1.1.1.1.0) start.requires.room, roots-fewer (omega (arith, loop.invariant.2)) start.requires.roots)
+    (room_then (loop.invariant.0 ∙ number-batch.auto.1.1.1.1.1.1.0) start.requires.room, roots_fewer (omega (arith, loop.invariant.2)) start.requires.roots)
 
 loop-less : tie.Need-loop-smaller invariant-loop decreases-loop
 loop-less c =
@@ -58,7 +58,7 @@ loop-again c =
       number-batch2.auto.1.1.1.1.1.1.0 ∙ loop.invariant.0,
       omega (arith, two),
       omega (arith, two, loop.invariant.2),
-      renumbered-again loop.invariant.3 number-batch2.ensures,
+      renumbered_again loop.invariant.3 number-batch2.ensures,
     )
 
 same_length : tie.Need-same-length invariant-loop decreases-loop
@@ -75,7 +75,7 @@ returns c =
       some = loop.invariant.1;
       most = loop.invariant.2;
       last = loop.columns;
-      renumbered = renumbered-again number-batch.ensures loop.invariant.3;
+      renumbered = renumbered_again number-batch.ensures loop.invariant.3;
     }
 
 pub size-batch-spec : {M : Type 1} → statement M

@@ -7,7 +7,7 @@ use Prim.Native.Nat.{◌-◌}
 use lib.ListN.{length}
 use Rattle.formula_builder.specs.Inner.Held.{store, framed}
 use Rattle.effect_batches.specs.Inner.Filling.{Filled}
-use Rattle.effect_batches.proofs.Filling.{filled_none, filled-then, row-fills}
+use Rattle.effect_batches.proofs.Filling.{filled_none, filled_then, row_fills}
 
 abbrev invariant-loop : tie.invariant-loop
 invariant-loop formulas effects notes₀ list n t frame at table₀ originals₀ scratch₀ k₀ notes table originals scratch k =
@@ -43,7 +43,7 @@ fill-row-requires : tie.Need-fill-row-requires invariant-loop decreases-loop
 fill-row-requires c κs =
     let loop = c.before.before.before.before.before.before.loop in
     let start = c.before.before.before.before.before.before.before.before.before.before.before.before.before.before in
-    row-fills loop.k (omega arith) start.requires loop.invariant.4
+    row_fills loop.k (omega arith) start.requires loop.invariant.4
 
 add-k : tie.Need-overflow-add-k invariant-loop decreases-loop
 add-k c =
@@ -62,7 +62,7 @@ loop-again c =
       fill-row.auto.1.1.1.1.1.1.1.0 ∙ loop.invariant.1,
       fill-row.auto.1.1.1.1.1.1.1.1.0 ∙ loop.invariant.2,
       fill-row.auto.1.1.1.1.1.1.1.1.1.0 ∙ loop.invariant.3,
-      filled-then loop.invariant.4 fill-row.ensures,
+      filled_then loop.invariant.4 fill-row.ensures,
     )
 
 same_length : tie.Need-same-length invariant-loop decreases-loop

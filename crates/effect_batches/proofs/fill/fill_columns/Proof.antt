@@ -8,7 +8,7 @@ use Prim.Native.Nat.{◌-◌}
 use lib.ListN.{length}
 use Rattle.formula_builder.specs.Inner.Held.{store, framed}
 use Rattle.effect_batches.specs.Inner.Filling.{Filled}
-use Rattle.effect_batches.proofs.Filling.{filled_none, filled-then, fills-framed, filled-framed, atom-fills}
+use Rattle.effect_batches.proofs.Filling.{filled_none, filled_then, fills_framed, filled_framed, atom_fills}
 
 abbrev invariant-loop : tie.invariant-loop
 invariant-loop formulas effects notes₀ list n at table₀ originals₀ scratch₀ words atoms a₀ notes table originals scratch a =
@@ -28,7 +28,7 @@ loop-holds : tie.Need-loop-init invariant-loop decreases-loop
 loop-holds c =
     let words_of = c.before.words_of in
     let start = c.before.before.before.before.before.before.before.before.before in
-    (refl, refl, refl, refl, filled_none (fills-framed words_of.ensures start.requires).stands)
+    (refl, refl, refl, refl, filled_none (fills_framed words_of.ensures start.requires).stands)
 
 cast-t19 : tie.Need-overflow-cast-t19 invariant-loop decreases-loop
 cast-t19 c =
@@ -45,7 +45,7 @@ fill-atom-requires c κs =
     let words_of = at-words-of.words_of in
     let loop = at-loop.loop in
     let loop-test = at-loop-test.loop-test in
-    atom-fills _ words_of.ensures start.requires loop.invariant.4 refl (omega (arith, loop-test.true))
+    atom_fills _ words_of.ensures start.requires loop.invariant.4 refl (omega (arith, loop-test.true))
 
 add_a : tie.Need-overflow-add-a invariant-loop decreases-loop
 add_a c =
@@ -70,7 +70,7 @@ loop-again c =
       fill-atom.auto.1.1.1.1.1.1.1.1.0 ∙ loop.invariant.1,
       fill-atom.auto.1.1.1.1.1.1.1.1.1.0 ∙ loop.invariant.2,
       fill-atom.auto.1.1.1.1.1.1.1.1.1.1.0 ∙ loop.invariant.3,
-      filled-then loop.invariant.4 fill-atom.ensures,
+      filled_then loop.invariant.4 fill-atom.ensures,
     )
 
 same_length : tie.Need-same-length invariant-loop decreases-loop
@@ -89,7 +89,7 @@ returns : tie.Need-returns invariant-loop decreases-loop
 returns c =
     let words_of = c.before.before.before.words_of in
     let loop = c.before.loop in
-    filled-framed words_of.ensures loop.invariant.4
+    filled_framed words_of.ensures loop.invariant.4
 
 pub fill-columns-spec : {M : Type 1} → statement M
 fill-columns-spec =

@@ -7,7 +7,7 @@ use Prim.Native.Nat.{◌≤◌}
 use lib.ListN.{length}
 use Rattle.effect_batches.specs.Inner.Firsts.{First}
 use Rattle.effect_batches.proofs.Firsts.{row_kept}
-use Rattle.effect_batches.proofs.Numbers.{roots-wider}
+use Rattle.effect_batches.proofs.Numbers.{roots_wider}
 
 abbrev invariant-loop : tie.invariant-loop
 invariant-loop effects operators count first₀ i₀ first i =
@@ -20,7 +20,7 @@ decreases-loop effects operators count first₀ i₀ first i =
 meet-roots-requires : tie.Need-meet-roots-requires invariant-loop decreases-loop
 meet-roots-requires c κs =
     let start = c.before.before.before.before in
-    record { roots = roots-wider start.requires.words start.requires.roots; blank = start.requires.blank }
+    record { roots = roots_wider start.requires.words start.requires.roots; blank = start.requires.blank }
 
 loop-holds : tie.Need-loop-init invariant-loop decreases-loop
 loop-holds c =

@@ -3,7 +3,7 @@ use borrow.Author.Rules.{rules}
 use Rattle.effect_batches.proofs.first.hand_on.Statement.{statement}
 use Rattle.effect_batches.proofs.first.hand_on.Tie as tie
 use native.Mathlib.Omega.{arith}
-use Rattle.effect_batches.proofs.Firsts.{names-right, names-left, first-met, comes-below}
+use Rattle.effect_batches.proofs.Firsts.{names-right, names-left, first_met, comes_below}
 
 returns : tie.Need-returns
 returns c = record { stays = λ operators count f. f }
@@ -26,7 +26,7 @@ returns-2 c =
     let if1 = at-if1.if1 in
     let meet = at_meet.meet in
     let n = names-right start.requires.row read-row.result read-row.ensures (omega (arith, if1.false)) in
-    record { stays = λ operators count f. first-met meet.ensures (comes-below n (f.comes start.args.i)) f }
+    record { stays = λ operators count f. first_met meet.ensures (comes_below n (f.comes start.args.i)) f }
 
 meet-requires-2 : tie.Need-meet-requires-2
 meet-requires-2 c κs =
@@ -58,7 +58,7 @@ returns-3 c =
     record {
       stays = λ operators count f.
           let w = f.comes start.args.i in
-          first-met meet2.ensures (comes-below l w) (first-met meet.ensures (comes-below r w) f);
+          first_met meet2.ensures (comes_below l w) (first_met meet.ensures (comes_below r w) f);
     }
 
 pub hand_on_spec : {M : Type 1} → statement M

@@ -8,7 +8,7 @@ use Prim.Native.Nat.{ℕ, ◌-◌}
 use mathlib.Core.List.{List}
 use lib.ListN.{length}
 use Rattle.effect_batches.specs.Inner.Firsts.{First}
-use Rattle.effect_batches.proofs.Firsts.{first-none, first-met, comes-root}
+use Rattle.effect_batches.proofs.Firsts.{first_none, first_met, comes_root}
 
 abbrev invariant-loop : tie.invariant-loop
 invariant-loop operators count first₀ k₀ first k =
@@ -21,7 +21,7 @@ decreases-loop operators count first₀ k₀ first k =
 loop-holds : tie.Need-loop-init invariant-loop decreases-loop
 loop-holds c =
     let start = c.before.before in
-    (refl, λ effects. first-none effects start.args.operators.now start.args.count start.args.first.now start.requires.blank)
+    (refl, λ effects. first_none effects start.args.operators.now start.args.count start.args.first.now start.requires.blank)
 
 effect-of-requires : tie.Need-effect-of-requires invariant-loop decreases-loop
 effect-of-requires c κs =
@@ -56,7 +56,7 @@ loop-again c =
     let loop = c.before.before.before.before.before.before.loop in
     let effect_of = c.before.before.before.before.effect_of in (
       meet.auto.0 ∙ loop.invariant.0,
-      λ effects. first-met meet.ensures (comes-root {k = loop.k} (omega arith) refl effect_of.ensures) (loop.invariant.1 effects),
+      λ effects. first_met meet.ensures (comes_root {k = loop.k} (omega arith) refl effect_of.ensures) (loop.invariant.1 effects),
     )
 
 same_length : tie.Need-same-length invariant-loop decreases-loop

@@ -2,14 +2,14 @@
 use borrow.Author.Rules.{rules}
 use Rattle.effect_batches.proofs.next.next_batch.Statement.{statement}
 use Rattle.effect_batches.proofs.next.next_batch.Tie as tie
-use Rattle.effect_batches.proofs.Covering.{batch-fills}
+use Rattle.effect_batches.proofs.Covering.{batch_fills}
 
 fill-columns-requires : tie.Need-fill-columns-requires
 fill-columns-requires c κs =
     let at-begin-batch = c.before.before.before.before.before.before.before.before in
     let start = at-begin-batch.before.before.before.before.before.before.before.before.before.before.before in
     let begin-batch = at-begin-batch.begin-batch in
-    batch-fills start.requires begin-batch.ensures
+    batch_fills start.requires begin-batch.ensures
 
 pub next-batch-spec : {M : Type 1} → statement M
 next-batch-spec =

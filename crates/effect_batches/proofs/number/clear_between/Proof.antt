@@ -6,7 +6,7 @@ use mathlib.Core.Path.{◌≡◌, refl}
 use Prim.Native.Nat.{◌-◌, ◌≤◌}
 use lib.ListN.{length, length-set}
 use Rattle.effect_batches.specs.Inner.Numbers.{Cleared}
-use Rattle.effect_batches.proofs.Numbers.{cleared-none, cleared_more}
+use Rattle.effect_batches.proofs.Numbers.{cleared_none, cleared_more}
 
 abbrev invariant-loop : tie.invariant-loop
 invariant-loop notes₀ from to i₀ notes i =
@@ -19,7 +19,7 @@ decreases-loop notes₀ from to i₀ notes i =
 loop-holds : tie.Need-loop-init invariant-loop decreases-loop
 loop-holds c =
     let start = c in
-    (refl, omega arith, start.requires.0, cleared-none start.args.from start.args.notes.now)
+    (refl, omega arith, start.requires.0, cleared_none start.args.from start.args.notes.now)
 
 mul-notes : tie.Need-overflow-mul-notes invariant-loop decreases-loop
 mul-notes c =

@@ -4,7 +4,7 @@ use Rattle.effect_batches.proofs.number.name_below.Statement.{statement}
 use Rattle.effect_batches.proofs.number.name_below.Tie as tie
 use native.Mathlib.Omega.{arith}
 use Rattle.effect_batches.proofs.Firsts.{names-right, names-left}
-use Rattle.effect_batches.proofs.Numbers.{numbered-none, numbered_more, numbered-then, names-row}
+use Rattle.effect_batches.proofs.Numbers.{numbered_none, numbered_more, numbered_then, names_row}
 use mathlib.Core.Path.{refl}
 
 cast-if1 : tie.Need-overflow-cast-if1
@@ -16,7 +16,7 @@ cast-if1 c =
 returns : tie.Need-returns
 returns c =
     let start = c.before.before.before.before.before in
-    λ n h. numbered-none n 2 start.args.last start.args.notes.now
+    λ n h. numbered_none n 2 start.args.last start.args.notes.now
 
 cast-if2 : tie.Need-overflow-cast-if2
 cast-if2 c =
@@ -27,12 +27,12 @@ cast-if2 c =
 returns-2 : tie.Need-returns-2
 returns-2 c =
     let start = c.before.before.before.before.before.before in
-    λ n h. numbered-none n 2 start.args.last start.args.notes.now
+    λ n h. numbered_none n 2 start.args.last start.args.notes.now
 
 returns-3 : tie.Need-returns-3
 returns-3 c =
     let start = c.before.before.before.before.before.before.before.before.before in
-    λ n h. numbered-none n 2 start.args.last start.args.notes.now
+    λ n h. numbered_none n 2 start.args.last start.args.notes.now
 
 name-requires : tie.Need-name-requires
 name-requires c κs =
@@ -40,7 +40,7 @@ name-requires c κs =
     let start = at-read-row.before.before.before.before.before.before.before in
     let read-row = at-read-row.read-row in
     let if3 = c.before.before.if3 in
-    names-row start.requires (names-right start.requires.row read-row.result read-row.ensures (omega (arith, if3.false))) refl
+    names_row start.requires (names-right start.requires.row read-row.result read-row.ensures (omega (arith, if3.false))) refl
     (omega (arith, start.requires.few))
 
 returns-4 : tie.Need-returns-4
@@ -66,7 +66,7 @@ name-requires-2 c κs =
     let if4 = c.before.before.if4 in
     let name = at_name.name in
     let low = start.requires.row.lower read-row.result.b (names-right start.requires.row read-row.result read-row.ensures (omega (arith, if3.false))) in
-    names-row start.requires (names-left start.requires.row read-row.result read-row.ensures (omega (arith, if3.false)) if4.false)
+    names_row start.requires (names-left start.requires.row read-row.result read-row.ensures (omega (arith, if3.false)) if4.false)
     name.auto.1.1.1.1.1.0 (omega (arith, start.requires.few, (name.ensures start.args.i low).once))
 
 returns-5 : tie.Need-returns-5
@@ -84,7 +84,7 @@ returns-5 c =
     let low = start.requires.row.lower read-row.result.b (names-right start.requires.row read-row.result read-row.ensures (omega (arith, if3.false))) in
     let left = start.requires.row.lower read-row.result.a
     (names-left start.requires.row read-row.result read-row.ensures (omega (arith, if3.false)) if4.false) in
-    λ n h. numbered-then (omega arith) (name.ensures n (omega (arith, low, h))) (name2.ensures n (omega (arith, left, h)))
+    λ n h. numbered_then (omega arith) (name.ensures n (omega (arith, low, h))) (name2.ensures n (omega (arith, left, h)))
 
 pub name-below-spec : {M : Type 1} → statement M
 name-below-spec =

@@ -7,7 +7,7 @@ use mathlib.Core.Path.{◌≡◌, refl, ◌∙◌}
 use Prim.Native.Nat.{◌-◌, ◌+◌, ◌≤◌}
 use lib.ListN.{length}
 use Rattle.effect_batches.specs.Inner.Numbers.{Numbered}
-use Rattle.effect_batches.proofs.Numbers.{numbered-none, numbered-then, renumbered, root_below, root-asks}
+use Rattle.effect_batches.proofs.Numbers.{numbered_none, numbered_then, renumbered, root_below, root_asks}
 
 abbrev invariant-loop : tie.invariant-loop
 invariant-loop effects operators from size first rows notes₀ last₀ k₀ notes last k =
@@ -23,7 +23,7 @@ clear-between-requires c κs =
     (omega arith, start.requires.within)
 
 loop-holds : tie.Need-loop-init invariant-loop decreases-loop
-loop-holds c = (refl, omega arith, numbered-none _ _ _ _)
+loop-holds c = (refl, omega arith, numbered_none _ _ _ _)
 
 add-o : tie.Need-overflow-add-o invariant-loop decreases-loop
 add-o c =
@@ -53,7 +53,7 @@ name-requires c κs =
     let loop = at-loop.loop in
     let effect_of = c.before.effect_of in
     let clear-between = at-clear-between.clear-between in
-    root-asks (start.args.from + loop.k) effect_of.result start.requires (omega arith) effect_of.ensures
+    root_asks (start.args.from + loop.k) effect_of.result start.requires (omega arith) effect_of.ensures
     (loop.invariant.0 ∙ clear-between.auto.0) (omega (arith, loop.invariant.2.once, start.requires.roots.limit))
 
 add-k : tie.Need-overflow-add-k invariant-loop decreases-loop
@@ -70,7 +70,7 @@ loop-again c =
     let effect_of = at-effect-of.effect_of in
     let name = c.before.before.name in
     let low = root_below (start.args.from + loop.k) effect_of.result start.requires.roots (omega arith) effect_of.ensures in
-    (name.auto.1.1.1.1.1.0 ∙ loop.invariant.0, omega arith, numbered-then (omega arith) loop.invariant.2 (name.ensures start.args.rows low))
+    (name.auto.1.1.1.1.1.0 ∙ loop.invariant.0, omega arith, numbered_then (omega arith) loop.invariant.2 (name.ensures start.args.rows low))
 
 same_length : tie.Need-same-length invariant-loop decreases-loop
 same_length c =

@@ -6,7 +6,7 @@ use mathlib.Core.Path.{◌≡◌, refl, ◌∙◌}
 use Prim.Native.Nat.{◌*◌, ◌-◌, ◌≤◌}
 use lib.ListN.{length}
 use Rattle.effect_batches.specs.Inner.Numbers.{Numbered}
-use Rattle.effect_batches.proofs.Numbers.{numbered-none, numbered_more, numbered-then, below-asks}
+use Rattle.effect_batches.proofs.Numbers.{numbered_none, numbered_more, numbered_then, below_asks}
 
 abbrev invariant-loop : tie.invariant-loop
 invariant-loop effects from size first given frame notes₀ last₀ i₀ notes last i =
@@ -19,13 +19,13 @@ decreases-loop effects from size first given frame notes₀ last₀ i₀ notes l
 loop-holds : tie.Need-loop-init invariant-loop decreases-loop
 loop-holds c =
     let start = c.before.before.before in
-    (refl, omega arith, numbered-none start.args.frame.effects (2 * 0) start.args.given start.args.notes.now)
+    (refl, omega arith, numbered_none start.args.frame.effects (2 * 0) start.args.given start.args.notes.now)
 
 name-below-requires : tie.Need-name-below-requires invariant-loop decreases-loop
 name-below-requires c κs =
     let start = c.before.before.before.before.before.before.before in
     let loop = c.before.before.before.loop in
-    below-asks start.requires.0 loop.invariant.0 (omega arith) (omega (arith, loop.invariant.2.once, start.requires.1, start.requires.0.rows.limit))
+    below_asks start.requires.0 loop.invariant.0 (omega arith) (omega (arith, loop.invariant.2.once, start.requires.1, start.requires.0.rows.limit))
 
 add-i : tie.Need-overflow-add-i invariant-loop decreases-loop
 add-i c =
@@ -40,7 +40,7 @@ loop-again c =
     let loop = at-loop.loop in (
       name_below.auto.1.1.1.1.1.1.0 ∙ loop.invariant.0,
       omega arith,
-      numbered-then (omega arith) loop.invariant.2 (name_below.ensures start.args.frame.effects (omega arith)),
+      numbered_then (omega arith) loop.invariant.2 (name_below.ensures start.args.frame.effects (omega arith)),
     )
 
 same_length : tie.Need-same-length invariant-loop decreases-loop

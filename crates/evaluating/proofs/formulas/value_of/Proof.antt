@@ -6,7 +6,7 @@ use Prim.Native.Nat.{◌+◌, ◌*◌}
 use native.Mathlib.Omega.{arith}
 use mathlib.Core.Path.{◌∙◌}
 use Rattle.task.specs.Table.{row_at}
-use Rattle.evaluating.proofs.Valuing.{false-row, true-row, variable-ref, variable-row, not-ref, not-row, join-refs, join-row}
+use Rattle.evaluating.proofs.Valuing.{false_row, true_row, variable-ref, variable_row, not-ref, not-row, join-refs, join-row}
 
 cast-a : tie.Need-overflow-cast-a
 cast-a c = omega (arith, c.shared-slice-known5.given (3 * c.before.before.before.before.before.args.i + 1))
@@ -26,7 +26,7 @@ sub-result : tie.Need-overflow-sub-result
 unfolding row_at
 sub-result c =
     let at_pre = c.before.before.before.before.before.before.before.before in
-    at_pre.requires.value-bits (row_at at_pre.args.formulas.now at_pre.args.i).a (not-ref at_pre.requires c.before.match.keys4)
+    at_pre.requires.value_bits (row_at at_pre.args.formulas.now at_pre.args.i).a (not-ref at_pre.requires c.before.match.keys4)
 
 shared-slice-read-joined : tie.Need-shared-slice-read-joined
 unfolding row_at
@@ -55,21 +55,21 @@ joined-requires c κs =
     c.before.before.match.rest.0.1 c.before.before.match.rest.1 in (
       refs.0,
       refs.1,
-      at_pre.requires.value-bits (row_at at_pre.args.formulas.now at_pre.args.i).a refs.2,
-      at_pre.requires.value-bits (row_at at_pre.args.formulas.now at_pre.args.i).b refs.3,
+      at_pre.requires.value_bits (row_at at_pre.args.formulas.now at_pre.args.i).a refs.2,
+      at_pre.requires.value_bits (row_at at_pre.args.formulas.now at_pre.args.i).b refs.3,
     )
 
 returns : tie.Need-returns
 unfolding row_at
-returns c = false-row c.before.before.before.before.before.before.before.requires c.match.keys1
+returns c = false_row c.before.before.before.before.before.before.before.requires c.match.keys1
 
 returns-2 : tie.Need-returns-2
 unfolding row_at
-returns-2 c = true-row c.before.before.before.before.before.before.before.requires c.match.keys2
+returns-2 c = true_row c.before.before.before.before.before.before.before.requires c.match.keys2
 
 returns-3 : tie.Need-returns-3
 unfolding row_at
-returns-3 c = variable-row c.before.before.before.before.before.before.before.before.requires c.before.match.keys3
+returns-3 c = variable_row c.before.before.before.before.before.before.before.before.requires c.before.match.keys3
 
 returns-4 : tie.Need-returns-4
 unfolding row_at

@@ -15,7 +15,7 @@ counts-kept-requires : tie.Need-counts-kept-requires
 counts-kept-requires c κs = search rules
 
 returns-3 : tie.Need-returns-3
-returns-3 c = c.counts-kept.ensures ∙ other-counts _ c.before.before.before.if1.false c.before.if2.false
+returns-3 c = c.counts_kept.ensures ∙ other-counts _ c.before.before.before.if1.false c.before.if2.false
 
 pub finite-counts-kept-spec : {M : Type 1} → statement M
 finite-counts-kept-spec = tie.close (tie.spec returns returns-2 counts-kept-requires returns-3)

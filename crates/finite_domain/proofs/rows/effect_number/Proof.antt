@@ -20,7 +20,7 @@ returns-4 : tie.Need-returns-4
 returns-4 c =
     let rest = c.before.before.match.rest in
     c.unless.ensures
-    ∙ ap (λ (b : Bool). unless b 11 0) c.before.effect-kept.ensures
+    ∙ ap (λ (b : Bool). unless b 11 0) c.before.effect_kept.ensures
     ∙ effect-other _ _ _ _ _ _ _ rest.0.0.1 rest.0.1 rest.1
 
 pub effect-number-spec : {M : Type 1} → statement M

@@ -17,7 +17,7 @@ returns-3 : tie.Need-returns-3
 returns-3 c =
     let rest = c.before.before.match.rest in
     c.unless.ensures
-    ∙ ap (λ (b : Bool). unless b 10 0) c.before.formula-kept.ensures
+    ∙ ap (λ (b : Bool). unless b 10 0) c.before.formula_kept.ensures
     ∙ formula-other _ _ _ _ _ _ rest.0.1 rest.1
 
 pub formula-number-spec : {M : Type 1} → statement M

@@ -4,13 +4,13 @@ use Rattle.finite_domain.proofs.rows.row_number.Statement.{statement}
 use Rattle.finite_domain.proofs.rows.row_number.Tie as tie
 
 returns : tie.Need-returns
-returns c = rw c.before.enum_told.given.1 c.formula-number.ensures
+returns c = rw c.before.enum_told.given.1 c.formula_number.ensures
 
 returns-2 : tie.Need-returns-2
-returns-2 c = rw c.before.enum-told2.given.1 c.effect-number.ensures
+returns-2 c = rw c.before.enum-told2.given.1 c.effect_number.ensures
 
 returns-3 : tie.Need-returns-3
-returns-3 c = rw c.before.before.enum-told3.given.1 c.operator-number.ensures
+returns-3 c = rw c.before.before.enum-told3.given.1 c.operator_number.ensures
 
 pub row-number-spec : {M : Type 1} → statement M
 row-number-spec =

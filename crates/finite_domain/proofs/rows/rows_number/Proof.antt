@@ -2,27 +2,27 @@
 use Prim.Native.Nat.{◌≤◌, ◌-◌}
 use native.Mathlib.Omega.{arith}
 use mathlib.Core.Path.{◌≡◌, ◌∙◌}
-use Rattle.task.specs.Bounded.{first-number}
-use Rattle.task.proofs.Bounded.{first-none, first_more, first_stops, first_ends}
-use Rattle.task.proofs.Stores.{row-there}
-use Rattle.finite_domain.specs.Inner.Tables.{finite-row-number}
-use Rattle.finite_domain.proofs.Ways.{finite-row-tested}
+use Rattle.task.specs.Bounded.{first_number}
+use Rattle.task.proofs.Bounded.{first_none, first_more, first_stops, first_ends}
+use Rattle.task.proofs.Stores.{row_there}
+use Rattle.finite_domain.specs.Inner.Tables.{finite_row_number}
+use Rattle.finite_domain.proofs.Ways.{finite_row_tested}
 use Rattle.finite_domain.proofs.rows.rows_number.Statement.{statement}
 use Rattle.finite_domain.proofs.rows.rows_number.Tie as tie
 
 abbrev invariant-loop : tie.invariant-loop
-invariant-loop table head counts words count i₀ i = (i ≤ count) × (first-number i (finite-row-number table head counts words) ≡ 0)
+invariant-loop table head counts words count i₀ i = (i ≤ count) × (first_number i (finite_row_number table head counts words) ≡ 0)
 
 abbrev decreases-loop : tie.decreases-loop
 decreases-loop table head counts words count i₀ i = count - i
 
 loop-holds : tie.Need-loop-init invariant-loop decreases-loop
-loop-holds c = (omega arith, first-none _)
+loop-holds c = (omega arith, first_none _)
 
 row-at-requires : tie.Need-row-at-requires invariant-loop decreases-loop
 row-at-requires c κs =
-    let at-start = c.before.before.before.before in
-    row-there at-start.args.table c.loop-test.true at-start.requires.1
+    let at_start = c.before.before.before.before in
+    row_there at_start.args.table c.loop-test.true at_start.requires.1
 
 row-number-requires : tie.Need-row-number-requires invariant-loop decreases-loop
 row-number-requires c κs = c.before.before.before.before.before.requires.0
@@ -32,7 +32,7 @@ returns c =
     let at-loop = c.before.before.before.before.loop in
     let a = c.before.before.before.before.before.before.before.args in
     let told =
-    finite-row-tested a.table a.head a.counts.now a.words.now at-loop.i c.before.before.row_at.ensures c.before.row_number.ensures in
+    finite_row_tested a.table a.head a.counts.now a.words.now at-loop.i c.before.before.row_at.ensures c.before.row_number.ensures in
     first_stops _ _ _ _ at-loop.invariant.1 c.before.before.before.loop-test.true told c.if1.true
 
 loop-again : tie.Need-loop-preserved invariant-loop decreases-loop
@@ -40,7 +40,7 @@ loop-again c =
     let at-loop = c.before.before.before.before.loop in
     let a = c.before.before.before.before.before.before.before.args in
     let told =
-    finite-row-tested a.table a.head a.counts.now a.words.now at-loop.i c.before.before.row_at.ensures c.before.row_number.ensures in
+    finite_row_tested a.table a.head a.counts.now a.words.now at-loop.i c.before.before.row_at.ensures c.before.row_number.ensures in
     (omega arith, first_more _ _ at-loop.invariant.1 (told ∙ c.if1.false))
 
 returns-2 : tie.Need-returns-2 invariant-loop decreases-loop

@@ -5,12 +5,12 @@ use Prim.Native.Nat.{◌-◌, ◌≤◌}
 use native.Mathlib.Omega.{arith}
 use mathlib.Core.Path.{◌≡◌, refl, ◌∙◌}
 use lib.ListN.{length}
-use Rattle.translation.specs.Effects.{and-clears}
+use Rattle.translation.specs.Effects.{and_clears}
 use Rattle.flag_tables.specs.Inner.Effects.{Writes}
 use Rattle.flag_tables.proofs.Chains.{clears-none, clears-more, clears-all}
 
 abbrev invariant-loop : tie.invariant-loop
-invariant-loop out₀ room base d n r₀ k₀ out r k = (k ≤ n) × (length out ≡ length out₀) × Writes (and-clears base d k) room r₀ out₀ out r
+invariant-loop out₀ room base d n r₀ k₀ out r k = (k ≤ n) × (length out ≡ length out₀) × Writes (and_clears base d k) room r₀ out₀ out r
 
 abbrev decreases-loop : tie.decreases-loop
 decreases-loop out₀ room base d n r₀ k₀ out r k = n - k

@@ -38,7 +38,7 @@ write-effect-requires c κs =
 same_length : tie.Need-same-length invariant-loop decreases-loop
 same_length c =
     let at-loop = c.before.before.before.before.before.before.before.before in
-    at-loop.loop.invariant.same-places
+    at-loop.loop.invariant.same_places
 
 same-length-2 : tie.Need-same-length-2 invariant-loop decreases-loop
 same-length-2 c =
@@ -61,13 +61,13 @@ mul-places : tie.Need-overflow-mul-places invariant-loop decreases-loop
 mul-places c =
     let at-loop = c.before.before.before.before.before.before.before.before in
     let s = at-loop.before.before.before.before.before.before.before in
-    omega (arith, s.well-formed, s.requires.placed, at-loop.loop.invariant.same-places)
+    omega (arith, s.well-formed, s.requires.placed, at-loop.loop.invariant.same_places)
 
 slice-write-places : tie.Need-slice-write-places invariant-loop decreases-loop
 slice-write-places c =
     let at-loop = c.before.before.before.before.before.before.before.before in
     let s = at-loop.before.before.before.before.before.before.before in
-    omega (arith, s.requires.placed, at-loop.loop.invariant.same-places)
+    omega (arith, s.requires.placed, at-loop.loop.invariant.same_places)
 
 add-i : tie.Need-overflow-add-i invariant-loop decreases-loop
 add-i c =
@@ -90,7 +90,7 @@ loop-again c =
     at-write-effect.write-effect.auto.1.1.1.1.1.0
 
 same-length-3 : tie.Need-same-length-3 invariant-loop decreases-loop
-same-length-3 c = c.before.loop.invariant.same-places
+same-length-3 c = c.before.loop.invariant.same_places
 
 same-length-4 : tie.Need-same-length-4 invariant-loop decreases-loop
 same-length-4 c = c.before.loop.invariant.same_out

@@ -27,21 +27,21 @@ head-word-requires c κs = (c.before.before.requires.some, c.before.before.requi
 
 -- src/rows.rt:54:17
 mul-s : tie.Need-overflow-mul-s invariant-loop decreases-loop
-mul-s c = omega (arith, c.before.before.before.requires.limit, c.head-word.ensures.1)
+mul-s c = omega (arith, c.before.before.before.requires.limit, c.head_word.ensures.1)
 
 -- src/rows.rt:54:17
 shared-slice-read-s : tie.Need-shared-slice-read-s invariant-loop decreases-loop
-shared-slice-read-s c = omega (arith, c.before.before.before.before.requires.room, c.before.head-word.ensures.1)
+shared-slice-read-s c = omega (arith, c.before.before.before.before.requires.room, c.before.head_word.ensures.1)
 
 -- src/rows.rt:54:17
 cast-s : tie.Need-overflow-cast-s invariant-loop decreases-loop
-cast-s c = omega (arith, c.shared-slice-known2.given c.before.head-word.result)
+cast-s c = omega (arith, c.shared-slice-known2.given c.before.head_word.result)
 
 -- src/rows.rt:55:5
 loop-holds : tie.Need-loop-init invariant-loop decreases-loop
 loop-holds c =
     let at-args = c.before.before.before.before in
-    rw (c.before.head-word.ensures.0, c.before.before.key.ensures.0)
+    rw (c.before.head_word.ensures.0, c.before.before.key.ensures.0)
     (walk_begins at-args.args.most at-args.args.table.now (row_of at-args.args.r) at-args.requires)
 
 -- src/rows.rt:56:17
@@ -80,7 +80,7 @@ mul-s-2 c =
     let at : at-loop.loop.s ≡ suc (at-loop.loop.s - 1) = omega (arith, at-loop-test.loop-test.true) in omega (
       arith,
       at_pre.requires.limit,
-      c.link-word.ensures,
+      c.link_word.ensures,
       walk-below at_pre.args.most at_pre.args.table.now (row_of at_pre.args.r) at_pre.requires at-loop.loop.invariant at,
     )
 
@@ -93,13 +93,13 @@ shared-slice-read-s-2 c =
     let at : at-loop.loop.s ≡ suc (at-loop.loop.s - 1) = omega (arith, at-loop-test.loop-test.true) in omega (
       arith,
       at_pre.requires.room,
-      c.before.link-word.ensures,
+      c.before.link_word.ensures,
       walk-below at_pre.args.most at_pre.args.table.now (row_of at_pre.args.r) at_pre.requires at-loop.loop.invariant at,
     )
 
 -- src/rows.rt:62:13
 cast-s-2 : tie.Need-overflow-cast-s-2 invariant-loop decreases-loop
-cast-s-2 c = omega (arith, c.shared-slice-known3.given c.before.link-word.result)
+cast-s-2 c = omega (arith, c.shared-slice-known3.given c.before.link_word.result)
 
 -- src/rows.rt:55:5
 loop-less : tie.Need-loop-smaller invariant-loop decreases-loop
@@ -107,7 +107,7 @@ loop-less c =
     let at-loop-test = c.before.before.before.before in
     let at-loop = at-loop-test.before in
     let at-args = at-loop.before.before.before.before.before in
-    let at : at-loop.loop.s ≡ suc (at-loop.loop.s - 1) = omega (arith, at-loop-test.loop-test.true) in rw c.before.link-word.ensures
+    let at : at-loop.loop.s ≡ suc (at-loop.loop.s - 1) = omega (arith, at-loop-test.loop-test.true) in rw c.before.link_word.ensures
     (walk-less at-args.args.most at-args.args.table.now (row_of at-args.args.r) at-args.requires at-loop.loop.invariant at)
 
 -- src/rows.rt:55:5
@@ -117,7 +117,7 @@ loop-again c =
     let at-loop-test = at_same.before in
     let at-loop = at-loop-test.before in
     let at-args = at-loop.before.before.before.before.before in
-    let at : at-loop.loop.s ≡ suc (at-loop.loop.s - 1) = omega (arith, at-loop-test.loop-test.true) in rw c.before.link-word.ensures
+    let at : at-loop.loop.s ≡ suc (at-loop.loop.s - 1) = omega (arith, at-loop-test.loop-test.true) in rw c.before.link_word.ensures
     (walk-goes-on at-args.args.most at-args.args.table.now (row_of at-args.args.r) at-args.requires at-loop.loop.invariant at
     (sym at_same.same.ensures ∙ c.before.before.if1.false))
 

@@ -43,7 +43,7 @@ returns-3 c =
     let at-args = at-if1.before.before.before.before.before in
     twin-over (framed at-args.args.frame.now) at-args.args.rows.now at-args.args.twins.now at-args.args.table.now
     at-args.args.originals.now at-args.requires.0 at-args.args.v at-args.requires.1 (omega (arith, at-if1.if1.false))
-    (at-variable-row.variable-row.ensures (framed at-args.args.frame.now) at-args.args.twins.now at-args.args.originals.now refl
+    (at-variable-row.variable_row.ensures (framed at-args.args.frame.now) at-args.args.twins.now at-args.args.originals.now refl
     at-args.requires.0)
     c.if3.true
 
@@ -55,7 +55,7 @@ returns-4 c =
     let at-args = at-if1.before.before.before.before.before in
     twin-put (framed at-args.args.frame.now) at-args.args.rows.now at-args.args.twins.now at-args.args.table.now
     at-args.args.originals.now at-args.requires.0 at-args.args.v at-args.requires.1 (omega (arith, at-if1.if1.false))
-    (at-variable-row.variable-row.ensures (framed at-args.args.frame.now) at-args.args.twins.now at-args.args.originals.now refl
+    (at-variable-row.variable_row.ensures (framed at-args.args.frame.now) at-args.args.twins.now at-args.args.originals.now refl
     at-args.requires.0)
     at-if2.if2.false c.if3.false
 

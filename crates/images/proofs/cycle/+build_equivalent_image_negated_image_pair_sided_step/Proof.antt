@@ -39,8 +39,8 @@ use mathlib.Core.Bool.{true, false, not}
 use Rattle.normal_form.specs.Builder.{plain, negated}
 use Rattle.formula_builder.specs.Inner.Held.{side, framed}
 use Rattle.images.proofs.Rows.{negated-operand, of-not, of_pair, of-equivalent}
-use Rattle.images.proofs.Memos.{place-within, images-as, left-full, right-full, joined, images-known, asks-built, images-noted}
-use Rattle.images.proofs.Steps.{join-asks, equivalent-joins, asks_negated, asks-pair, leaf-ready, leaf-done, left-lower, right-lower, asks-left, asks-right, pair-joins, asks-second}
+use Rattle.images.proofs.Memos.{place_within, images-as, left-full, right-full, joined, images_known, asks_built, images_noted}
+use Rattle.images.proofs.Steps.{join_asks, equivalent_joins, asks_negated, asks-pair, leaf-ready, leaf-done, left-lower, right-lower, asks-left, asks-right, pair-joins, asks_second}
 
 abbrev μ-build : Measures 7 build-kinds.ps ℕ
 μ-build κs a = 6 * a.1.0 + 3
@@ -69,14 +69,14 @@ build-at t = and 7 build-kinds.ps (is 7 build-kinds.ps μ-build t) build.Pre
 abbrev build-below : ℕ → In 7 build-kinds.ps
 build-below t = and 7 build-kinds.ps (falls 7 build-kinds.ps ◌<◌ μ-build t) build.Pre
 
-abbrev equivalent-at : ℕ → In 7 equivalent-kinds.ps
-equivalent-at t = and 7 equivalent-kinds.ps (is 7 equivalent-kinds.ps μ-equivalent t) equivalent.Pre
+abbrev equivalent_at : ℕ → In 7 equivalent-kinds.ps
+equivalent_at t = and 7 equivalent-kinds.ps (is 7 equivalent-kinds.ps μ-equivalent t) equivalent.Pre
 
 abbrev equivalent-below : ℕ → In 7 equivalent-kinds.ps
 equivalent-below t = and 7 equivalent-kinds.ps (falls 7 equivalent-kinds.ps ◌<◌ μ-equivalent t) equivalent.Pre
 
-abbrev image-at : ℕ → In 7 image-kinds.ps
-image-at t = and 7 image-kinds.ps (is 7 image-kinds.ps μ-image t) image.Pre
+abbrev image_at : ℕ → In 7 image-kinds.ps
+image_at t = and 7 image-kinds.ps (is 7 image-kinds.ps μ-image t) image.Pre
 
 abbrev image-below : ℕ → In 7 image-kinds.ps
 image-below t = and 7 image-kinds.ps (falls 7 image-kinds.ps ◌<◌ μ-image t) image.Pre
@@ -87,8 +87,8 @@ negated-image-at t = and 7 negated-image-kinds.ps (is 7 negated-image-kinds.ps �
 abbrev negated-image-below : ℕ → In 7 negated-image-kinds.ps
 negated-image-below t = and 7 negated-image-kinds.ps (falls 7 negated-image-kinds.ps ◌<◌ μ-negated-image t) negated-image.Pre
 
-abbrev pair-at : ℕ → In 7 pair-kinds.ps
-pair-at t = and 7 pair-kinds.ps (is 7 pair-kinds.ps μ-pair t) pair.Pre
+abbrev pair_at : ℕ → In 7 pair-kinds.ps
+pair_at t = and 7 pair-kinds.ps (is 7 pair-kinds.ps μ-pair t) pair.Pre
 
 abbrev pair-below : ℕ → In 7 pair-kinds.ps
 pair-below t = and 7 pair-kinds.ps (falls 7 pair-kinds.ps ◌<◌ μ-pair t) pair.Pre
@@ -111,7 +111,7 @@ build-mul-scratch t c =
     omega (
       arith,
       c.word_of.ensures,
-      place-within (framed start.args.frame.now) (side start.args.not) start.args.i start.requires.1.asks.formula,
+      place_within (framed start.args.frame.now) (side start.args.not) start.args.i start.requires.1.asks.formula,
       start.requires.1.asks.source.limit,
     )
 
@@ -122,7 +122,7 @@ build-slice-write-scratch t c =
     omega (
       arith,
       c.word_of.ensures,
-      place-within (framed start.args.frame.now) (side start.args.not) start.args.i start.requires.1.asks.formula,
+      place_within (framed start.args.frame.now) (side start.args.not) start.args.i start.requires.1.asks.formula,
       start.requires.1.asks.source.memo,
       made.step.auto.1.1.1.1.1.1.1.1.0,
     )
@@ -132,11 +132,11 @@ build-returns-2 t c =
     let made = c.before.before.before.before.before.before.before.before in
     let start = made.before.before.before.before.before.before.before.before.before.before in
     rw c.word_of.ensures
-    (images-noted (side start.args.not) start.requires.1.asks.formula (omega (arith, start.requires.1.asks.source.memo, made.step.auto.1.1.1.1.1.1.1.1.0))
+    (images_noted (side start.args.not) start.requires.1.asks.formula (omega (arith, start.requires.1.asks.source.memo, made.step.auto.1.1.1.1.1.1.1.1.0))
     made.step.ensures
     (ne_eqb _ 65535 c.before.if1.false))
 
-equivalent-image-requires : (t : ℕ) → equivalent-lts.Need-image-requires (read-row-reads.Asked, read-row-reads.Learnt, image-below t, image.Post, sided-below t, sided.Post, join-reads.Asked, join-reads.Learnt, negated-image-below t, negated-image.Post) (equivalent-at t) equivalent.Post
+equivalent-image-requires : (t : ℕ) → equivalent-lts.Need-image-requires (read-row-reads.Asked, read-row-reads.Learnt, image-below t, image.Post, sided-below t, sided.Post, join-reads.Asked, join-reads.Learnt, negated-image-below t, negated-image.Post) (equivalent_at t) equivalent.Post
 equivalent-image-requires t c κs =
     let read = c.before.before.before.before.before.before.before in
     let start = read.before.before.before.before.before in
@@ -145,7 +145,7 @@ equivalent-image-requires t c κs =
     let same = read.read-row.ensures in
     (omega (arith, start.requires.0, left-lower asks w same), asks-left asks w same)
 
-equivalent-same-length-10 : (t : ℕ) → equivalent-lts.Need-same-length-10 (read-row-reads.Asked, read-row-reads.Learnt, image-below t, image.Post, sided-below t, sided.Post, join-reads.Asked, join-reads.Learnt, negated-image-below t, negated-image.Post) (equivalent-at t) equivalent.Post
+equivalent-same-length-10 : (t : ℕ) → equivalent-lts.Need-same-length-10 (read-row-reads.Asked, read-row-reads.Learnt, image-below t, image.Post, sided-below t, sided.Post, join-reads.Asked, join-reads.Learnt, negated-image-below t, negated-image.Post) (equivalent_at t) equivalent.Post
 equivalent-same-length-10 t c =
     let four = c.before.before.before.before.before.before.before in
     let three = four.before.before.before.before.before.before.before.before.before in
@@ -153,21 +153,21 @@ equivalent-same-length-10 t c =
     let one = two.before.before.before.before.before.before.before.before.before.before.before.before.before in
     four.negated-image.auto.1.1.1.1.1.0 ∙ three.join.auto.1.0 ∙ two.sided.auto.1.1.1.1.1.1.0 ∙ one.image.auto.1.1.1.1.1.0
 
-equivalent-same-length-11 : (t : ℕ) → equivalent-lts.Need-same-length-11 (read-row-reads.Asked, read-row-reads.Learnt, image-below t, image.Post, sided-below t, sided.Post, join-reads.Asked, join-reads.Learnt, negated-image-below t, negated-image.Post) (equivalent-at t) equivalent.Post
+equivalent-same-length-11 : (t : ℕ) → equivalent-lts.Need-same-length-11 (read-row-reads.Asked, read-row-reads.Learnt, image-below t, image.Post, sided-below t, sided.Post, join-reads.Asked, join-reads.Learnt, negated-image-below t, negated-image.Post) (equivalent_at t) equivalent.Post
 equivalent-same-length-11 t c =
     let four = c.before.before.before.before.before.before.before in
     let two = four.before.before.before.before.before.before.before.before.before.before.before.before.before.before.before.before.before.before.before.before in
     let one = two.before.before.before.before.before.before.before.before.before.before.before.before.before in
     four.negated-image.auto.1.1.1.1.1.1.0 ∙ two.sided.auto.1.1.1.1.1.1.1.0 ∙ one.image.auto.1.1.1.1.1.1.0
 
-equivalent-same-length-12 : (t : ℕ) → equivalent-lts.Need-same-length-12 (read-row-reads.Asked, read-row-reads.Learnt, image-below t, image.Post, sided-below t, sided.Post, join-reads.Asked, join-reads.Learnt, negated-image-below t, negated-image.Post) (equivalent-at t) equivalent.Post
+equivalent-same-length-12 : (t : ℕ) → equivalent-lts.Need-same-length-12 (read-row-reads.Asked, read-row-reads.Learnt, image-below t, image.Post, sided-below t, sided.Post, join-reads.Asked, join-reads.Learnt, negated-image-below t, negated-image.Post) (equivalent_at t) equivalent.Post
 equivalent-same-length-12 t c =
     let four = c.before.before.before.before.before.before.before in
     let two = four.before.before.before.before.before.before.before.before.before.before.before.before.before.before.before.before.before.before.before.before in
     let one = two.before.before.before.before.before.before.before.before.before.before.before.before.before in
     four.negated-image.auto.1.1.1.1.1.1.1.0 ∙ two.sided.auto.1.1.1.1.1.1.1.1.0 ∙ one.image.auto.1.1.1.1.1.1.1.0
 
-equivalent-same-length-13 : (t : ℕ) → equivalent-lts.Need-same-length-13 (read-row-reads.Asked, read-row-reads.Learnt, image-below t, image.Post, sided-below t, sided.Post, join-reads.Asked, join-reads.Learnt, negated-image-below t, negated-image.Post) (equivalent-at t) equivalent.Post
+equivalent-same-length-13 : (t : ℕ) → equivalent-lts.Need-same-length-13 (read-row-reads.Asked, read-row-reads.Learnt, image-below t, image.Post, sided-below t, sided.Post, join-reads.Asked, join-reads.Learnt, negated-image-below t, negated-image.Post) (equivalent_at t) equivalent.Post
 equivalent-same-length-13 t c =
     let five = c.before.before.before.before.before.before.before in
     let four = five.before.before.before.before.before.before.before.before.before.before.before.before.before in
@@ -176,7 +176,7 @@ equivalent-same-length-13 t c =
     let one = two.before.before.before.before.before.before.before.before.before.before.before.before.before in
     five.sided2.auto.1.1.1.1.1.1.0 ∙ four.negated-image.auto.1.1.1.1.1.0 ∙ three.join.auto.1.0 ∙ two.sided.auto.1.1.1.1.1.1.0 ∙ one.image.auto.1.1.1.1.1.0
 
-equivalent-same-length-14 : (t : ℕ) → equivalent-lts.Need-same-length-14 (read-row-reads.Asked, read-row-reads.Learnt, image-below t, image.Post, sided-below t, sided.Post, join-reads.Asked, join-reads.Learnt, negated-image-below t, negated-image.Post) (equivalent-at t) equivalent.Post
+equivalent-same-length-14 : (t : ℕ) → equivalent-lts.Need-same-length-14 (read-row-reads.Asked, read-row-reads.Learnt, image-below t, image.Post, sided-below t, sided.Post, join-reads.Asked, join-reads.Learnt, negated-image-below t, negated-image.Post) (equivalent_at t) equivalent.Post
 equivalent-same-length-14 t c =
     let five = c.before.before.before.before.before.before.before in
     let four = five.before.before.before.before.before.before.before.before.before.before.before.before.before in
@@ -184,7 +184,7 @@ equivalent-same-length-14 t c =
     let one = two.before.before.before.before.before.before.before.before.before.before.before.before.before in
     five.sided2.auto.1.1.1.1.1.1.1.0 ∙ four.negated-image.auto.1.1.1.1.1.1.0 ∙ two.sided.auto.1.1.1.1.1.1.1.0 ∙ one.image.auto.1.1.1.1.1.1.0
 
-equivalent-same-length-15 : (t : ℕ) → equivalent-lts.Need-same-length-15 (read-row-reads.Asked, read-row-reads.Learnt, image-below t, image.Post, sided-below t, sided.Post, join-reads.Asked, join-reads.Learnt, negated-image-below t, negated-image.Post) (equivalent-at t) equivalent.Post
+equivalent-same-length-15 : (t : ℕ) → equivalent-lts.Need-same-length-15 (read-row-reads.Asked, read-row-reads.Learnt, image-below t, image.Post, sided-below t, sided.Post, join-reads.Asked, join-reads.Learnt, negated-image-below t, negated-image.Post) (equivalent_at t) equivalent.Post
 equivalent-same-length-15 t c =
     let five = c.before.before.before.before.before.before.before in
     let four = five.before.before.before.before.before.before.before.before.before.before.before.before.before in
@@ -192,7 +192,7 @@ equivalent-same-length-15 t c =
     let one = two.before.before.before.before.before.before.before.before.before.before.before.before.before in
     five.sided2.auto.1.1.1.1.1.1.1.1.0 ∙ four.negated-image.auto.1.1.1.1.1.1.1.0 ∙ two.sided.auto.1.1.1.1.1.1.1.1.0 ∙ one.image.auto.1.1.1.1.1.1.1.0
 
-equivalent-same-length-16 : (t : ℕ) → equivalent-lts.Need-same-length-16 (read-row-reads.Asked, read-row-reads.Learnt, image-below t, image.Post, sided-below t, sided.Post, join-reads.Asked, join-reads.Learnt, negated-image-below t, negated-image.Post) (equivalent-at t) equivalent.Post
+equivalent-same-length-16 : (t : ℕ) → equivalent-lts.Need-same-length-16 (read-row-reads.Asked, read-row-reads.Learnt, image-below t, image.Post, sided-below t, sided.Post, join-reads.Asked, join-reads.Learnt, negated-image-below t, negated-image.Post) (equivalent_at t) equivalent.Post
 equivalent-same-length-16 t c =
     let six = c.before.before.before in
     let five = six.before.before.before.before.before.before.before.before.before.before.before in
@@ -202,7 +202,7 @@ equivalent-same-length-16 t c =
     let one = two.before.before.before.before.before.before.before.before.before.before.before.before.before in
     six.join2.auto.1.0 ∙ five.sided2.auto.1.1.1.1.1.1.0 ∙ four.negated-image.auto.1.1.1.1.1.0 ∙ three.join.auto.1.0 ∙ two.sided.auto.1.1.1.1.1.1.0 ∙ one.image.auto.1.1.1.1.1.0
 
-equivalent-same-length-17 : (t : ℕ) → equivalent-lts.Need-same-length-17 (read-row-reads.Asked, read-row-reads.Learnt, image-below t, image.Post, sided-below t, sided.Post, join-reads.Asked, join-reads.Learnt, negated-image-below t, negated-image.Post) (equivalent-at t) equivalent.Post
+equivalent-same-length-17 : (t : ℕ) → equivalent-lts.Need-same-length-17 (read-row-reads.Asked, read-row-reads.Learnt, image-below t, image.Post, sided-below t, sided.Post, join-reads.Asked, join-reads.Learnt, negated-image-below t, negated-image.Post) (equivalent_at t) equivalent.Post
 equivalent-same-length-17 t c =
     let five = c.before.before.before.before.before.before.before.before.before.before.before.before.before.before in
     let four = five.before.before.before.before.before.before.before.before.before.before.before.before.before in
@@ -210,7 +210,7 @@ equivalent-same-length-17 t c =
     let one = two.before.before.before.before.before.before.before.before.before.before.before.before.before in
     five.sided2.auto.1.1.1.1.1.1.1.0 ∙ four.negated-image.auto.1.1.1.1.1.1.0 ∙ two.sided.auto.1.1.1.1.1.1.1.0 ∙ one.image.auto.1.1.1.1.1.1.0
 
-equivalent-same-length-18 : (t : ℕ) → equivalent-lts.Need-same-length-18 (read-row-reads.Asked, read-row-reads.Learnt, image-below t, image.Post, sided-below t, sided.Post, join-reads.Asked, join-reads.Learnt, negated-image-below t, negated-image.Post) (equivalent-at t) equivalent.Post
+equivalent-same-length-18 : (t : ℕ) → equivalent-lts.Need-same-length-18 (read-row-reads.Asked, read-row-reads.Learnt, image-below t, image.Post, sided-below t, sided.Post, join-reads.Asked, join-reads.Learnt, negated-image-below t, negated-image.Post) (equivalent_at t) equivalent.Post
 equivalent-same-length-18 t c =
     let five = c.before.before.before.before.before.before.before.before.before.before.before.before.before.before in
     let four = five.before.before.before.before.before.before.before.before.before.before.before.before.before in
@@ -218,7 +218,7 @@ equivalent-same-length-18 t c =
     let one = two.before.before.before.before.before.before.before.before.before.before.before.before.before in
     five.sided2.auto.1.1.1.1.1.1.1.1.0 ∙ four.negated-image.auto.1.1.1.1.1.1.1.0 ∙ two.sided.auto.1.1.1.1.1.1.1.1.0 ∙ one.image.auto.1.1.1.1.1.1.1.0
 
-equivalent-same-length-19 : (t : ℕ) → equivalent-lts.Need-same-length-19 (read-row-reads.Asked, read-row-reads.Learnt, image-below t, image.Post, sided-below t, sided.Post, join-reads.Asked, join-reads.Learnt, negated-image-below t, negated-image.Post) (equivalent-at t) equivalent.Post
+equivalent-same-length-19 : (t : ℕ) → equivalent-lts.Need-same-length-19 (read-row-reads.Asked, read-row-reads.Learnt, image-below t, image.Post, sided-below t, sided.Post, join-reads.Asked, join-reads.Learnt, negated-image-below t, negated-image.Post) (equivalent_at t) equivalent.Post
 equivalent-same-length-19 t c =
     let last = c.before.before in
     let six = last.before.before.before.before.before.before.before in
@@ -229,7 +229,7 @@ equivalent-same-length-19 t c =
     let one = two.before.before.before.before.before.before.before.before.before.before.before.before.before in
     last.join3.auto.1.0 ∙ six.join2.auto.1.0 ∙ five.sided2.auto.1.1.1.1.1.1.0 ∙ four.negated-image.auto.1.1.1.1.1.0 ∙ three.join.auto.1.0 ∙ two.sided.auto.1.1.1.1.1.1.0 ∙ one.image.auto.1.1.1.1.1.0
 
-equivalent-same-length-20 : (t : ℕ) → equivalent-lts.Need-same-length-20 (read-row-reads.Asked, read-row-reads.Learnt, image-below t, image.Post, sided-below t, sided.Post, join-reads.Asked, join-reads.Learnt, negated-image-below t, negated-image.Post) (equivalent-at t) equivalent.Post
+equivalent-same-length-20 : (t : ℕ) → equivalent-lts.Need-same-length-20 (read-row-reads.Asked, read-row-reads.Learnt, image-below t, image.Post, sided-below t, sided.Post, join-reads.Asked, join-reads.Learnt, negated-image-below t, negated-image.Post) (equivalent_at t) equivalent.Post
 equivalent-same-length-20 t c =
     let five = c.before.before.before.before.before.before.before.before.before.before.before.before.before.before.before.before.before.before.before.before in
     let four = five.before.before.before.before.before.before.before.before.before.before.before.before.before in
@@ -237,7 +237,7 @@ equivalent-same-length-20 t c =
     let one = two.before.before.before.before.before.before.before.before.before.before.before.before.before in
     five.sided2.auto.1.1.1.1.1.1.1.0 ∙ four.negated-image.auto.1.1.1.1.1.1.0 ∙ two.sided.auto.1.1.1.1.1.1.1.0 ∙ one.image.auto.1.1.1.1.1.1.0
 
-equivalent-same-length-21 : (t : ℕ) → equivalent-lts.Need-same-length-21 (read-row-reads.Asked, read-row-reads.Learnt, image-below t, image.Post, sided-below t, sided.Post, join-reads.Asked, join-reads.Learnt, negated-image-below t, negated-image.Post) (equivalent-at t) equivalent.Post
+equivalent-same-length-21 : (t : ℕ) → equivalent-lts.Need-same-length-21 (read-row-reads.Asked, read-row-reads.Learnt, image-below t, image.Post, sided-below t, sided.Post, join-reads.Asked, join-reads.Learnt, negated-image-below t, negated-image.Post) (equivalent_at t) equivalent.Post
 equivalent-same-length-21 t c =
     let five = c.before.before.before.before.before.before.before.before.before.before.before.before.before.before.before.before.before.before.before.before in
     let four = five.before.before.before.before.before.before.before.before.before.before.before.before.before in
@@ -245,19 +245,19 @@ equivalent-same-length-21 t c =
     let one = two.before.before.before.before.before.before.before.before.before.before.before.before.before in
     five.sided2.auto.1.1.1.1.1.1.1.1.0 ∙ four.negated-image.auto.1.1.1.1.1.1.1.0 ∙ two.sided.auto.1.1.1.1.1.1.1.1.0 ∙ one.image.auto.1.1.1.1.1.1.1.0
 
-equivalent-returns : (t : ℕ) → equivalent-lts.Need-returns (read-row-reads.Asked, read-row-reads.Learnt, image-below t, image.Post, sided-below t, sided.Post, join-reads.Asked, join-reads.Learnt, negated-image-below t, negated-image.Post) (equivalent-at t) equivalent.Post
+equivalent-returns : (t : ℕ) → equivalent-lts.Need-returns (read-row-reads.Asked, read-row-reads.Learnt, image-below t, image.Post, sided-below t, sided.Post, join-reads.Asked, join-reads.Learnt, negated-image-below t, negated-image.Post) (equivalent_at t) equivalent.Post
 equivalent-returns t c =
     let one = c.before.before.before.before.before.before.before in
     let read = one.before.before.before.before.before.before.before.before in
     let start = read.before.before.before.before.before in
-    let whole = equivalent-joins (framed start.args.frame.now) start.args.formulas.now start.args.i start.args.not in
+    let whole = equivalent_joins (framed start.args.frame.now) start.args.formulas.now start.args.i start.args.not in
     let asks = start.requires.1 in
     let w = read.read-row.result in
     let same = read.read-row.ensures in
     let first = pair-joins asks w same false start.args.not false in
     left-full whole (left-full first one.image.ensures (eq-eqb _ 65535 c.if1.true)) (eq-eqb _ 65535 c.if1.true)
 
-equivalent-sided-requires : (t : ℕ) → equivalent-lts.Need-sided-requires (read-row-reads.Asked, read-row-reads.Learnt, image-below t, image.Post, sided-below t, sided.Post, join-reads.Asked, join-reads.Learnt, negated-image-below t, negated-image.Post) (equivalent-at t) equivalent.Post
+equivalent-sided-requires : (t : ℕ) → equivalent-lts.Need-sided-requires (read-row-reads.Asked, read-row-reads.Learnt, image-below t, image.Post, sided-below t, sided.Post, join-reads.Asked, join-reads.Learnt, negated-image-below t, negated-image.Post) (equivalent_at t) equivalent.Post
 equivalent-sided-requires t c κs =
     let there1 = c.before.before.before.before.before in
     let one = there1.before.before.before.before.before.before.before in
@@ -268,29 +268,29 @@ equivalent-sided-requires t c κs =
     let same = read.read-row.ensures in
     (omega (arith, start.requires.0, right-lower asks w same), asks-right asks w same one.image.ensures (ne_eqb _ 65535 there1.if1.false) one.image.auto.1.1.1.1.1.1.1.0)
 
-equivalent-returns-2 : (t : ℕ) → equivalent-lts.Need-returns-2 (read-row-reads.Asked, read-row-reads.Learnt, image-below t, image.Post, sided-below t, sided.Post, join-reads.Asked, join-reads.Learnt, negated-image-below t, negated-image.Post) (equivalent-at t) equivalent.Post
+equivalent-returns-2 : (t : ℕ) → equivalent-lts.Need-returns-2 (read-row-reads.Asked, read-row-reads.Learnt, image-below t, image.Post, sided-below t, sided.Post, join-reads.Asked, join-reads.Learnt, negated-image-below t, negated-image.Post) (equivalent_at t) equivalent.Post
 equivalent-returns-2 t c =
     let two = c.before.before.before.before.before.before.before in
     let there1 = two.before.before.before.before.before.before in
     let one = there1.before.before.before.before.before.before.before in
     let read = one.before.before.before.before.before.before.before.before in
     let start = read.before.before.before.before.before in
-    let whole = equivalent-joins (framed start.args.frame.now) start.args.formulas.now start.args.i start.args.not in
+    let whole = equivalent_joins (framed start.args.frame.now) start.args.formulas.now start.args.i start.args.not in
     let asks = start.requires.1 in
     let w = read.read-row.result in
     let same = read.read-row.ensures in
     let first = pair-joins asks w same false start.args.not false in
     left-full whole (right-full first one.image.ensures (ne_eqb _ 65535 there1.if1.false) two.sided.ensures (eq-eqb _ 65535 c.if2.true)) (eq-eqb _ 65535 c.if2.true)
 
-equivalent-join-requires : (t : ℕ) → equivalent-lts.Need-join-requires (read-row-reads.Asked, read-row-reads.Learnt, image-below t, image.Post, sided-below t, sided.Post, join-reads.Asked, join-reads.Learnt, negated-image-below t, negated-image.Post) (equivalent-at t) equivalent.Post
+equivalent-join-requires : (t : ℕ) → equivalent-lts.Need-join-requires (read-row-reads.Asked, read-row-reads.Learnt, image-below t, image.Post, sided-below t, sided.Post, join-reads.Asked, join-reads.Learnt, negated-image-below t, negated-image.Post) (equivalent_at t) equivalent.Post
 equivalent-join-requires t c κs =
     let there2 = c.before.before.before in
     let two = there2.before.before.before.before.before.before.before in
     let there1 = two.before.before.before.before.before.before in
     let one = there1.before.before.before.before.before.before.before in
-    join-asks one.image.ensures.builds (ne_eqb _ 65535 there1.if1.false) two.sided.ensures.builds (ne_eqb _ 65535 there2.if2.false)
+    join_asks one.image.ensures.builds (ne_eqb _ 65535 there1.if1.false) two.sided.ensures.builds (ne_eqb _ 65535 there2.if2.false)
 
-equivalent-returns-3 : (t : ℕ) → equivalent-lts.Need-returns-3 (read-row-reads.Asked, read-row-reads.Learnt, image-below t, image.Post, sided-below t, sided.Post, join-reads.Asked, join-reads.Learnt, negated-image-below t, negated-image.Post) (equivalent-at t) equivalent.Post
+equivalent-returns-3 : (t : ℕ) → equivalent-lts.Need-returns-3 (read-row-reads.Asked, read-row-reads.Learnt, image-below t, image.Post, sided-below t, sided.Post, join-reads.Asked, join-reads.Learnt, negated-image-below t, negated-image.Post) (equivalent_at t) equivalent.Post
 equivalent-returns-3 t c =
     let three = c.before.before.before in
     let there2 = three.before.before.before.before in
@@ -299,7 +299,7 @@ equivalent-returns-3 t c =
     let one = there1.before.before.before.before.before.before.before in
     let read = one.before.before.before.before.before.before.before.before in
     let start = read.before.before.before.before.before in
-    let whole = equivalent-joins (framed start.args.frame.now) start.args.formulas.now start.args.i start.args.not in
+    let whole = equivalent_joins (framed start.args.frame.now) start.args.formulas.now start.args.i start.args.not in
     let asks = start.requires.1 in
     let w = read.read-row.result in
     let same = read.read-row.ensures in
@@ -309,7 +309,7 @@ equivalent-returns-3 t c =
     let l = joined first x (ne_eqb _ 65535 there1.if1.false) y (ne_eqb _ 65535 there2.if2.false) (three.join.ensures _ _ _ refl (y.builds.done (ne_eqb _ 65535 there2.if2.false)).ready) in
     left-full whole l (eq-eqb _ 65535 c.if3.true)
 
-equivalent-negated-image-requires : (t : ℕ) → equivalent-lts.Need-negated-image-requires (read-row-reads.Asked, read-row-reads.Learnt, image-below t, image.Post, sided-below t, sided.Post, join-reads.Asked, join-reads.Learnt, negated-image-below t, negated-image.Post) (equivalent-at t) equivalent.Post
+equivalent-negated-image-requires : (t : ℕ) → equivalent-lts.Need-negated-image-requires (read-row-reads.Asked, read-row-reads.Learnt, image-below t, image.Post, sided-below t, sided.Post, join-reads.Asked, join-reads.Learnt, negated-image-below t, negated-image.Post) (equivalent_at t) equivalent.Post
 equivalent-negated-image-requires t c κs =
     let there3 = c.before.before.before.before.before in
     let three = there3.before.before.before in
@@ -327,10 +327,10 @@ equivalent-negated-image-requires t c κs =
     let y = two.sided.ensures in
     let l = joined first x (ne_eqb _ 65535 there1.if1.false) y (ne_eqb _ 65535 there2.if2.false) (three.join.ensures _ _ _ refl (y.builds.done (ne_eqb _ 65535 there2.if2.false)).ready) in
     let long = two.sided.auto.1.1.1.1.1.1.1.1.0 ∙ one.image.auto.1.1.1.1.1.1.1.0 in
-    let again = asks-second asks l (ne_eqb _ 65535 there3.if3.false) long in
+    let again = asks_second asks l (ne_eqb _ 65535 there3.if3.false) long in
     (omega (arith, start.requires.0, left-lower asks w same), asks-left again w same)
 
-equivalent-returns-4 : (t : ℕ) → equivalent-lts.Need-returns-4 (read-row-reads.Asked, read-row-reads.Learnt, image-below t, image.Post, sided-below t, sided.Post, join-reads.Asked, join-reads.Learnt, negated-image-below t, negated-image.Post) (equivalent-at t) equivalent.Post
+equivalent-returns-4 : (t : ℕ) → equivalent-lts.Need-returns-4 (read-row-reads.Asked, read-row-reads.Learnt, image-below t, image.Post, sided-below t, sided.Post, join-reads.Asked, join-reads.Learnt, negated-image-below t, negated-image.Post) (equivalent_at t) equivalent.Post
 equivalent-returns-4 t c =
     let four = c.before.before.before.before.before.before.before in
     let there3 = four.before.before.before.before.before.before in
@@ -341,7 +341,7 @@ equivalent-returns-4 t c =
     let one = there1.before.before.before.before.before.before.before in
     let read = one.before.before.before.before.before.before.before.before in
     let start = read.before.before.before.before.before in
-    let whole = equivalent-joins (framed start.args.frame.now) start.args.formulas.now start.args.i start.args.not in
+    let whole = equivalent_joins (framed start.args.frame.now) start.args.formulas.now start.args.i start.args.not in
     let asks = start.requires.1 in
     let w = read.read-row.result in
     let same = read.read-row.ensures in
@@ -350,11 +350,11 @@ equivalent-returns-4 t c =
     let y = two.sided.ensures in
     let l = joined first x (ne_eqb _ 65535 there1.if1.false) y (ne_eqb _ 65535 there2.if2.false) (three.join.ensures _ _ _ refl (y.builds.done (ne_eqb _ 65535 there2.if2.false)).ready) in
     let long = two.sided.auto.1.1.1.1.1.1.1.1.0 ∙ one.image.auto.1.1.1.1.1.1.1.0 in
-    let again = asks-second asks l (ne_eqb _ 65535 there3.if3.false) long in
+    let again = asks_second asks l (ne_eqb _ 65535 there3.if3.false) long in
     let second = pair-joins again w same true (not start.args.not) false in
     right-full whole l (ne_eqb _ 65535 there3.if3.false) (left-full second four.negated-image.ensures (eq-eqb _ 65535 c.if4.true)) (eq-eqb _ 65535 c.if4.true)
 
-equivalent-sided-requires-2 : (t : ℕ) → equivalent-lts.Need-sided-requires-2 (read-row-reads.Asked, read-row-reads.Learnt, image-below t, image.Post, sided-below t, sided.Post, join-reads.Asked, join-reads.Learnt, negated-image-below t, negated-image.Post) (equivalent-at t) equivalent.Post
+equivalent-sided-requires-2 : (t : ℕ) → equivalent-lts.Need-sided-requires-2 (read-row-reads.Asked, read-row-reads.Learnt, image-below t, image.Post, sided-below t, sided.Post, join-reads.Asked, join-reads.Learnt, negated-image-below t, negated-image.Post) (equivalent_at t) equivalent.Post
 equivalent-sided-requires-2 t c κs =
     let there4 = c.before.before.before.before.before in
     let four = there4.before.before.before.before.before.before.before in
@@ -374,10 +374,10 @@ equivalent-sided-requires-2 t c κs =
     let y = two.sided.ensures in
     let l = joined first x (ne_eqb _ 65535 there1.if1.false) y (ne_eqb _ 65535 there2.if2.false) (three.join.ensures _ _ _ refl (y.builds.done (ne_eqb _ 65535 there2.if2.false)).ready) in
     let long = two.sided.auto.1.1.1.1.1.1.1.1.0 ∙ one.image.auto.1.1.1.1.1.1.1.0 in
-    let again = asks-second asks l (ne_eqb _ 65535 there3.if3.false) long in
+    let again = asks_second asks l (ne_eqb _ 65535 there3.if3.false) long in
     (omega (arith, start.requires.0, right-lower asks w same), asks-right again w same four.negated-image.ensures (ne_eqb _ 65535 there4.if4.false) four.negated-image.auto.1.1.1.1.1.1.1.0)
 
-equivalent-returns-5 : (t : ℕ) → equivalent-lts.Need-returns-5 (read-row-reads.Asked, read-row-reads.Learnt, image-below t, image.Post, sided-below t, sided.Post, join-reads.Asked, join-reads.Learnt, negated-image-below t, negated-image.Post) (equivalent-at t) equivalent.Post
+equivalent-returns-5 : (t : ℕ) → equivalent-lts.Need-returns-5 (read-row-reads.Asked, read-row-reads.Learnt, image-below t, image.Post, sided-below t, sided.Post, join-reads.Asked, join-reads.Learnt, negated-image-below t, negated-image.Post) (equivalent_at t) equivalent.Post
 equivalent-returns-5 t c =
     let five = c.before.before.before.before.before.before.before in
     let there4 = five.before.before.before.before.before.before in
@@ -390,7 +390,7 @@ equivalent-returns-5 t c =
     let one = there1.before.before.before.before.before.before.before in
     let read = one.before.before.before.before.before.before.before.before in
     let start = read.before.before.before.before.before in
-    let whole = equivalent-joins (framed start.args.frame.now) start.args.formulas.now start.args.i start.args.not in
+    let whole = equivalent_joins (framed start.args.frame.now) start.args.formulas.now start.args.i start.args.not in
     let asks = start.requires.1 in
     let w = read.read-row.result in
     let same = read.read-row.ensures in
@@ -399,19 +399,19 @@ equivalent-returns-5 t c =
     let y = two.sided.ensures in
     let l = joined first x (ne_eqb _ 65535 there1.if1.false) y (ne_eqb _ 65535 there2.if2.false) (three.join.ensures _ _ _ refl (y.builds.done (ne_eqb _ 65535 there2.if2.false)).ready) in
     let long = two.sided.auto.1.1.1.1.1.1.1.1.0 ∙ one.image.auto.1.1.1.1.1.1.1.0 in
-    let again = asks-second asks l (ne_eqb _ 65535 there3.if3.false) long in
+    let again = asks_second asks l (ne_eqb _ 65535 there3.if3.false) long in
     let second = pair-joins again w same true (not start.args.not) false in
     right-full whole l (ne_eqb _ 65535 there3.if3.false) (right-full second four.negated-image.ensures (ne_eqb _ 65535 there4.if4.false) five.sided2.ensures (eq-eqb _ 65535 c.if5.true)) (eq-eqb _ 65535 c.if5.true)
 
-equivalent-join-requires-2 : (t : ℕ) → equivalent-lts.Need-join-requires-2 (read-row-reads.Asked, read-row-reads.Learnt, image-below t, image.Post, sided-below t, sided.Post, join-reads.Asked, join-reads.Learnt, negated-image-below t, negated-image.Post) (equivalent-at t) equivalent.Post
+equivalent-join-requires-2 : (t : ℕ) → equivalent-lts.Need-join-requires-2 (read-row-reads.Asked, read-row-reads.Learnt, image-below t, image.Post, sided-below t, sided.Post, join-reads.Asked, join-reads.Learnt, negated-image-below t, negated-image.Post) (equivalent_at t) equivalent.Post
 equivalent-join-requires-2 t c κs =
     let there5 = c.before.before.before in
     let five = there5.before.before.before.before.before.before.before in
     let there4 = five.before.before.before.before.before.before in
     let four = there4.before.before.before.before.before.before.before in
-    join-asks four.negated-image.ensures.builds (ne_eqb _ 65535 there4.if4.false) five.sided2.ensures.builds (ne_eqb _ 65535 there5.if5.false)
+    join_asks four.negated-image.ensures.builds (ne_eqb _ 65535 there4.if4.false) five.sided2.ensures.builds (ne_eqb _ 65535 there5.if5.false)
 
-equivalent-returns-6 : (t : ℕ) → equivalent-lts.Need-returns-6 (read-row-reads.Asked, read-row-reads.Learnt, image-below t, image.Post, sided-below t, sided.Post, join-reads.Asked, join-reads.Learnt, negated-image-below t, negated-image.Post) (equivalent-at t) equivalent.Post
+equivalent-returns-6 : (t : ℕ) → equivalent-lts.Need-returns-6 (read-row-reads.Asked, read-row-reads.Learnt, image-below t, image.Post, sided-below t, sided.Post, join-reads.Asked, join-reads.Learnt, negated-image-below t, negated-image.Post) (equivalent_at t) equivalent.Post
 equivalent-returns-6 t c =
     let six = c.before.before.before in
     let there5 = six.before.before.before.before in
@@ -426,7 +426,7 @@ equivalent-returns-6 t c =
     let one = there1.before.before.before.before.before.before.before in
     let read = one.before.before.before.before.before.before.before.before in
     let start = read.before.before.before.before.before in
-    let whole = equivalent-joins (framed start.args.frame.now) start.args.formulas.now start.args.i start.args.not in
+    let whole = equivalent_joins (framed start.args.frame.now) start.args.formulas.now start.args.i start.args.not in
     let asks = start.requires.1 in
     let w = read.read-row.result in
     let same = read.read-row.ensures in
@@ -435,14 +435,14 @@ equivalent-returns-6 t c =
     let y = two.sided.ensures in
     let l = joined first x (ne_eqb _ 65535 there1.if1.false) y (ne_eqb _ 65535 there2.if2.false) (three.join.ensures _ _ _ refl (y.builds.done (ne_eqb _ 65535 there2.if2.false)).ready) in
     let long = two.sided.auto.1.1.1.1.1.1.1.1.0 ∙ one.image.auto.1.1.1.1.1.1.1.0 in
-    let again = asks-second asks l (ne_eqb _ 65535 there3.if3.false) long in
+    let again = asks_second asks l (ne_eqb _ 65535 there3.if3.false) long in
     let second = pair-joins again w same true (not start.args.not) false in
     let z = four.negated-image.ensures in
     let v = five.sided2.ensures in
     let r = joined second z (ne_eqb _ 65535 there4.if4.false) v (ne_eqb _ 65535 there5.if5.false) (six.join2.ensures _ _ _ refl (v.builds.done (ne_eqb _ 65535 there5.if5.false)).ready) in
     right-full whole l (ne_eqb _ 65535 there3.if3.false) r (eq-eqb _ 65535 c.if6.true)
 
-equivalent-join-requires-3 : (t : ℕ) → equivalent-lts.Need-join-requires-3 (read-row-reads.Asked, read-row-reads.Learnt, image-below t, image.Post, sided-below t, sided.Post, join-reads.Asked, join-reads.Learnt, negated-image-below t, negated-image.Post) (equivalent-at t) equivalent.Post
+equivalent-join-requires-3 : (t : ℕ) → equivalent-lts.Need-join-requires-3 (read-row-reads.Asked, read-row-reads.Learnt, image-below t, image.Post, sided-below t, sided.Post, join-reads.Asked, join-reads.Learnt, negated-image-below t, negated-image.Post) (equivalent_at t) equivalent.Post
 equivalent-join-requires-3 t c κs =
     let there6 = c.before.before.before in
     let six = there6.before.before.before in
@@ -466,14 +466,14 @@ equivalent-join-requires-3 t c κs =
     let y = two.sided.ensures in
     let l = joined first x (ne_eqb _ 65535 there1.if1.false) y (ne_eqb _ 65535 there2.if2.false) (three.join.ensures _ _ _ refl (y.builds.done (ne_eqb _ 65535 there2.if2.false)).ready) in
     let long = two.sided.auto.1.1.1.1.1.1.1.1.0 ∙ one.image.auto.1.1.1.1.1.1.1.0 in
-    let again = asks-second asks l (ne_eqb _ 65535 there3.if3.false) long in
+    let again = asks_second asks l (ne_eqb _ 65535 there3.if3.false) long in
     let second = pair-joins again w same true (not start.args.not) false in
     let z = four.negated-image.ensures in
     let v = five.sided2.ensures in
     let r = joined second z (ne_eqb _ 65535 there4.if4.false) v (ne_eqb _ 65535 there5.if5.false) (six.join2.ensures _ _ _ refl (v.builds.done (ne_eqb _ 65535 there5.if5.false)).ready) in
-    join-asks l.builds (ne_eqb _ 65535 there3.if3.false) r.builds (ne_eqb _ 65535 there6.if6.false)
+    join_asks l.builds (ne_eqb _ 65535 there3.if3.false) r.builds (ne_eqb _ 65535 there6.if6.false)
 
-equivalent-returns-7 : (t : ℕ) → equivalent-lts.Need-returns-7 (read-row-reads.Asked, read-row-reads.Learnt, image-below t, image.Post, sided-below t, sided.Post, join-reads.Asked, join-reads.Learnt, negated-image-below t, negated-image.Post) (equivalent-at t) equivalent.Post
+equivalent-returns-7 : (t : ℕ) → equivalent-lts.Need-returns-7 (read-row-reads.Asked, read-row-reads.Learnt, image-below t, image.Post, sided-below t, sided.Post, join-reads.Asked, join-reads.Learnt, negated-image-below t, negated-image.Post) (equivalent_at t) equivalent.Post
 equivalent-returns-7 t c =
     let last = c.before.before in
     let there6 = last.before.before.before.before in
@@ -490,7 +490,7 @@ equivalent-returns-7 t c =
     let one = there1.before.before.before.before.before.before.before in
     let read = one.before.before.before.before.before.before.before.before in
     let start = read.before.before.before.before.before in
-    let whole = equivalent-joins (framed start.args.frame.now) start.args.formulas.now start.args.i start.args.not in
+    let whole = equivalent_joins (framed start.args.frame.now) start.args.formulas.now start.args.i start.args.not in
     let asks = start.requires.1 in
     let w = read.read-row.result in
     let same = read.read-row.ensures in
@@ -499,36 +499,36 @@ equivalent-returns-7 t c =
     let y = two.sided.ensures in
     let l = joined first x (ne_eqb _ 65535 there1.if1.false) y (ne_eqb _ 65535 there2.if2.false) (three.join.ensures _ _ _ refl (y.builds.done (ne_eqb _ 65535 there2.if2.false)).ready) in
     let long = two.sided.auto.1.1.1.1.1.1.1.1.0 ∙ one.image.auto.1.1.1.1.1.1.1.0 in
-    let again = asks-second asks l (ne_eqb _ 65535 there3.if3.false) long in
+    let again = asks_second asks l (ne_eqb _ 65535 there3.if3.false) long in
     let second = pair-joins again w same true (not start.args.not) false in
     let z = four.negated-image.ensures in
     let v = five.sided2.ensures in
     let r = joined second z (ne_eqb _ 65535 there4.if4.false) v (ne_eqb _ 65535 there5.if5.false) (six.join2.ensures _ _ _ refl (v.builds.done (ne_eqb _ 65535 there5.if5.false)).ready) in
     joined whole l (ne_eqb _ 65535 there3.if3.false) r (ne_eqb _ 65535 there6.if6.false) (last.join3.ensures _ _ _ refl (r.builds.done (ne_eqb _ 65535 there6.if6.false)).ready)
 
-image-returns : (t : ℕ) → image-lts.Need-returns (build-below t, build.Post) (image-at t) image.Post
+image-returns : (t : ℕ) → image-lts.Need-returns (build-below t, build.Post) (image_at t) image.Post
 image-returns t c =
     let start = c.before.before.before.before.before.before in
-    images-known plain start.requires.1 refl c.if1.true
+    images_known plain start.requires.1 refl c.if1.true
 
-image-build-requires : (t : ℕ) → image-lts.Need-build-requires (build-below t, build.Post) (image-at t) image.Post
+image-build-requires : (t : ℕ) → image-lts.Need-build-requires (build-below t, build.Post) (image_at t) image.Post
 image-build-requires t c κs =
     let one = c.before.before.before.before.before in
     let start = one.before.before.before.before.before.before in
-    (omega (arith, start.requires.0), asks-built plain start.requires.1 refl one.if1.false)
+    (omega (arith, start.requires.0), asks_built plain start.requires.1 refl one.if1.false)
 
 negated-image-returns : (t : ℕ) → negated-image-lts.Need-returns (build-below t, build.Post) (negated-image-at t) negated-image.Post
 negated-image-returns t c =
     let start = c.before.before.before.before.before.before.before in
-    images-known negated start.requires.1 refl c.if1.true
+    images_known negated start.requires.1 refl c.if1.true
 
 negated-image-build-requires : (t : ℕ) → negated-image-lts.Need-build-requires (build-below t, build.Post) (negated-image-at t) negated-image.Post
 negated-image-build-requires t c κs =
     let one = c.before.before.before.before.before in
     let start = one.before.before.before.before.before.before.before in
-    (omega (arith, start.requires.0), asks-built negated start.requires.1 refl one.if1.false)
+    (omega (arith, start.requires.0), asks_built negated start.requires.1 refl one.if1.false)
 
-pair-sided-requires : (t : ℕ) → pair-lts.Need-sided-requires (read-row-reads.Asked, read-row-reads.Learnt, sided-below t, sided.Post, join-reads.Asked, join-reads.Learnt) (pair-at t) pair.Post
+pair-sided-requires : (t : ℕ) → pair-lts.Need-sided-requires (read-row-reads.Asked, read-row-reads.Learnt, sided-below t, sided.Post, join-reads.Asked, join-reads.Learnt) (pair_at t) pair.Post
 pair-sided-requires t c κs =
     let read = c.before.before.before.before.before.before in
     let start = read.before.before.before.before.before in (
@@ -536,7 +536,7 @@ pair-sided-requires t c κs =
       asks-left start.requires.1 read.read-row.result read.read-row.ensures,
     )
 
-pair-returns : (t : ℕ) → pair-lts.Need-returns (read-row-reads.Asked, read-row-reads.Learnt, sided-below t, sided.Post, join-reads.Asked, join-reads.Learnt) (pair-at t) pair.Post
+pair-returns : (t : ℕ) → pair-lts.Need-returns (read-row-reads.Asked, read-row-reads.Learnt, sided-below t, sided.Post, join-reads.Asked, join-reads.Learnt) (pair_at t) pair.Post
 pair-returns t c =
     let left = c.before.before.before.before.before.before.before in
     let read = left.before.before.before.before.before.before.before in
@@ -544,7 +544,7 @@ pair-returns t c =
     left-full (pair-joins start.requires.1 read.read-row.result read.read-row.ensures start.args.left start.args.right start.args.or)
     left.sided.ensures (eq-eqb _ 65535 c.if1.true)
 
-pair-sided-requires-2 : (t : ℕ) → pair-lts.Need-sided-requires-2 (read-row-reads.Asked, read-row-reads.Learnt, sided-below t, sided.Post, join-reads.Asked, join-reads.Learnt) (pair-at t) pair.Post
+pair-sided-requires-2 : (t : ℕ) → pair-lts.Need-sided-requires-2 (read-row-reads.Asked, read-row-reads.Learnt, sided-below t, sided.Post, join-reads.Asked, join-reads.Learnt) (pair_at t) pair.Post
 pair-sided-requires-2 t c κs =
     let one = c.before.before.before.before.before.before in
     let left = one.before.before.before.before.before.before.before in
@@ -555,7 +555,7 @@ pair-sided-requires-2 t c κs =
           left.sided.auto.1.1.1.1.1.1.1.1.0,
     )
 
-pair-returns-2 : (t : ℕ) → pair-lts.Need-returns-2 (read-row-reads.Asked, read-row-reads.Learnt, sided-below t, sided.Post, join-reads.Asked, join-reads.Learnt) (pair-at t) pair.Post
+pair-returns-2 : (t : ℕ) → pair-lts.Need-returns-2 (read-row-reads.Asked, read-row-reads.Learnt, sided-below t, sided.Post, join-reads.Asked, join-reads.Learnt) (pair_at t) pair.Post
 pair-returns-2 t c =
     let right = c.before.before.before.before.before.before.before in
     let one = right.before.before.before.before.before.before.before in
@@ -566,16 +566,16 @@ pair-returns-2 t c =
     left.sided.ensures (ne_eqb _ 65535 one.if1.false)
     right.sided2.ensures (eq-eqb _ 65535 c.if2.true)
 
-pair-join-requires : (t : ℕ) → pair-lts.Need-join-requires (read-row-reads.Asked, read-row-reads.Learnt, sided-below t, sided.Post, join-reads.Asked, join-reads.Learnt) (pair-at t) pair.Post
+pair-join-requires : (t : ℕ) → pair-lts.Need-join-requires (read-row-reads.Asked, read-row-reads.Learnt, sided-below t, sided.Post, join-reads.Asked, join-reads.Learnt) (pair_at t) pair.Post
 pair-join-requires t c κs =
     let two = c.before.before.before in
     let right = two.before.before.before.before.before.before.before in
     let one = right.before.before.before.before.before.before.before in
     let left = one.before.before.before.before.before.before.before in
-    join-asks left.sided.ensures.builds (ne_eqb _ 65535 one.if1.false)
+    join_asks left.sided.ensures.builds (ne_eqb _ 65535 one.if1.false)
     right.sided2.ensures.builds (ne_eqb _ 65535 two.if2.false)
 
-pair-returns-3 : (t : ℕ) → pair-lts.Need-returns-3 (read-row-reads.Asked, read-row-reads.Learnt, sided-below t, sided.Post, join-reads.Asked, join-reads.Learnt) (pair-at t) pair.Post
+pair-returns-3 : (t : ℕ) → pair-lts.Need-returns-3 (read-row-reads.Asked, read-row-reads.Learnt, sided-below t, sided.Post, join-reads.Asked, join-reads.Learnt) (pair_at t) pair.Post
 pair-returns-3 t c =
     let end = c.before.before in
     let two = end.before.before.before.before in
@@ -596,7 +596,7 @@ sided-mul-known t c =
     omega (
       arith,
       c.word_of.ensures,
-      place-within (framed start.args.frame.now) (side start.args.not) start.args.i start.requires.1.formula,
+      place_within (framed start.args.frame.now) (side start.args.not) start.args.i start.requires.1.formula,
       start.requires.1.source.limit,
     )
 
@@ -606,7 +606,7 @@ sided-slice-read-known t c =
     omega (
       arith,
       c.before.word_of.ensures,
-      place-within (framed start.args.frame.now) (side start.args.not) start.args.i start.requires.1.formula,
+      place_within (framed start.args.frame.now) (side start.args.not) start.args.i start.requires.1.formula,
       start.requires.1.source.memo,
     )
 
@@ -614,14 +614,14 @@ sided-returns : (t : ℕ) → sided-lts.Need-returns (word-of-reads.Asked, word-
 sided-returns t c =
     let place = c.before.before in
     let start = place.before.before.before.before.before in
-    images-known (side start.args.not) start.requires.1 place.word_of.ensures c.if1.true
+    images_known (side start.args.not) start.requires.1 place.word_of.ensures c.if1.true
 
 sided-build-requires : (t : ℕ) → sided-lts.Need-build-requires (word-of-reads.Asked, word-of-reads.Learnt, build-below t, build.Post) (sided-at t) sided.Post
 sided-build-requires t c κs =
     let one = c.before.before.before.before.before in
     let place = one.before.before in
     let start = place.before.before.before.before.before in
-    (omega (arith, start.requires.0), asks-built (side start.args.not) start.requires.1 place.word_of.ensures one.if1.false)
+    (omega (arith, start.requires.0), asks_built (side start.args.not) start.requires.1 place.word_of.ensures one.if1.false)
 
 step-leaf-requires : (t : ℕ) → step-lts.Need-leaf-requires (read-row-reads.Asked, read-row-reads.Learnt, leaf-reads.Asked, leaf-reads.Learnt, sided-below t, sided.Post, equivalent-below t, equivalent.Post, pair-below t, pair.Post) (step-at t) step.Post
 step-leaf-requires t c κs =
@@ -698,7 +698,7 @@ pub +build-equivalent-image-negated-image-pair-sided-step-spec : {M : Type 1} �
     (λ t. build-lts.spec (step-below t, step.Post, word-of-reads.Asked, word-of-reads.Learnt) (build-at t) build.Post
     (λ c κs. search rules) (λ c. search rules) (λ c. search rules) (λ c. search rules) (λ c. search rules) (λ c κs. search rules) (λ c. search rules)
     (build-mul-scratch t) (build-slice-write-scratch t) (λ c. search rules) (λ c. search rules) (λ c. search rules) (build-returns-2 t))
-    (λ t. equivalent-lts.spec (read-row-reads.Asked, read-row-reads.Learnt, image-below t, image.Post, sided-below t, sided.Post, join-reads.Asked, join-reads.Learnt, negated-image-below t, negated-image.Post) (equivalent-at t) equivalent.Post
+    (λ t. equivalent-lts.spec (read-row-reads.Asked, read-row-reads.Learnt, image-below t, image.Post, sided-below t, sided.Post, join-reads.Asked, join-reads.Learnt, negated-image-below t, negated-image.Post) (equivalent_at t) equivalent.Post
     (λ c κs. search rules) (λ c. search rules) (λ c. search rules) (equivalent-image-requires t) (λ c. search rules) (λ c. search rules)
     (λ c. search rules) (equivalent-returns t) (equivalent-sided-requires t) (λ c. search rules) (λ c. search rules) (λ c. search rules)
     (equivalent-returns-2 t) (λ c. search rules) (equivalent-join-requires t) (λ c. search rules) (λ c. search rules) (λ c. search rules)
@@ -707,13 +707,13 @@ pub +build-equivalent-image-negated-image-pair-sided-step-spec : {M : Type 1} �
     (equivalent-same-length-15 t) (equivalent-returns-5 t) (λ c. search rules) (equivalent-join-requires-2 t) (equivalent-same-length-16 t)
     (equivalent-same-length-17 t) (equivalent-same-length-18 t) (equivalent-returns-6 t) (λ c. search rules) (equivalent-join-requires-3 t)
     (equivalent-same-length-19 t) (equivalent-same-length-20 t) (equivalent-same-length-21 t) (equivalent-returns-7 t))
-    (λ t. image-lts.spec (build-below t, build.Post) (image-at t) image.Post
+    (λ t. image-lts.spec (build-below t, build.Post) (image_at t) image.Post
     (λ c. search rules) (λ c. search rules) (λ c. search rules) (image-returns t) (image-build-requires t) (λ c. search rules) (λ c. search rules)
     (λ c. search rules) (λ c. search rules))
     (λ t. negated-image-lts.spec (build-below t, build.Post) (negated-image-at t) negated-image.Post
     (λ c. search rules) (λ c. search rules) (λ c. search rules) (λ c. search rules) (λ c. search rules) (negated-image-returns t)
     (negated-image-build-requires t) (λ c. search rules) (λ c. search rules) (λ c. search rules) (λ c. search rules))
-    (λ t. pair-lts.spec (read-row-reads.Asked, read-row-reads.Learnt, sided-below t, sided.Post, join-reads.Asked, join-reads.Learnt) (pair-at t) pair.Post
+    (λ t. pair-lts.spec (read-row-reads.Asked, read-row-reads.Learnt, sided-below t, sided.Post, join-reads.Asked, join-reads.Learnt) (pair_at t) pair.Post
     (λ c κs. search rules) (λ c. search rules) (pair-sided-requires t) (λ c. search rules) (λ c. search rules) (λ c. search rules) (pair-returns t)
     (λ c. search rules) (pair-sided-requires-2 t) (λ c. search rules) (λ c. search rules) (λ c. search rules) (pair-returns-2 t) (λ c. search rules)
     (pair-join-requires t) (λ c. search rules) (λ c. search rules) (λ c. search rules) (pair-returns-3 t))

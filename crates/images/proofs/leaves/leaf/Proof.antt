@@ -8,8 +8,8 @@ use Rattle.formula_builder.proofs.row.Reads as row_reads
 use Rattle.formula_builder.proofs.twin_row.Reads as twin-row-reads
 use mathlib.Core.Path.{refl}
 use Rattle.normal_form.specs.Builder.{plain, negated}
-use Rattle.formula_builder.proofs.Steps.{builds-as}
-use Rattle.images.proofs.Leaf.{leaf-twin, leaf-copied, leaf-constant}
+use Rattle.formula_builder.proofs.Steps.{builds_as}
+use Rattle.images.proofs.Leaf.{leaf_twin, leaf_copied, leaf_constant}
 use Rattle.formula_builder.specs.Inner.Held.{framed}
 
 twin-row-requires : tie.Need-twin-row-requires
@@ -25,8 +25,8 @@ returns c =
     let one = two.before in
     let start = one.before.before.before.before in
     rw two.if2.true
-    (builds-as (leaf-twin (framed start.args.frame.now).variables start.args.w one.if1.true)
-    made.twin-row.ensures)
+    (builds_as (leaf_twin (framed start.args.frame.now).variables start.args.w one.if1.true)
+    made.twin_row.ensures)
 
 returns-2 : tie.Need-returns-2
 returns-2 c =
@@ -37,18 +37,18 @@ returns-2 c =
     let frame = framed start.args.frame.now in
     let variable = one.if1.true in
     rw two.if2.false
-    (builds-as (leaf-copied frame.variables start.args.w variable (start.requires.unused variable))
+    (builds_as (leaf_copied frame.variables start.args.w variable (start.requires.unused variable))
     (made.row.ensures frame start.args.twins.now start.args.originals.now refl start.requires.ready))
 
 returns-3 : tie.Need-returns-3
 returns-3 c =
     let start = c.before.before.before.before.before.before in
-    rw c.before.if3.true (leaf-constant negated start.args.w start.requires c.before.before.if1.false)
+    rw c.before.if3.true (leaf_constant negated start.args.w start.requires c.before.before.if1.false)
 
 returns-4 : tie.Need-returns-4
 returns-4 c =
     let start = c.before.before.before.before.before in
-    rw c.if3.false (leaf-constant plain start.args.w start.requires c.before.if1.false)
+    rw c.if3.false (leaf_constant plain start.args.w start.requires c.before.if1.false)
 
 pub leaf-spec : {M : Type 1} → statement M
 leaf-spec =

@@ -7,12 +7,12 @@ use Rattle.images.proofs.sizes.image_from.Lts as lts
 use Rattle.formula_builder.proofs.step_of.Reads as step-of-reads
 use Rattle.images.proofs.cycle.image.Reads as image-reads
 use Rattle.normal_form.specs.Builder.{plain}
-use Rattle.images.proofs.Steps.{asks-framed, images-framed}
+use Rattle.images.proofs.Steps.{asks_framed, images_framed}
 
 image-requires : tie.Need-image-requires
 image-requires c κs =
     let words = c.before.before.before.before.before.before in
-    asks-framed words.words_of.ensures words.before.before.before.before.before.requires
+    asks_framed words.words_of.ensures words.before.before.before.before.before.requires
 
 returns : tie.Need-returns
 returns c =
@@ -20,7 +20,7 @@ returns c =
     let words = built.before.before.before.before.before.before.before in
     let start = words.before.before.before.before.before in
     rw c.step_of_lem.ensures
-    (record { images = images-framed plain start.args.i words.words_of.ensures built.image.ensures })
+    (record { images = images_framed plain start.args.i words.words_of.ensures built.image.ensures })
 
 pub image-from-spec : {M : Type 1} → statement M
 image-from-spec =

@@ -3,7 +3,7 @@ use mathlib.Core.Path.{◌≡◌, refl, sym, ap, ◌∙◌}
 use native.Mathlib.Omega.{arith}
 use borrow.Author.Rules.{rules}
 use Prim.Native.Nat.{◌+◌, ◌-◌}
-use Rattle.task_writer.proofs.Puts.{put-size}
+use Rattle.task_writer.proofs.Puts.{put_size}
 use Rattle.layouts.proofs.LayWays.{BytesDone, bytes-begin, bytes-more, bytes-end}
 use Rattle.layouts.proofs.laying.put_bytes.Statement.{statement}
 use Rattle.layouts.proofs.laying.put_bytes.Tie as tie
@@ -32,7 +32,7 @@ loop-again c =
 
 -- src/laying.rt:13:1
 same_length : tie.Need-same-length invariant-loop decreases-loop
-same_length c = put-size c.before.loop.invariant.done
+same_length c = put_size c.before.loop.invariant.done
 
 -- src/laying.rt:13:1
 returns : tie.Need-returns invariant-loop decreases-loop

@@ -4,9 +4,9 @@ use native.Mathlib.Omega.{arith}
 use Prim.Native.Nat.{◌+◌, ◌*◌}
 use lib.Seq.{length-take-le}
 use Rattle.task.specs.Table.{lent}
-use Rattle.task_writer.proofs.Puts.{put-size}
+use Rattle.task_writer.proofs.Puts.{put_size}
 use Rattle.task_writer.proofs.WriteWays.{words_size}
-use Rattle.layouts.proofs.LayWays.{head-put, tables-put}
+use Rattle.layouts.proofs.LayWays.{head_put, tables_put}
 use borrow.Author.Rules.{rules}
 use Rattle.layouts.proofs.laying.put_tables.Statement.{statement}
 use Rattle.layouts.proofs.laying.put_tables.Tie as tie
@@ -16,7 +16,7 @@ put-bytes-requires c κs =
     let at-put-words = c.before.before.before.before in
     let at-args = at-put-words.before.before.before.before.before.before.before.before.before in
     let a = at-args.args in let p = at-args.requires in
-    (p.long.initial, omega (arith, p.variables, p.twins, p.formulas, p.effects, p.operators, (head-put a.head at-put-words.put-words.ensures).1))
+    (p.long.initial, omega (arith, p.variables, p.twins, p.formulas, p.effects, p.operators, (head_put a.head at-put-words.put-words.ensures).1))
 
 put-words-requires-2 : tie.Need-put-words-requires-2
 put-words-requires-2 c κs =
@@ -32,7 +32,7 @@ put-words-requires-2 c κs =
         p.formulas,
         p.effects,
         p.operators,
-        (head-put a.head at-put-words.put-words.ensures).1,
+        (head_put a.head at-put-words.put-words.ensures).1,
         at-put-bytes.put-bytes.ensures.next,
         length-take-le a.head.variables a.initial.now p.long.initial,
       ),
@@ -53,7 +53,7 @@ put-words-requires-3 c κs =
         p.formulas,
         p.effects,
         p.operators,
-        (head-put a.head at-put-words.put-words.ensures).1,
+        (head_put a.head at-put-words.put-words.ensures).1,
         at-put-bytes.put-bytes.ensures.next,
         length-take-le a.head.variables a.initial.now p.long.initial,
         at-put-words2.put-words2.ensures.next,
@@ -77,7 +77,7 @@ put-words-requires-4 c κs =
         p.formulas,
         p.effects,
         p.operators,
-        (head-put a.head at-put-words.put-words.ensures).1,
+        (head_put a.head at-put-words.put-words.ensures).1,
         at-put-bytes.put-bytes.ensures.next,
         length-take-le a.head.variables a.initial.now p.long.initial,
         at-put-words2.put-words2.ensures.next,
@@ -104,7 +104,7 @@ put-words-requires-5 c κs =
         p.formulas,
         p.effects,
         p.operators,
-        (head-put a.head at-put-words.put-words.ensures).1,
+        (head_put a.head at-put-words.put-words.ensures).1,
         at-put-bytes.put-bytes.ensures.next,
         length-take-le a.head.variables a.initial.now p.long.initial,
         at-put-words2.put-words2.ensures.next,
@@ -123,8 +123,8 @@ same_length c =
     let at-put-words2 = at-put-words3.before.before.before.before.before in
     let at-put-bytes = at-put-words2.before.before.before.before.before in
     let at-put-words = at-put-bytes.before.before.before.before.before in
-    put-size c.before.before.put-words5.ensures ∙ put-size at-put-words4.put-words4.ensures ∙ put-size at-put-words3.put-words3.ensures ∙ put-size
-    at-put-words2.put-words2.ensures ∙ put-size at-put-bytes.put-bytes.ensures ∙ put-size at-put-words.put-words.ensures
+    put_size c.before.before.put-words5.ensures ∙ put_size at-put-words4.put-words4.ensures ∙ put_size at-put-words3.put-words3.ensures ∙ put_size
+    at-put-words2.put-words2.ensures ∙ put_size at-put-bytes.put-bytes.ensures ∙ put_size at-put-words.put-words.ensures
 
 returns : tie.Need-returns
 returns c =
@@ -134,8 +134,8 @@ returns c =
     let at-put-bytes = at-put-words2.before.before.before.before.before in
     let at-put-words = at-put-bytes.before.before.before.before.before in
     let at-args = at-put-words.before.before.before.before.before.before.before.before.before in
-    let a = at-args.args in tables-put (lent a.head a.initial.now a.twins.now a.formulas.now a.effects.now a.operators.now)
-    (head-put a.head at-put-words.put-words.ensures).0 at-put-bytes.put-bytes.ensures at-put-words2.put-words2.ensures
+    let a = at-args.args in tables_put (lent a.head a.initial.now a.twins.now a.formulas.now a.effects.now a.operators.now)
+    (head_put a.head at-put-words.put-words.ensures).0 at-put-bytes.put-bytes.ensures at-put-words2.put-words2.ensures
     at-put-words3.put-words3.ensures at-put-words4.put-words4.ensures c.before.before.put-words5.ensures
 
 pub put-tables-spec : {M : Type 1} → statement M

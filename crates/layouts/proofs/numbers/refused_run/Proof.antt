@@ -2,7 +2,7 @@
 use mathlib.Core.Path.{◌≡◌, refl, sym, ap, ◌∙◌}
 use native.Mathlib.Omega.{arith}
 use borrow.Author.Tests.{not-true, not-false}
-use Rattle.layouts.proofs.RunWays.{wrong-length, wrong-bits, half-number, too_many, no_room, none-refused}
+use Rattle.layouts.proofs.RunWays.{wrong-length, wrong-bits, half-number, too_many, no_room, none_refused}
 use borrow.Author.Rules.{rules}
 use Rattle.layouts.proofs.numbers.refused_run.Statement.{statement}
 use Rattle.layouts.proofs.numbers.refused_run.Tie as tie
@@ -46,7 +46,7 @@ returns-6 c =
     let at_bits = at-if2.before in
     let at-if1 = at_bits.before in
     let at-args = at-if1.before.before.before in
-    let a = at-args.args in none-refused a.variables a.state.now a.sequence.now a.room at-if1.if1.false at_bits.bits.ensures
+    let a = at-args.args in none_refused a.variables a.state.now a.sequence.now a.room at-if1.if1.false at_bits.bits.ensures
     (not-false at_bits.bits.result at-if2.if2.false) c.before.before.if3.false c.before.if4.false c.if5.false
 
 pub refused-run-spec : {M : Type 1} → statement M

@@ -2,7 +2,7 @@
 use mathlib.Core.Path.{◌≡◌, refl, sym, ap, ◌∙◌}
 use native.Mathlib.Omega.{arith}
 use Prim.Native.Nat.{◌+◌, ◌-◌}
-use Rattle.task_writer.proofs.Puts.{put-size}
+use Rattle.task_writer.proofs.Puts.{put_size}
 use Rattle.layouts.proofs.RunWays.{LowDone, low-begin, low-more, low_end}
 use borrow.Author.Rules.{rules}
 use Rattle.layouts.proofs.results.put_low.Statement.{statement}
@@ -45,7 +45,7 @@ loop-again c =
     at-loop.loop.place at-loop.loop.invariant at-loop-test.loop-test.true c.before.before.put_byte.ensures
 
 same_length : tie.Need-same-length invariant-loop decreases-loop
-same_length c = put-size c.before.loop.invariant.put
+same_length c = put_size c.before.loop.invariant.put
 
 returns : tie.Need-returns invariant-loop decreases-loop
 returns c =

@@ -2,9 +2,9 @@
 use mathlib.Core.Path.{◌≡◌, refl, sym, ap, ◌∙◌}
 use native.Mathlib.Omega.{arith}
 use lib.ListN.{length, length-replicate}
-use Rattle.task_writer.proofs.Puts.{put-size}
+use Rattle.task_writer.proofs.Puts.{put_size}
 use Rattle.layouts.specs.Layout.{flag}
-use Rattle.layouts.proofs.RunWays.{low-next, result-put}
+use Rattle.layouts.proofs.RunWays.{low_next, result_put}
 use borrow.Author.Rules.{rules}
 use Rattle.layouts.proofs.results.put_result.Statement.{statement}
 use Rattle.layouts.proofs.results.put_result.Tie as tie
@@ -13,7 +13,7 @@ put-low-requires-2 : tie.Need-put-low-requires-2
 put-low-requires-2 c κs =
     let at-put-low = c.before.before.before in
     let at-args = at-put-low.before.before.before.before.before.before.before.before.before.before.before.before in
-    let a = at-args.args in omega (arith, low-next 4 a.outcome.steps at-put-low.put_low.ensures)
+    let a = at-args.args in omega (arith, low_next 4 a.outcome.steps at-put-low.put_low.ensures)
 
 put-byte-requires : tie.Need-put-byte-requires
 put-byte-requires c κs =
@@ -21,7 +21,7 @@ put-byte-requires c κs =
     let at-put-low = at-put-low2.before.before.before.before in
     let at-args = at-put-low.before.before.before.before.before.before.before.before.before.before.before.before in
     let a = at-args.args in omega
-    (arith, low-next 4 a.outcome.steps at-put-low.put_low.ensures, low-next 8 a.outcome.cost at-put-low2.put-low2.ensures)
+    (arith, low_next 4 a.outcome.steps at-put-low.put_low.ensures, low_next 8 a.outcome.cost at-put-low2.put-low2.ensures)
 
 put-byte-requires-2 : tie.Need-put-byte-requires-2
 put-byte-requires-2 c κs =
@@ -31,8 +31,8 @@ put-byte-requires-2 c κs =
     let at-args = at-put-low.before.before.before.before.before.before.before.before.before.before.before.before in
     let a = at-args.args in omega (
       arith,
-      low-next 4 a.outcome.steps at-put-low.put_low.ensures,
-      low-next 8 a.outcome.cost at-put-low2.put-low2.ensures,
+      low_next 4 a.outcome.steps at-put-low.put_low.ensures,
+      low_next 8 a.outcome.cost at-put-low2.put-low2.ensures,
       at-put-byte.put_byte.ensures.next,
     )
 
@@ -45,8 +45,8 @@ put-low-requires-3 c κs =
     let at-args = at-put-low.before.before.before.before.before.before.before.before.before.before.before.before in
     let a = at-args.args in omega (
       arith,
-      low-next 4 a.outcome.steps at-put-low.put_low.ensures,
-      low-next 8 a.outcome.cost at-put-low2.put-low2.ensures,
+      low_next 4 a.outcome.steps at-put-low.put_low.ensures,
+      low_next 8 a.outcome.cost at-put-low2.put-low2.ensures,
       at-put-byte.put_byte.ensures.next,
       at-put-byte2.put-byte2.ensures.next,
     )
@@ -59,8 +59,8 @@ same_length c =
     let at-put-low = at-put-low2.before.before.before.before in
     let at-clear-bytes = at-put-low.before.before.before.before.before in
     let at-args = at-clear-bytes.before.before.before.before.before.before.before in
-    let a = at-args.args in put-size c.before.before.put-low3.ensures ∙ put-size at-put-byte2.put-byte2.ensures ∙ put-size
-    at-put-byte.put_byte.ensures ∙ put-size at-put-low2.put-low2.ensures ∙ put-size at-put-low.put_low.ensures ∙ ap length
+    let a = at-args.args in put_size c.before.before.put-low3.ensures ∙ put_size at-put-byte2.put-byte2.ensures ∙ put_size
+    at-put-byte.put_byte.ensures ∙ put_size at-put-low2.put-low2.ensures ∙ put_size at-put-low.put_low.ensures ∙ ap length
     at-clear-bytes.clear-bytes.ensures ∙ length-replicate (length a.result.now) 0
 
 returns : tie.Need-returns
@@ -75,7 +75,7 @@ returns c =
     let at_flag = at-plan.before in
     let at-stop = at_flag.before in
     let at-args = at-stop.before.before in
-    let a = at-args.args in result-put a.outcome a.result.now at-clear-bytes.clear-bytes.ensures at-put-low.put_low.ensures
+    let a = at-args.args in result_put a.outcome a.result.now at-clear-bytes.clear-bytes.ensures at-put-low.put_low.ensures
     at-put-low2.put-low2.ensures at-put-byte.put_byte.ensures at-put-byte2.put-byte2.ensures c.before.before.put-low3.ensures
     at_flag.flag.ensures (at-flag2.flag2.ensures ∙ ap flag at-plan.plan.ensures) at-stop.stop.ensures at-args.requires
 

@@ -8,7 +8,7 @@ use mathlib.Core.Path.{◌≡◌, refl, ◌∙◌}
 use lib.ListN.{length, length-set}
 use Rattle.formula_builder.specs.Inner.Held.{store, framed}
 use Rattle.operator_guards.specs.Inner.Guarding.{FoundTo}
-use Rattle.operator_guards.proofs.Finding.{found_none, asks-flag, found-over, no-twin, found-more, found_all}
+use Rattle.operator_guards.proofs.Finding.{found_none, asks-flag, found-over, no_twin, found-more, found_all}
 
 abbrev invariant-loop : tie.invariant-loop
 invariant-loop formulas effects notes₀ e frame rows₀ table₀ originals₀ scratch₀ found₀ n twins₀ x₀ notes rows table originals scratch found twins x =
@@ -121,7 +121,7 @@ loop-again c =
     let below : loop.x < (framed at_entry_lem.args.frame.now).variables = omega (arith, loop.invariant.0, at-loop-test.loop-test.true) in (
       loop.invariant.0,
       omega (arith, at-loop-test.loop-test.true),
-      no-twin at_entry_lem.requires loop.invariant.2 loop.invariant.8 below made.ensures c.if1.false,
+      no_twin at_entry_lem.requires loop.invariant.2 loop.invariant.8 below made.ensures c.if1.false,
       made.auto.1.1.0 ∙ loop.invariant.3,
       made.auto.1.1.1.1.1.1.1.1.0 ∙ loop.invariant.4,
       made.auto.1.1.1.1.1.1.1.1.1.0 ∙ loop.invariant.5,

@@ -4,7 +4,7 @@ use Rattle.operator_guards.proofs.guard.guard_operator.Statement.{statement}
 use Rattle.operator_guards.proofs.guard.guard_operator.Tie as tie
 use native.Mathlib.Omega.{arith}
 use borrow.Author.Tests.{not-true, not-false}
-use Rattle.operator_guards.proofs.Guarding.{asks-words, reaches-words, word-within, word_some, finds, asks-pairs, guarded, conditions-full}
+use Rattle.operator_guards.proofs.Guarding.{asks-words, reaches-words, word_within, word_some, finds, asks-pairs, guarded, conditions-full}
 
 precondition-of-requires : tie.Need-precondition-of-requires
 precondition-of-requires c κs =
@@ -20,19 +20,19 @@ mul-stands : tie.Need-overflow-mul-stands
 mul-stands c =
     let at-precondition-of = c.before in
     let at_entry_lem = at-precondition-of.before.before.before.before.before.before.before.before.before.before.before in
-    omega (arith, at_entry_lem.requires.precondition, at-precondition-of.precondition-of.ensures, at_entry_lem.requires.stands.source.limit)
+    omega (arith, at_entry_lem.requires.precondition, at-precondition-of.precondition_of.ensures, at_entry_lem.requires.stands.source.limit)
 
 slice-read-stands : tie.Need-slice-read-stands
 slice-read-stands c =
     let at-precondition-of = c.before.before in
     let at_entry_lem = at-precondition-of.before.before.before.before.before.before.before.before.before.before.before in
-    word-within at_entry_lem.requires at-precondition-of.precondition-of.result at-precondition-of.precondition-of.ensures
+    word_within at_entry_lem.requires at-precondition-of.precondition_of.result at-precondition-of.precondition_of.ensures
 
 sub-stands : tie.Need-overflow-sub-stands
 sub-stands c =
     let at-precondition-of = c.before.before in
     let at_entry_lem = at-precondition-of.before.before.before.before.before.before.before.before.before.before.before in
-    word_some at_entry_lem.requires at-precondition-of.precondition-of.result at-precondition-of.precondition-of.ensures
+    word_some at_entry_lem.requires at-precondition-of.precondition_of.result at-precondition-of.precondition_of.ensures
 
 find-conditions-requires : tie.Need-find-conditions-requires
 find-conditions-requires c κs =
@@ -61,7 +61,7 @@ pairs-requires c κs =
     let at_entry_lem = at-words-of.before.before.before.before.before.before.before.before.before.before in
     let asked = asks-words at-words-of.words_of.ensures at_entry_lem.requires in
     let made = at-find-conditions.find-conditions in
-    asks-pairs asked at-effect-of.effect_of.ensures at-precondition-of.precondition-of.ensures (made.ensures.done (not-false _ at-if1.if1.false))
+    asks-pairs asked at-effect-of.effect_of.ensures at-precondition-of.precondition_of.ensures (made.ensures.done (not-false _ at-if1.if1.false))
     (omega (arith, asked.room, made.auto.1.1.1.1.1.1.1.1.1.0))
 
 returns-2 : tie.Need-returns-2
@@ -76,7 +76,7 @@ returns-2 c =
     let asked = asks-words at-words-of.words_of.ensures at_entry_lem.requires in
     let made = at-find-conditions.find-conditions in
     reaches-words at-words-of.words_of.ensures at_entry_lem.requires
-    (guarded asked at-effect-of.effect_of.ensures at-precondition-of.precondition-of.ensures (made.ensures.done (not-false _ at-if1.if1.false)) at-pairs.pairs.ensures made.auto.1.1.1.1.1.1.1.1.0)
+    (guarded asked at-effect-of.effect_of.ensures at-precondition-of.precondition_of.ensures (made.ensures.done (not-false _ at-if1.if1.false)) at-pairs.pairs.ensures made.auto.1.1.1.1.1.1.1.1.0)
 
 pub guard-operator-spec : {M : Type 1} → statement M
 guard-operator-spec =

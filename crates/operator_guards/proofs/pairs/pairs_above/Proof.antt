@@ -9,13 +9,13 @@ use mathlib.Core.List.{[]}
 use lib.ListN.{length}
 use borrow.Author.Tests.{eq-eqb, ne_eqb}
 use Rattle.formula_builder.specs.Inner.Held.{store, sized, stepped, framed, Done}
-use Rattle.operator_guards.specs.Inner.Pairing.{passing, with-flag}
+use Rattle.operator_guards.specs.Inner.Pairing.{passing, with_flag}
 use Rattle.operator_guards.proofs.Stepping.{passing-none, passing-next, above-over, above-end, flags-after, pair-ready}
 
 abbrev invariant-loop : tie.invariant-loop
 invariant-loop found x end p frame rows₀ table₀ q₀ y₀ rows table q y =
     (x + 1 ≤ y) × (y ≤ end) × (length table ≡ length table₀)
-    × Done (passing (x + 1) y (with-flag found x) p) (framed frame) (sized rows₀ 0) (store table₀ []) (store table []) (stepped rows 0 q)
+    × Done (passing (x + 1) y (with_flag found x) p) (framed frame) (sized rows₀ 0) (store table₀ []) (store table []) (stepped rows 0 q)
 
 abbrev decreases-loop : tie.decreases-loop
 decreases-loop found x end p frame rows₀ table₀ q₀ y₀ rows table q y = end - y
@@ -31,7 +31,7 @@ loop-holds c =
       omega arith,
       omega (arith, start.requires.1),
       refl,
-      passing-none (with-flag start.args.found.now start.args.x) (start.args.x + 1) start.args.p start.requires.0.ready start.requires.0.row,
+      passing-none (with_flag start.args.found.now start.args.x) (start.args.x + 1) start.args.p start.requires.0.ready start.requires.0.row,
     )
 
 mul-unless-never : tie.Need-overflow-mul-unless-never invariant-loop decreases-loop
@@ -75,7 +75,7 @@ returns c =
     let start = at-loop.before.before.before in
     let loop = at-loop.loop in
     above-over start.args.found.now start.args.p start.args.end start.args.x loop.y loop.invariant.0 at-loop-test.loop-test.true loop.invariant.3
-    at-unless-never.unless-never.ensures (eq-eqb _ 65535 c.if1.true)
+    at-unless-never.unless_never.ensures (eq-eqb _ 65535 c.if1.true)
 
 add-y-2 : tie.Need-overflow-add-y-2 invariant-loop decreases-loop
 add-y-2 c =
@@ -95,9 +95,9 @@ loop-again c =
     let loop = at-loop.loop in (
       omega (arith, loop.invariant.0),
       omega (arith, at-loop-test.loop-test.true),
-      at-unless-never.unless-never.auto.1.1.1.1.1.0 ∙ loop.invariant.2,
-      passing-next (with-flag start.args.found.now start.args.x) (start.args.x + 1) start.args.p loop.y loop.invariant.0 loop.invariant.3
-          at-unless-never.unless-never.ensures (ne_eqb _ 65535 c.if1.false),
+      at-unless-never.unless_never.auto.1.1.1.1.1.0 ∙ loop.invariant.2,
+      passing-next (with_flag start.args.found.now start.args.x) (start.args.x + 1) start.args.p loop.y loop.invariant.0 loop.invariant.3
+          at-unless-never.unless_never.ensures (ne_eqb _ 65535 c.if1.false),
     )
 
 same-length-2 : tie.Need-same-length-2 invariant-loop decreases-loop

@@ -5,7 +5,7 @@ use Rattle.operator_guards.proofs.pairs.without_both.Tie as tie
 use mathlib.Core.Path.{refl}
 use mathlib.Core.List.{[]}
 use Rattle.formula_builder.specs.Inner.Held.{framed}
-use Rattle.operator_guards.proofs.Stepping.{next-ready, pair-first, pair-second, pair-asks, pair-whole}
+use Rattle.operator_guards.proofs.Stepping.{next_ready, pair-first, pair-second, pair-asks, pair-whole}
 
 returns : tie.Need-returns
 returns c =
@@ -20,7 +20,7 @@ row-requires c κs =
     let at_join = at-if1.before.before.before in
     let start = at_join.before.before.before.before.before in
     let frame = framed start.args.frame.now in
-    (next-ready (at_join.join.ensures frame 0 [] refl start.requires.ready) at-if1.if1.false).rows
+    (next_ready (at_join.join.ensures frame 0 [] refl start.requires.ready) at-if1.if1.false).rows
 
 returns-2 : tie.Need-returns-2
 returns-2 c =
@@ -30,7 +30,7 @@ returns-2 c =
     let start = at_join.before.before.before.before.before in
     let frame = framed start.args.frame.now in
     let first = at_join.join.ensures frame 0 [] refl start.requires.ready in
-    let second = at_row.row.ensures frame 0 [] refl (next-ready first at-if1.if1.false) in
+    let second = at_row.row.ensures frame 0 [] refl (next_ready first at-if1.if1.false) in
     pair-second start.args.one start.args.other start.args.p first at-if1.if1.false second c.if2.true
 
 join-requires-2 : tie.Need-join-requires-2
@@ -42,7 +42,7 @@ join-requires-2 c κs =
     let start = at_join.before.before.before.before.before in
     let frame = framed start.args.frame.now in
     let first = at_join.join.ensures frame 0 [] refl start.requires.ready in
-    let second = at_row.row.ensures frame 0 [] refl (next-ready first at-if1.if1.false) in
+    let second = at_row.row.ensures frame 0 [] refl (next_ready first at-if1.if1.false) in
     pair-asks start.args.one start.args.other start.args.p first at-if1.if1.false second at-if2.if2.false start.requires.row
 
 returns-3 : tie.Need-returns-3
@@ -55,8 +55,8 @@ returns-3 c =
     let start = at_join.before.before.before.before.before in
     let frame = framed start.args.frame.now in
     let first = at_join.join.ensures frame 0 [] refl start.requires.ready in
-    let second = at_row.row.ensures frame 0 [] refl (next-ready first at-if1.if1.false) in
-    let third = at-join2.join2.ensures frame 0 [] refl (next-ready second at-if2.if2.false) in
+    let second = at_row.row.ensures frame 0 [] refl (next_ready first at-if1.if1.false) in
+    let third = at-join2.join2.ensures frame 0 [] refl (next_ready second at-if2.if2.false) in
     pair-whole start.args.one start.args.other start.args.p first at-if1.if1.false second at-if2.if2.false third
 
 pub without-both-spec : {M : Type 1} → statement M

@@ -7,7 +7,7 @@ use mathlib.Core.Path.{◌≡◌, refl, ◌∙◌}
 use lib.ListN.{length, length-set}
 use Rattle.formula_builder.specs.Inner.Held.{store}
 use Rattle.operator_guards.specs.Inner.Whole.{GuardedTo}
-use Rattle.operator_guards.proofs.Batching.{asks-operator, guarded-more, guarded-over, range-over, range-guarded}
+use Rattle.operator_guards.proofs.Batching.{asks_operator, guarded-more, guarded-over, range-over, range-guarded}
 
 abbrev invariant-loop : tie.invariant-loop
 invariant-loop counts formulas effects operators firsts from end found₀ notes₀ rows₀ table₀ originals₀ scratch₀ preconditions₀ o₀ found notes rows table originals scratch preconditions o =
@@ -35,7 +35,7 @@ guard-operator-requires c κs =
     let at-loop = at-loop-test.before in
     let at_entry_lem = at-loop.before.before.before.before.before.before.before.before.before.before.before in
     let low : at-loop.loop.o < at_entry_lem.args.counts.operators = omega (arith, at-loop-test.loop-test.true, at_entry_lem.requires.most) in
-    asks-operator at_entry_lem.requires low at-loop.loop.invariant.7 at-loop.loop.invariant.1
+    asks_operator at_entry_lem.requires low at-loop.loop.invariant.7 at-loop.loop.invariant.1
 
 same_length : tie.Need-same-length invariant-loop decreases-loop
 same_length c =

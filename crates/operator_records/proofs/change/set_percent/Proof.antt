@@ -48,7 +48,7 @@ use denote.Triple.Clauses.{ensured, lasts}
 use denote.Triple.Table.{entered, cited}
 use denote.Triple.Walked.{says, Stays, stay_slice, stay_none, walk_of, Walks, ends_at, walked, Goes-slice, Goes-none, walk_Meets}
 use Rattle.operator_records.specs.declared.OperatorRecord.{OperatorRecord}
-use Rattle.operator_records.specs.Change.{number_of, with-percent, change, ChangeGives}
+use Rattle.operator_records.specs.Change.{number_of, with_percent, change, ChangeGives}
 use Rattle.operator_records.proofs.Answers.{within, change-refused, change-made}
 use Rattle.operator_records.specs.contracts.OperatorRecord as R
 use Rattle.operator_records.proofs.OperatorRecord.TheLaws as R'
@@ -167,7 +167,7 @@ module _
     old = get_or ys n no_record
 
     abbrev new : OperatorRecord
-    new = with-percent p old
+    new = with_percent p old
 
     -- what putting the record back asks: three words are as they were, and the fourth is p
     made : Is Rec old (vals old) → Is Rec new (vals new)
@@ -200,7 +200,7 @@ module _
 
       -- an answer that is not 0: nothing is stored
       refused : (r : ℕ) → r < 2 ^ 16 → r ≡ number_of (length ys) n p → T (not (eqb r 0)) → Sq 𝓛 (held ys (locals r (eqb r 0))) (runs C Λ En mir.t-6 (at_ret En Post))
-      refused r fits is not-zero = ends ys r (eqb r 0) fits refl (change-refused ys n p r is not-zero)
+      refused r fits is not_zero = ends ys r (eqb r 0) fits refl (change-refused ys n p r is not_zero)
 
       inside : (r : ℕ) → r ≡ number_of (length ys) n p → T (eqb r 0) → n < length ys
       inside r is zeroed = within (length ys) n p (sym is ∙ eqb→eq r 0 zeroed)
@@ -229,7 +229,7 @@ module _
           elem_put ! Rec full_share ys n new (vals new) b o l $ closes_slice ! tt Rec ys (set ys n new) (length-set ys n new) b o $
           forget ! 3 refl $ forget ! 5 refl $
           ends (set ys n new) r (eqb r 0) fits (length-set ys n new) (change-made no_record ys n p r is (eqb→eq r 0 zeroed))))
-          (λ not-zero. skips ! $ exec ! C Λ En mir.t-6 (at_ret En Post) $ refused r fits is not-zero)
+          (λ not_zero. skips ! $ exec ! C Λ En mir.t-6 (at_ret En Post) $ refused r fits is not_zero)
 
     module _ (C : Calls 𝓤 H) (Λ : Loops 𝓤 H) (fm : FmC 𝓤 H 𝓛.laws C) (known : Triple 𝓤 (C #operator-records·change·change-number) (Core 𝓛 mem run)) where
       walk : ent 𝓤 (on_entry 𝓛 f.signature (κ, tt) (q, tt) x at) (WpFn 𝓤 H C Λ code.function (slice_val (b, o) (length ys) ∷ vint w16 n ∷ vint w16 p ∷ []) Post)

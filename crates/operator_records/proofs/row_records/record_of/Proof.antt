@@ -1,10 +1,10 @@
 -- `record_of` meets its contract: the row's words, or all 0 where the table does not hold it. Assumes nothing.
 use native.Mathlib.Omega.{arith}
 use mathlib.Core.Path.{◌≡◌, ◌∙◌}
-use Rattle.operator_records.specs.Rows.{as-record}
-use Rattle.task.specs.Table.{operator-width, operator-at}
-use Rattle.task.proofs.Refusals.{row_fits, row-past}
-use Rattle.operator_records.proofs.Rows.{record-inside, record-outside}
+use Rattle.operator_records.specs.Rows.{as_record}
+use Rattle.task.specs.Table.{operator_width, operator_at}
+use Rattle.task.proofs.Refusals.{row_fits, row_past}
+use Rattle.operator_records.proofs.Rows.{record_inside, record_outside}
 use borrow.Author.Rules.{rules}
 use Rattle.operator_records.proofs.row_records.record_of.Statement.{statement}
 use Rattle.operator_records.proofs.row_records.record_of.Tie as tie
@@ -32,20 +32,20 @@ returns c =
     let at-precondition-of = c.before.before.before in
     let at-if1 = at-precondition-of.before in
     let a = at-if1.before.before.args in
-    let words : _ ≡ as-record (operator-at a.operators.now a.number) =
+    let words : _ ≡ as_record (operator_at a.operators.now a.number) =
     (λ j.
     record {
-      precondition = at-precondition-of.precondition-of.ensures j;
+      precondition = at-precondition-of.precondition_of.ensures j;
       effect = c.before.before.effect_of.ensures j;
-      cost = c.before.cost-of.ensures j;
+      cost = c.before.cost_of.ensures j;
       percent = c.percent-of.ensures j;
     }) in
-    words ∙ record-inside a.operators.now a.number (row_fits operator-width _ a.number at-if1.if1.true)
+    words ∙ record_inside a.operators.now a.number (row_fits operator_width _ a.number at-if1.if1.true)
 
 returns-2 : tie.Need-returns-2
 returns-2 c =
     let a = c.before.before.args in
-    record-outside _ a.number (row-past operator-width _ a.number (omega arith) c.if1.false)
+    record_outside _ a.number (row_past operator_width _ a.number (omega arith) c.if1.false)
 
 pub record-of-spec : {M : Type 1} → statement M
 record-of-spec =

@@ -11,7 +11,7 @@ returns c = none-asked _ _ _ c.if1.true
 returns-2 : tie.Need-returns-2
 returns-2 c =
     let a = c.before.before.before.args in
-    c.precondition-of.ensures ∙ one-asked a.operators.now a.count a.number c.before.if1.false
+    c.precondition_of.ensures ∙ one-asked a.operators.now a.count a.number c.before.if1.false
 
 pub asked-spec : {M : Type 1} → statement M
 asked-spec = tie.close (tie.spec returns (λ c κs. search rules) (λ c. search rules) returns-2)

@@ -1,6 +1,6 @@
 -- `take` gives what `took` gives, each way out by a law of Taking. Assumes nothing.
 use Prim.Native.Nat.{ℕ, ◌≤◌}
-use Rattle.task.proofs.Stores.{cost-among}
+use Rattle.task.proofs.Stores.{cost_among}
 use native.Mathlib.Omega.{arith}
 use mathlib.Core.Path.{refl}
 use Rattle.operator_step.proofs.Taking.{valuable, asked-below, stays, there, conditions-ready, carried-out}
@@ -22,7 +22,7 @@ returns c =
     let n = start.args.number in
     let p = at-asked.asked.ensures in
     let held = at-holds.holds.ensures in (
-      stays start.requires n p held.0 c.before.stop-of.ensures c.if1.true,
+      stays start.requires n p held.0 c.before.stop_of.ensures c.if1.true,
       scratch-stopped n p held.1 c.if1.true,
     )
 
@@ -33,8 +33,8 @@ effect-of-requires c κs =
     let at-args = at-asked.before.before.before.before.before.before.before in
     let n = at-args.args.number in omega (
       arith,
-      there at-args.requires n at-asked.asked.ensures at-holds.holds.ensures.0 c.before.stop-of.ensures c.if1.false,
-      at-args.requires.tables.operators-there,
+      there at-args.requires n at-asked.asked.ensures at-holds.holds.ensures.0 c.before.stop_of.ensures c.if1.false,
+      at-args.requires.tables.operators_there,
     )
 
 add-carry-out : tie.Need-overflow-add-carry-out
@@ -52,7 +52,7 @@ carry-out-requires c κs =
     let start = at-asked.before.before.before.before.before.before.before in
     let held = at-holds.holds in
     rw c.before.before.effect_of.ensures
-    (conditions-ready start.requires start.args.number at-asked.asked.ensures held.ensures.0 at-stop-of.stop-of.ensures at-if1.if1.false
+    (conditions-ready start.requires start.args.number at-asked.asked.ensures held.ensures.0 at-stop-of.stop_of.ensures at-if1.if1.false
     held.new.1.1.1.0 held.auto.1.1.1.0
     held.ensures.1.known)
 
@@ -65,8 +65,8 @@ charge-of-requires c κs =
     let at-args = at-asked.before.before.before.before.before.before.before in
     let n = at-args.args.number in omega (
       arith,
-      there at-args.requires n at-asked.asked.ensures at-holds.holds.ensures.0 at-stop-of.stop-of.ensures at-if1.if1.false,
-      at-args.requires.tables.operators-there,
+      there at-args.requires n at-asked.asked.ensures at-holds.holds.ensures.0 at-stop-of.stop_of.ensures at-if1.if1.false,
+      at-args.requires.tables.operators_there,
     )
 
 returns-2 : tie.Need-returns-2
@@ -84,9 +84,9 @@ returns-2 c =
     let held = at-holds.holds in
     let same = held.auto.1.1.1.0 in
     let carried = rw at-effect-of.effect_of.ensures at at-carry-out.carry-out.ensures in (
-      rw c.charge-of.ensures
-          (carried-out start.requires n p held.ensures.0 at-stop-of.stop-of.ensures at-if1.if1.false held.new.1.1.1.0 same held.ensures.1.known _ _ carried
-          (cost-among (λ (x : ℕ). x ≤ 65535) start.args.operators.now n (λ k. omega (arith, at-operators.shared-slice-known3.given k)))),
+      rw c.charge_of.ensures
+          (carried-out start.requires n p held.ensures.0 at-stop-of.stop_of.ensures at-if1.if1.false held.new.1.1.1.0 same held.ensures.1.known _ _ carried
+          (cost_among (λ (x : ℕ). x ≤ 65535) start.args.operators.now n (λ k. omega (arith, at-operators.shared-slice-known3.given k)))),
       scratch-done n p held.ensures.1 refl (omega (arith, asked-below start.requires n p)) same carried.deciding,
     )
 

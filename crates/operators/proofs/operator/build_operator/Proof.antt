@@ -8,8 +8,8 @@ use Rattle.operators.proofs.operator.build_operator.Lts as lts
 use Rattle.images.proofs.image_from.Reads as image-from-reads
 use Rattle.operators.proofs.walk.build_changes.Reads as build-changes-reads
 use mathlib.Core.Path.{refl, ◌∙◌}
-use Rattle.variable_changes.proofs.Standing.{leaves-full}
-use Rattle.operators.proofs.Walks.{precondition-full, stands-behind, operator-walked}
+use Rattle.variable_changes.proofs.Standing.{leaves_full}
+use Rattle.operators.proofs.Walks.{precondition-full, stands_behind, operator-walked}
 
 same_length : tie.Need-same-length
 same_length c = c.before.before.before.before.before.before.before.image-from.auto.1.1.1.1.0
@@ -26,7 +26,7 @@ returns c =
     let at-args = at-image-from.before.before.before.before.before.before.before.before.before.before.before in (
       precondition-full at-args.args.frame at-args.args.formulas.now at-args.args.effects.now at-args.args.p at-args.args.e
           at-image-from.image-from.ensures.images c.if1.true refl,
-      leaves-full,
+      leaves_full,
     )
 
 build-changes-requires : tie.Need-build-changes-requires
@@ -34,7 +34,7 @@ build-changes-requires c κs =
     let at-if1 = c.before.before.before.before.before in
     let at-image-from = at-if1.before.before.before.before.before.before.before in
     let at_pre = at-image-from.before.before.before.before.before.before.before.before.before.before.before in (
-      stands-behind at_pre.requires.0 at-image-from.image-from.ensures.images at-if1.if1.false at-image-from.image-from.auto.1.1.1.1.1.1.0,
+      stands_behind at_pre.requires.0 at-image-from.image-from.ensures.images at-if1.if1.false at-image-from.image-from.auto.1.1.1.1.1.1.0,
       at_pre.requires.1,
     )
 

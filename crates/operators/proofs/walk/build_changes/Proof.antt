@@ -15,7 +15,7 @@ use lib.ListN.{length}
 use Rattle.formula_builder.specs.Inner.Held.{store, held}
 use Rattle.operators.proofs.Walks.{change-asks, change-made, looks_on, Walking, walking-begins, walking-asks, walking-keeps, walking-stops, walking-more, walking-ends}
 use Rattle.conditions.specs.Inner.Conditions.{Noted}
-use Rattle.variable_changes.proofs.Standing.{leaves-same, leaves-full}
+use Rattle.variable_changes.proofs.Standing.{leaves_same, leaves_full}
 
 abbrev invariant-loop : tie.invariant-loop
 invariant-loop formulas effects notes₀ e frame table₀ originals₀ scratch₀ from records₀ n words rows₀ twins₀ k₀ v₀ notes table originals scratch records rows twins k v =
@@ -93,7 +93,7 @@ returns c =
     let at_pre = at-words-of.before.before.before.before.before.before.before.before in (
       walking-stops at_pre.requires.0 at-loop.loop.invariant.5 at-change-of.change-of.result
           (change-made at-words-of.words_of.ensures _ _ at-change-of.change-of.ensures).0 at-loop-test.loop-test.true c.if1.true refl,
-      leaves-full,
+      leaves_full,
     )
 
 keep-change-requires : tie.Need-keep-change-requires invariant-loop decreases-loop
@@ -160,7 +160,7 @@ same-length-10 c = c.before.loop.invariant.4
 returns-2 : tie.Need-returns-2 invariant-loop decreases-loop
 returns-2 c =
     let at_pre = c.before.before.before.before.before.before.before.before.before.before.before.before in
-    (walking-ends at_pre.requires.0 c.before.loop.invariant.5 (omega (arith, c.loop-test.false)) refl, leaves-same c.before.loop.invariant.6)
+    (walking-ends at_pre.requires.0 c.before.loop.invariant.5 (omega (arith, c.loop-test.false)) refl, leaves_same c.before.loop.invariant.6)
 
 pub build-changes-spec : {M : Type 1} → statement M
 build-changes-spec =

@@ -6,8 +6,8 @@ use Rattle.operators.proofs.walk.next_touched.Lts as lts
 use Rattle.operators.proofs.walk.passed_at.Reads as passed-at-reads
 use Prim.Native.Nat.{◌-◌}
 use native.Mathlib.Omega.{arith}
-use Rattle.operators.proofs.Passing.{Searching, searching-none, searching-more, searched, searched-all}
-use Rattle.operators.proofs.Walks.{looks-at}
+use Rattle.operators.proofs.Passing.{Searching, searching_none, searching_more, searched, searched_all}
+use Rattle.operators.proofs.Walks.{looks_at}
 
 abbrev invariant-loop : tie.invariant-loop
 invariant-loop notes frame e from n v₀ v = Searching frame notes e from v
@@ -16,10 +16,10 @@ abbrev decreases-loop : tie.decreases-loop
 decreases-loop notes frame e from n v₀ v = n - v
 
 loop-holds : tie.Need-loop-init invariant-loop decreases-loop
-loop-holds c = searching-none c.before.args.frame c.before.args.notes.now c.before.args.e c.before.args.from
+loop-holds c = searching_none c.before.args.frame c.before.args.notes.now c.before.args.e c.before.args.from
 
 passed-at-requires : tie.Need-passed-at-requires invariant-loop decreases-loop
-passed-at-requires c κs = (looks-at c.before.before.before.requires c.loop-test.true, c.before.before.before.requires.words)
+passed-at-requires c κs = (looks_at c.before.before.before.requires c.loop-test.true, c.before.before.before.requires.words)
 
 returns : tie.Need-returns invariant-loop decreases-loop
 returns c = searched c.before.before.before.loop.invariant c.before.before.loop-test.true c.before.passed-at.ensures c.if1.true
@@ -31,10 +31,10 @@ loop-less : tie.Need-loop-smaller invariant-loop decreases-loop
 loop-less c = omega (arith, c.before.before.loop-test.true, c.if1.false)
 
 loop-again : tie.Need-loop-preserved invariant-loop decreases-loop
-loop-again c = searching-more c.before.before.before.loop.invariant c.before.passed-at.ensures
+loop-again c = searching_more c.before.before.before.loop.invariant c.before.passed-at.ensures
 
 returns-2 : tie.Need-returns-2 invariant-loop decreases-loop
-returns-2 c = searched-all c.before.before.before.requires.from-most c.before.loop.invariant (omega (arith, c.loop-test.false))
+returns-2 c = searched_all c.before.before.before.requires.from_most c.before.loop.invariant (omega (arith, c.loop-test.false))
 
 pub next-touched-spec : {M : Type 1} → statement M
 next-touched-spec =

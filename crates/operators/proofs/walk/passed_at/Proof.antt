@@ -11,18 +11,18 @@ use Rattle.operators.proofs.Passing.{passes-rest, passes-one, passes_none}
 returns : tie.Need-returns
 returns c =
     let at-args = c.before.before.before in
-    let a = at-args.args in passes-rest a.frame a.notes.now a.e a.v c.before.set-from.result c.before.set-from.ensures c.if1.true
+    let a = at-args.args in passes-rest a.frame a.notes.now a.e a.v c.before.set_from.result c.before.set_from.ensures c.if1.true
 
 returns-2 : tie.Need-returns-2
 returns-2 c =
     let at-args = c.before.before.before.before in
-    let a = at-args.args in passes-one a.frame a.notes.now a.e a.v c.before.before.set-from.result c.before.before.set-from.ensures
+    let a = at-args.args in passes-one a.frame a.notes.now a.e a.v c.before.before.set_from.result c.before.before.set_from.ensures
     c.if2.true
 
 returns-3 : tie.Need-returns-3
 returns-3 c =
     let at-args = c.before.before.before.before in
-    let a = at-args.args in passes_none a.frame a.notes.now a.e a.v c.before.before.set-from.result c.before.before.set-from.ensures
+    let a = at-args.args in passes_none a.frame a.notes.now a.e a.v c.before.before.set_from.result c.before.before.set_from.ensures
     c.if2.false
 
 pub passed-at-spec : {M : Type 1} → statement M

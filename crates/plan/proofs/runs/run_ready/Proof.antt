@@ -7,7 +7,7 @@ use mathlib.Core.Path.{◌≡◌, refl, ◌∙◌}
 use lib.ListN.{length}
 use borrow.Author.Rules.{rules}
 use Rattle.operator_step.specs.Inner.Steps.{running}
-use Rattle.operator_step.proofs.Taking.{valuable, goal-told, ready-again}
+use Rattle.operator_step.proofs.Taking.{valuable, goal_told, ready_again}
 use Rattle.plan.proofs.Running.{Goes, starts, one_more, after-ready, stopped-run, ended-run}
 
 abbrev invariant-loop : tie.invariant-loop
@@ -31,7 +31,7 @@ take-requires : tie.Need-take-requires invariant-loop decreases-loop
 take-requires c κs =
     let at-loop = c.before.before.before.before in
     let at_pre = at-loop.before.before.before.before.before.before.before.before in
-    ready-again at_pre.requires.0 at-loop.loop.invariant.3.state at-loop.loop.invariant.2
+    ready_again at_pre.requires.0 at-loop.loop.invariant.3.state at-loop.loop.invariant.2
 
 holds-requires : tie.Need-holds-requires invariant-loop decreases-loop
 holds-requires c κs =
@@ -40,7 +40,7 @@ holds-requires c κs =
     let at-loop = at-loop-test.before in
     let at_pre = at-loop.before.before.before.before.before.before.before.before in
     valuable
-    (ready-again at_pre.requires.0 (after-ready at-loop.loop.invariant.3 (omega (arith, at-loop-test.loop-test.true)) at_take.take.ensures.0)
+    (ready_again at_pre.requires.0 (after-ready at-loop.loop.invariant.3 (omega (arith, at-loop-test.loop-test.true)) at_take.take.ensures.0)
     (at_take.take.auto.1.1.1.1.1.1.0 ∙ at-loop.loop.invariant.2))
     at_pre.requires.0.tables.goal
 
@@ -64,7 +64,7 @@ returns c =
     let at-loop = at-loop-test.before in
     let at_pre = at-loop.before.before.before.before.before.before.before.before in
     stopped-run at-loop.loop.invariant.3 (omega (arith, at-loop-test.loop-test.true)) at_take.take.ensures.0 at-if1.if1.true
-    (c.before.before.holds.ensures.0 ∙ goal-told at_pre.requires.0
+    (c.before.before.holds.ensures.0 ∙ goal_told at_pre.requires.0
     (after-ready at-loop.loop.invariant.3 (omega (arith, at-loop-test.loop-test.true)) at_take.take.ensures.0))
 
 add-cost : tie.Need-overflow-add-cost invariant-loop decreases-loop
@@ -88,7 +88,7 @@ holds-requires-2 : tie.Need-holds-requires-2 invariant-loop decreases-loop
 holds-requires-2 c κs =
     let at-loop = c.before.before.before in
     let at_pre = at-loop.before.before.before.before.before.before.before.before in
-    valuable (ready-again at_pre.requires.0 at-loop.loop.invariant.3.state at-loop.loop.invariant.2) at_pre.requires.0.tables.goal
+    valuable (ready_again at_pre.requires.0 at-loop.loop.invariant.3.state at-loop.loop.invariant.2) at_pre.requires.0.tables.goal
 
 same-length-3 : tie.Need-same-length-3 invariant-loop decreases-loop
 same-length-3 c = c.before.before.before.before.before.before.loop.invariant.1
@@ -100,7 +100,7 @@ returns-2 : tie.Need-returns-2 invariant-loop decreases-loop
 returns-2 c =
     let at-loop = c.before.before.before.before.before.before in
     let at_pre = at-loop.before.before.before.before.before.before.before.before in
-    ended-run at-loop.loop.invariant.3 (omega arith) (c.before.before.holds2.ensures.0 ∙ goal-told at_pre.requires.0 at-loop.loop.invariant.3.state)
+    ended-run at-loop.loop.invariant.3 (omega arith) (c.before.before.holds2.ensures.0 ∙ goal_told at_pre.requires.0 at-loop.loop.invariant.3.state)
 
 pub run-ready-spec : {M : Type 1} → statement M
 run-ready-spec =

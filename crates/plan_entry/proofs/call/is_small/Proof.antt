@@ -1,18 +1,18 @@
 -- `is_small` meets its contract: whether a task has at most 6 variables and few rows. Assumes nothing.
 use native.Mathlib.Omega.{arith}
 use borrow.Author.Tests.{lt-leb, le-leb}
-use Rattle.plan_entry.specs.Inner.Giving.{small-plan}
+use Rattle.plan_entry.specs.Inner.Giving.{small_plan}
 use borrow.Author.Rules.{rules}
 use Rattle.plan_entry.proofs.call.is_small.Statement.{statement}
 use Rattle.plan_entry.proofs.call.is_small.Tie as tie
 
 returns : tie.Need-returns
-unfolding small-plan
+unfolding small_plan
 returns c =
     simp (lt-leb _ _ c.if1.true)
 
 returns-2 : tie.Need-returns-2
-unfolding small-plan
+unfolding small_plan
 returns-2 c =
     let at-if1 = c.before.before in
     let at-args = at-if1.before.before in

@@ -2,7 +2,7 @@
 -- Assumes nothing.
 use lib.ListN.{length}
 use Rattle.entry_tables.specs.Own.{small}
-use Rattle.plan_entry.proofs.PlanWays.{plan-settled, plan-again}
+use Rattle.plan_entry.proofs.PlanWays.{plan_settled, plan_again}
 use borrow.Author.Rules.{rules}
 use Rattle.plan_entry.proofs.call.plan.Statement.{statement}
 use Rattle.plan_entry.proofs.call.plan.Tie as tie
@@ -12,7 +12,7 @@ returns-2 c =
     let at-plan-from-small = c.before.before.before.before.before in
     let at-args = at-plan-from-small.before.before.before.before.before.before.before in
     let a = at-args.args in
-    plan-settled small a.file.now (length a.out.now) (length a.result.now) c.if2.true at-plan-from-small.plan-from-small.ensures
+    plan_settled small a.file.now (length a.out.now) (length a.result.now) c.if2.true at-plan-from-small.plan-from-small.ensures
 
 returns-3 : tie.Need-returns-3
 returns-3 c =
@@ -20,7 +20,7 @@ returns-3 c =
     let at-plan-from-small = at-plan-from-full2.before.before.before.before.before.before.before.before in
     let at-args = at-plan-from-small.before.before.before.before.before.before.before in
     let a = at-args.args in
-    plan-again a.file.now at-plan-from-small.plan-from-small.auto.1.0 at-plan-from-small.plan-from-small.auto.1.1.0 at-plan-from-full2.plan-from-full2.ensures
+    plan_again a.file.now at-plan-from-small.plan-from-small.auto.1.0 at-plan-from-small.plan-from-small.auto.1.1.0 at-plan-from-full2.plan-from-full2.ensures
 
 pub plan-spec : {M : Type 1} → statement M
 plan-spec =

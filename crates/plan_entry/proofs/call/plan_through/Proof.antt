@@ -1,11 +1,11 @@
 -- `plan_through` meets its contract: reads into tables that are lent, then searches. Assumes nothing.
 use mathlib.Core.Path.{ap, ◌∙◌}
 use lib.ListN.{length}
-use Rattle.task_file.proofs.ReadWays.{bytes-from}
+use Rattle.task_file.proofs.ReadWays.{bytes_from}
 use Rattle.task_file.specs.Outcome.{lengths}
-use Rattle.entry_tables.specs.Inner.Answers.{refused-number}
+use Rattle.entry_tables.specs.Inner.Answers.{refused_number}
 use Rattle.entry_tables.proofs.Reading.{read_as, refused_as}
-use Rattle.plan_entry.proofs.PlanWays.{plan-read, plan-no-file}
+use Rattle.plan_entry.proofs.PlanWays.{plan_read, plan_no_file}
 use borrow.Author.Rules.{rules}
 use Rattle.plan_entry.proofs.call.plan_through.Statement.{statement}
 use Rattle.plan_entry.proofs.call.plan_through.Tie as tie
@@ -19,8 +19,8 @@ returns c =
     let at-args = at_read.before.before.before.before.before.before.before.before.before.before.before.before.before.before in
     let a = at-args.args in
     let m = lengths (length a.initial.now) (length a.twins.now) (length a.formulas.now) (length a.effects.now) (length a.operators.now) in
-    plan-no-file m a.file.now (length a.out.now) (length a.result.now)
-    (refused_as m a.file.now at_read.read.ensures at-enum-told.enum_told.given.1) (at-not-read.not-read.ensures ∙ ap refused-number at-enum-told.enum_told.given.1)
+    plan_no_file m a.file.now (length a.out.now) (length a.result.now)
+    (refused_as m a.file.now at_read.read.ensures at-enum-told.enum_told.given.1) (at-not-read.not_read.ensures ∙ ap refused_number at-enum-told.enum_told.given.1)
     at-refuse.refuse.ensures
 
 plan-read-requires : tie.Need-plan-read-requires
@@ -31,7 +31,7 @@ plan-read-requires c κs =
     let at-args = at-shared-slice-known.before in
     let a = at-args.args in
     let m = lengths (length a.initial.now) (length a.twins.now) (length a.formulas.now) (length a.effects.now) (length a.operators.now) in
-    (read_as m a.file.now at_read.read.ensures at-r.r.given.1 (bytes-from a.file.now (λ i. (at-shared-slice-known.shared-slice-known.given i).fits))).kept
+    (read_as m a.file.now at_read.read.ensures at-r.r.given.1 (bytes_from a.file.now (λ i. (at-shared-slice-known.shared-slice-known.given i).fits))).kept
 
 returns-2 : tie.Need-returns-2
 returns-2 c =
@@ -42,9 +42,9 @@ returns-2 c =
     let at-args = at-shared-slice-known.before in
     let a = at-args.args in
     let m = lengths (length a.initial.now) (length a.twins.now) (length a.formulas.now) (length a.effects.now) (length a.operators.now) in
-    plan-read (length a.out.now) (length a.result.now)
-    (read_as m a.file.now at_read.read.ensures at-r.r.given.1 (bytes-from a.file.now (λ i. (at-shared-slice-known.shared-slice-known.given i).fits)))
-    at-plan-read.plan-read.ensures
+    plan_read (length a.out.now) (length a.result.now)
+    (read_as m a.file.now at_read.read.ensures at-r.r.given.1 (bytes_from a.file.now (λ i. (at-shared-slice-known.shared-slice-known.given i).fits)))
+    at-plan-read.plan_read.ensures
 
 pub plan-through-spec : {M : Type 1} → statement M
 plan-through-spec =

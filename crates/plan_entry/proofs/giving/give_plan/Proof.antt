@@ -1,6 +1,6 @@
 -- `give_plan` meets its contract: the first `steps` numbers and the result, and 0 past them; 23 and all 0 if the numbers do not fit. Assumes nothing.
 use native.Mathlib.Omega.{arith}
-use Rattle.layouts.proofs.RunWays.{low-next}
+use Rattle.layouts.proofs.RunWays.{low_next}
 use Rattle.plan_entry.proofs.PlanWays.{too_long, gives-plan}
 use borrow.Author.Rules.{rules}
 use Rattle.plan_entry.proofs.giving.give_plan.Statement.{statement}
@@ -19,7 +19,7 @@ put-low-requires-2 c κs =
     let at-put-low = c.before.before.before in
     let at-args = at-put-low.before.before.before.before.before.before.before.before.before.before.before.before.before.before.before.before.before.before in
     let a = at-args.args in
-    omega (arith, low-next 4 a.steps at-put-low.put_low.ensures)
+    omega (arith, low_next 4 a.steps at-put-low.put_low.ensures)
 
 returns-2 : tie.Need-returns-2
 returns-2 c =

@@ -1,6 +1,6 @@
 -- `refused_plan` meets its contract: 0, or the first in order: 21, 20. Assumes nothing.
 use native.Mathlib.Omega.{arith}
-use Rattle.plan_entry.proofs.PlanWays.{many-variables, short-result, none-refused}
+use Rattle.plan_entry.proofs.PlanWays.{many-variables, short-result, none_refused}
 use Rattle.plan_entry.proofs.refusals.refused_plan.Statement.{statement}
 use Rattle.plan_entry.proofs.refusals.refused_plan.Tie as tie
 
@@ -22,7 +22,7 @@ returns-3 c =
     let at-if1 = c.before in
     let at-args = at-if1.before.before in
     let a = at-args.args in
-    none-refused a.head a.room (omega (arith, at-if1.if1.false)) (omega (arith, c.if2.false))
+    none_refused a.head a.room (omega (arith, at-if1.if1.false)) (omega (arith, c.if2.false))
 
 pub refused-plan-spec : {M : Type 1} → statement M
 refused-plan-spec = tie.close (tie.spec returns returns-2 returns-3)

@@ -5,7 +5,7 @@ use mathlib.Core.Path.{◌≡◌, ap, ◌∙◌}
 use mathlib.Core.List.{◌++◌}
 use lib.ListN.{length, drop, replicate}
 use borrow.Author.Fill.{fill_none}
-use Rattle.printing.proofs.Settled.{zeros-length, zeros-more, zeros-end}
+use Rattle.printing.proofs.Settled.{zeros_length, zeros_more, zeros_end}
 use Rattle.printing.proofs.bytes.clear.Statement.{statement}
 use Rattle.printing.proofs.bytes.clear.Tie as tie
 
@@ -23,25 +23,25 @@ add-i c =
     omega (
       arith,
       c.before.before.well-formed,
-      zeros-length c.before.loop.i c.before.before.args.out.now c.before.loop.invariant.0,
+      zeros_length c.before.loop.i c.before.before.args.out.now c.before.loop.invariant.0,
       ap length c.before.loop.invariant.1,
     )
 
 loop-less : tie.Need-loop-smaller invariant-loop decreases-loop
 loop-less c =
-    omega (arith, zeros-length c.before.loop.i c.before.before.args.out.now c.before.loop.invariant.0, ap length c.before.loop.invariant.1)
+    omega (arith, zeros_length c.before.loop.i c.before.before.args.out.now c.before.loop.invariant.0, ap length c.before.loop.invariant.1)
 
 loop-again : tie.Need-loop-preserved invariant-loop decreases-loop
 loop-again c =
-    zeros-more c.before.loop.i c.before.before.args.out.now c.before.loop.out c.before.loop.invariant.0 c.before.loop.invariant.1
+    zeros_more c.before.loop.i c.before.before.args.out.now c.before.loop.out c.before.loop.invariant.0 c.before.loop.invariant.1
     c.loop-test.true
 
 same_length : tie.Need-same-length invariant-loop decreases-loop
-same_length c = ap length c.before.loop.invariant.1 ∙ zeros-length c.before.loop.i c.before.before.args.out.now c.before.loop.invariant.0
+same_length c = ap length c.before.loop.invariant.1 ∙ zeros_length c.before.loop.i c.before.before.args.out.now c.before.loop.invariant.0
 
 returns : tie.Need-returns invariant-loop decreases-loop
 returns c =
-    zeros-end c.before.loop.i c.before.before.args.out.now c.before.loop.out c.before.loop.invariant.0 c.before.loop.invariant.1
+    zeros_end c.before.loop.i c.before.before.args.out.now c.before.loop.out c.before.loop.invariant.0 c.before.loop.invariant.1
     c.loop-test.false
 
 pub clear_spec : {M : Type 1} → statement M

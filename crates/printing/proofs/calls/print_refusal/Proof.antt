@@ -3,14 +3,14 @@ use native.Mathlib.Omega.{arith}
 use mathlib.Core.List.{[], ◌∷◌}
 use lib.ListN.{length}
 use borrow.Author.Rules.{rules}
-use Rattle.printing.specs.Lines.{line, refusal-line}
-use Rattle.printing.specs.Printing.{printing-refusal}
+use Rattle.printing.specs.Lines.{line, refusal_line}
+use Rattle.printing.specs.Printing.{printing_refusal}
 use Rattle.printing.proofs.Puts.{put_on}
 use Rattle.printing.proofs.calls.print_refusal.Statement.{statement}
 use Rattle.printing.proofs.calls.print_refusal.Tie as tie
 
 returns : tie.Need-returns
-unfolding printing-refusal refusal-line
+unfolding printing_refusal refusal_line
 returns c =
     let at-line-of-one = c.before.before.before.before.before.before in
     let at_clear = at-line-of-one.before.before.before.before in

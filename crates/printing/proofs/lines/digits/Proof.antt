@@ -5,7 +5,7 @@ use mathlib.Core.List.{map}
 use lib.ListN.{take}
 use Rattle.printing.specs.Lines.{digit}
 use Rattle.printing.specs.Inner.Put.{Put}
-use Rattle.printing.proofs.Puts.{nothing_put, then-put, put_as, put-length, put-ends}
+use Rattle.printing.proofs.Puts.{nothing_put, then-put, put_as, put-length, put_ends}
 use Rattle.printing.proofs.Texts.{digits_more}
 use Rattle.printing.proofs.lines.digits.Statement.{statement}
 use Rattle.printing.proofs.lines.digits.Tie as tie
@@ -56,7 +56,7 @@ same_length c = put-length c.before.loop.invariant.1
 returns : tie.Need-returns invariant-loop decreases-loop
 returns c =
     let at-args = c.before.before.before.before in
-    put-ends (λ n. map digit (take n at-args.args.initial.now)) (λ n. n) c.before.loop.invariant.1 c.before.loop.invariant.0 c.loop-test.false
+    put_ends (λ n. map digit (take n at-args.args.initial.now)) (λ n. n) c.before.loop.invariant.1 c.before.loop.invariant.0 c.loop-test.false
 
 pub digits-spec : {M : Type 1} → statement M
 digits-spec =

@@ -2,7 +2,7 @@
 use native.Mathlib.Omega.{arith}
 use borrow.Author.Rules.{rules}
 use Rattle.printing.proofs.Puts.{then-put, put_as}
-use Rattle.printing.proofs.Texts.{front-joined}
+use Rattle.printing.proofs.Texts.{front_joined}
 use Rattle.printing.proofs.lines.front.Statement.{statement}
 use Rattle.printing.proofs.lines.front.Tie as tie
 
@@ -11,15 +11,15 @@ state-line-requires c κs =
     let at-head-line = c.before.before.before.before in
     let at_pre = at-head-line.before.before.before.before.before in
     record {
-      room = omega (arith, at-head-line.head-line.ensures.counted, at-head-line.head-line.ensures.short, at_pre.requires.variables);
-      long = at_pre.requires.initial-long;
+      room = omega (arith, at-head-line.head_line.ensures.counted, at-head-line.head_line.ensures.short, at_pre.requires.variables);
+      long = at_pre.requires.initial_long;
       bits = at_pre.requires.bits;
     }
 
 sub-twin-lines : tie.Need-overflow-sub-twin-lines
 sub-twin-lines c =
     let at_pre = c.before.before.before.before.before.before.before.before.before.before.before.before.before.before in
-    omega (arith, at_pre.requires.twin-count)
+    omega (arith, at_pre.requires.twin_count)
 
 twin-lines-requires : tie.Need-twin-lines-requires
 twin-lines-requires c κs =
@@ -30,15 +30,15 @@ twin-lines-requires c κs =
       room =
           omega (
             arith,
-            at-head-line.head-line.ensures.counted,
-            at-head-line.head-line.ensures.short,
+            at-head-line.head_line.ensures.counted,
+            at-head-line.head_line.ensures.short,
             at-state-line.state-line.ensures.counted,
             at-state-line.state-line.ensures.short,
             at_pre.requires.variables,
-            at_pre.requires.twin-count,
+            at_pre.requires.twin_count,
           );
-      long = at_pre.requires.twins-long;
-      below = omega (arith, at_pre.requires.variables, at_pre.requires.twin-count);
+      long = at_pre.requires.twins_long;
+      below = omega (arith, at_pre.requires.variables, at_pre.requires.twin_count);
     }
 
 returns : tie.Need-returns
@@ -46,9 +46,9 @@ returns c =
     let at-state-line = c.before.before.before.before.before.before.before.before in
     let at-head-line = at-state-line.before.before.before.before.before in
     let at-args = at-head-line.before.before.before.before.before in
-    put_as (then-put (then-put at-head-line.head-line.ensures at-state-line.state-line.ensures) c.before.before.twin-lines.ensures)
-    (front-joined at-args.args.head at-args.args.initial.now at-args.args.twins.now)
-    (omega (arith, at-args.requires.variables, at-args.requires.twin-count))
+    put_as (then-put (then-put at-head-line.head_line.ensures at-state-line.state-line.ensures) c.before.before.twin_lines.ensures)
+    (front_joined at-args.args.head at-args.args.initial.now at-args.args.twins.now)
+    (omega (arith, at-args.requires.variables, at-args.requires.twin_count))
 
 pub front-spec : {M : Type 1} → statement M
 front-spec =

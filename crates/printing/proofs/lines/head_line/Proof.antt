@@ -2,7 +2,7 @@
 use native.Mathlib.Omega.{arith}
 use borrow.Author.Rules.{rules}
 use Rattle.printing.proofs.Puts.{then-put, put_as}
-use Rattle.printing.proofs.Texts.{line-counts}
+use Rattle.printing.proofs.Texts.{line_counts}
 use Rattle.printing.specs.Inner.Put.{counts_of}
 use Rattle.printing.proofs.lines.head_line.Statement.{statement}
 use Rattle.printing.proofs.lines.head_line.Tie as tie
@@ -30,7 +30,7 @@ returns c =
     let at-put = at-counts.before.before.before.before in
     let at-args = at-put.before.before.before in
     put_as (then-put (then-put at-put.put.ensures at-counts.counts.ensures) c.before.before.put2.ensures)
-    (line-counts 116 (counts_of at-args.args.head)) (omega arith)
+    (line_counts 116 (counts_of at-args.args.head)) (omega arith)
 
 pub head-line-spec : {M : Type 1} → statement M
 head-line-spec =

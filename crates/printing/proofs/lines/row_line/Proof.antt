@@ -3,7 +3,7 @@ use native.Mathlib.Omega.{arith}
 use borrow.Author.Rules.{rules}
 use Rattle.task.specs.Inner.Tables.{listed}
 use Rattle.printing.proofs.Puts.{then-put, put_as}
-use Rattle.printing.proofs.Texts.{line-more}
+use Rattle.printing.proofs.Texts.{line_more}
 use Rattle.printing.proofs.lines.row_line.Statement.{statement}
 use Rattle.printing.proofs.lines.row_line.Tie as tie
 
@@ -36,7 +36,7 @@ returns c =
     let at-opening = at-row-words.before.before.before.before in
     let at-args = at-opening.before.before.before in
     put_as (then-put (then-put at-opening.opening.ensures at-row-words.row_words.ensures) c.before.before.put.ensures)
-    (line-more at-args.args.letter at-args.args.n (listed at-args.args.table at-args.args.row)) (omega arith)
+    (line_more at-args.args.letter at-args.args.n (listed at-args.args.table at-args.args.row)) (omega arith)
 
 pub row-line-spec : {M : Type 1} → statement M
 row-line-spec =

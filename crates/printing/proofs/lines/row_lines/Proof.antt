@@ -4,10 +4,10 @@ use native.Mathlib.Omega.{arith}
 use native.Mathlib.Nat.{zero-add}
 use mathlib.Core.Path.{sym}
 use Rattle.task.specs.Bounded.{upto}
-use Rattle.task.proofs.Stores.{row-there}
+use Rattle.task.proofs.Stores.{row_there}
 use Rattle.printing.specs.Lines.{numbered}
 use Rattle.printing.specs.Inner.Put.{Put, listed_at}
-use Rattle.printing.proofs.Puts.{put-length, put-ends}
+use Rattle.printing.proofs.Puts.{put-length, put_ends}
 use Rattle.printing.proofs.Texts.{rows_none, row_put, rows_more}
 use Rattle.printing.proofs.lines.row_lines.Statement.{statement}
 use Rattle.printing.proofs.lines.row_lines.Tie as tie
@@ -25,7 +25,7 @@ loop-holds c =
     (omega arith, rows_none a.letter 0 (listed_at a.table a.words.now) a.out.now a.at)
 
 row-at-requires : tie.Need-row-at-requires invariant-loop decreases-loop
-row-at-requires c κs = row-there c.before.before.before.before.args.table c.loop-test.true c.before.before.before.before.requires.long
+row-at-requires c κs = row_there c.before.before.before.before.args.table c.loop-test.true c.before.before.before.before.requires.long
 
 cast-row-line : tie.Need-overflow-cast-row-line invariant-loop decreases-loop
 cast-row-line c = omega (arith, c.before.before.loop-test.true, c.before.before.before.before.before.before.requires.few)
@@ -64,7 +64,7 @@ same_length c = put-length c.before.loop.invariant.1
 returns : tie.Need-returns invariant-loop decreases-loop
 returns c =
     let a = c.before.before.before.before.args in
-    put-ends (λ n. numbered a.letter 0 (upto n (listed_at a.table a.words.now))) (λ n. 32 * n) c.before.loop.invariant.1 c.before.loop.invariant.0
+    put_ends (λ n. numbered a.letter 0 (upto n (listed_at a.table a.words.now))) (λ n. 32 * n) c.before.loop.invariant.1 c.before.loop.invariant.0
     c.loop-test.false
 
 pub row-lines-spec : {M : Type 1} → statement M

@@ -3,7 +3,7 @@ use native.Mathlib.Omega.{arith}
 use mathlib.Core.Path.{refl}
 use borrow.Author.Rules.{rules}
 use Rattle.printing.proofs.Puts.{then-put, put_as}
-use Rattle.printing.proofs.Texts.{words-four}
+use Rattle.printing.proofs.Texts.{words_four}
 use Rattle.printing.proofs.lines.row_words.Statement.{statement}
 use Rattle.printing.proofs.lines.row_words.Tie as tie
 
@@ -29,7 +29,7 @@ returns-3 c =
     let row = at-three.before.before.before.args.row in
     rw at-enum-told3.enum-told3.given.1
     (put_as (then-put at-three.three.ensures c.before.before.word.ensures)
-    (words-four row.first row.second row.third row.fourth) (omega arith))
+    (words_four row.first row.second row.third row.fourth) (omega arith))
 
 pub row-words-spec : {M : Type 1} → statement M
 row-words-spec =

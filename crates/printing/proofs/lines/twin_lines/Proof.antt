@@ -4,14 +4,14 @@ use native.Mathlib.Omega.{arith}
 use mathlib.Core.Path.{refl}
 use Rattle.task.specs.Bounded.{upto}
 use Rattle.printing.specs.Lines.{numbered}
-use Rattle.printing.specs.Inner.Put.{Put, original-at}
-use Rattle.printing.proofs.Puts.{put-length, put-ends}
+use Rattle.printing.specs.Inner.Put.{Put, original_at}
+use Rattle.printing.proofs.Puts.{put-length, put_ends}
 use Rattle.printing.proofs.Texts.{rows_none, rows_more}
 use Rattle.printing.proofs.lines.twin_lines.Statement.{statement}
 use Rattle.printing.proofs.lines.twin_lines.Tie as tie
 
 abbrev invariant-loop : tie.invariant-loop
-invariant-loop out₀ at first twins count next₀ k₀ out next k = (k ≤ count) × Put out₀ at (numbered 119 first (upto k (original-at twins))) (14 * k) out next
+invariant-loop out₀ at first twins count next₀ k₀ out next k = (k ≤ count) × Put out₀ at (numbered 119 first (upto k (original_at twins))) (14 * k) out next
 
 abbrev decreases-loop : tie.decreases-loop
 decreases-loop out₀ at first twins count next₀ k₀ out next k = count - k
@@ -19,7 +19,7 @@ decreases-loop out₀ at first twins count next₀ k₀ out next k = count - k
 loop-holds : tie.Need-loop-init invariant-loop decreases-loop
 loop-holds c = (
   omega arith,
-  rows_none 119 c.before.before.args.first (original-at c.before.before.args.twins.now) c.before.before.args.out.now
+  rows_none 119 c.before.before.args.first (original_at c.before.before.args.twins.now) c.before.before.args.out.now
       c.before.before.args.at,
 )
 
@@ -56,7 +56,7 @@ loop-again c =
     let at-loop = at-loop-test.before in
     let at-args = at-loop.before.before.before in (
       omega (arith, at-loop-test.loop-test.true),
-      rows_more 119 at-args.args.first (at-args.args.first + at-loop.loop.k) at-loop.loop.k (original-at at-args.args.twins.now)
+      rows_more 119 at-args.args.first (at-args.args.first + at-loop.loop.k) at-loop.loop.k (original_at at-args.args.twins.now)
           at-loop.loop.invariant.1 c.before.before.line-of-two.ensures refl (omega arith),
     )
 
@@ -66,7 +66,7 @@ same_length c = put-length c.before.loop.invariant.1
 returns : tie.Need-returns invariant-loop decreases-loop
 returns c =
     let at-args = c.before.before.before.before in
-    put-ends (λ n. numbered 119 at-args.args.first (upto n (original-at at-args.args.twins.now))) (λ n. 14 * n) c.before.loop.invariant.1
+    put_ends (λ n. numbered 119 at-args.args.first (upto n (original_at at-args.args.twins.now))) (λ n. 14 * n) c.before.loop.invariant.1
     c.before.loop.invariant.0 c.loop-test.false
 
 pub twin-lines-spec : {M : Type 1} → statement M

@@ -3,14 +3,14 @@ use native.Mathlib.Omega.{arith}
 use mathlib.Core.Path.{sym}
 use borrow.Author.Rules.{rules}
 use Rattle.printing.proofs.Puts.{nothing_put, then-put, put_as}
-use Rattle.printing.proofs.Texts.{values-none, values-some}
+use Rattle.printing.proofs.Texts.{values_none, values_some}
 use Rattle.printing.proofs.lines.values.Statement.{statement}
 use Rattle.printing.proofs.lines.values.Tie as tie
 
 returns : tie.Need-returns
 returns c =
     let at-args = c.before.before.before in
-    put_as (nothing_put at-args.args.out.now at-args.args.at) (sym (values-none at-args.args.initial.now at-args.args.count c.if1.true))
+    put_as (nothing_put at-args.args.out.now at-args.args.at) (sym (values_none at-args.args.initial.now at-args.args.count c.if1.true))
     (omega arith)
 
 put-requires : tie.Need-put-requires
@@ -28,7 +28,7 @@ returns-2 c =
     let at-if1 = at-put.before.before in
     let at-args = at-if1.before.before.before in
     put_as (then-put at-put.put.ensures c.before.before.digits.ensures)
-    (values-some at-args.args.initial.now at-args.args.count at-if1.if1.false at-args.requires.long) (omega arith)
+    (values_some at-args.args.initial.now at-args.args.count at-if1.if1.false at-args.requires.long) (omega arith)
 
 pub values-spec : {M : Type 1} → statement M
 values-spec =

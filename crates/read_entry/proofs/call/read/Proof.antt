@@ -1,7 +1,7 @@
 -- `read` meets its contract: reads a task file: 0 and its tables, or the number and all 0. Assumes nothing.
 use lib.ListN.{length}
 use Rattle.entry_tables.specs.Own.{small}
-use Rattle.read_entry.proofs.ReadWays.{read-settled, read_again}
+use Rattle.read_entry.proofs.ReadWays.{read_settled, read_again}
 use borrow.Author.Rules.{rules}
 use Rattle.read_entry.proofs.call.read.Statement.{statement}
 use Rattle.read_entry.proofs.call.read.Tie as tie
@@ -10,7 +10,7 @@ returns-2 : tie.Need-returns-2
 returns-2 c =
     let at-read-small = c.before.before.before in
     let at-args = at-read-small.before.before.before.before.before in
-    let a = at-args.args in read-settled small a.file.now (length a.tables.now) c.if2.true at-read-small.read_small.ensures
+    let a = at-args.args in read_settled small a.file.now (length a.tables.now) c.if2.true at-read-small.read_small.ensures
 
 returns-3 : tie.Need-returns-3
 returns-3 c =

@@ -5,7 +5,7 @@ use Rattle.rule_writer.proofs.places.clear.Reads as reads
 use Rattle.rule_writer.proofs.places.clear.Lts as lts
 use Prim.Native.Nat.{◌-◌}
 use native.Mathlib.Omega.{arith}
-use Rattle.rule_writer.proofs.Placing.{Cleared, cleared-none, cleared_more, cleared-all}
+use Rattle.rule_writer.proofs.Placing.{Cleared, cleared_none, cleared_more, cleared-all}
 
 abbrev invariant-loop : tie.invariant-loop
 invariant-loop places₀ v past i₀ places i = Cleared places₀ v past places i
@@ -14,7 +14,7 @@ abbrev decreases-loop : tie.decreases-loop
 decreases-loop places₀ v past i₀ places i = v - i
 
 loop-holds : tie.Need-loop-init invariant-loop decreases-loop
-loop-holds c = cleared-none c.args.places.now c.args.v c.args.past c.requires
+loop-holds c = cleared_none c.args.places.now c.args.v c.args.past c.requires
 
 mul-places : tie.Need-overflow-mul-places invariant-loop decreases-loop
 mul-places c = omega (arith, c.before.before.well-formed, c.before.before.requires, c.before.loop.invariant.same)

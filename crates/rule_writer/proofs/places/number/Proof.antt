@@ -5,7 +5,7 @@ use Rattle.rule_writer.proofs.places.number.Reads as reads
 use Rattle.rule_writer.proofs.places.number.Lts as lts
 use Prim.Native.Nat.{◌-◌}
 use native.Mathlib.Omega.{arith}
-use Rattle.rule_writer.proofs.Placing.{Numbered, numbered-none, numbered_more, numbered-all}
+use Rattle.rule_writer.proofs.Placing.{Numbered, numbered_none, numbered_more, numbered-all}
 
 abbrev invariant-loop : tie.invariant-loop
 invariant-loop originals places₀ v w k₀ places k = Numbered originals places₀ v w places k
@@ -14,7 +14,7 @@ abbrev decreases-loop : tie.decreases-loop
 decreases-loop originals places₀ v w k₀ places k = k
 
 loop-holds : tie.Need-loop-init invariant-loop decreases-loop
-loop-holds c = numbered-none c.args.originals.now c.args.places.now c.args.v c.args.w c.requires.0 c.requires.1
+loop-holds c = numbered_none c.args.originals.now c.args.places.now c.args.v c.args.w c.requires.0 c.requires.1
 
 sub-k : tie.Need-overflow-sub-k invariant-loop decreases-loop
 sub-k c = omega (arith, c.loop-test.true)

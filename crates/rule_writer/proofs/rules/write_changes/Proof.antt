@@ -7,13 +7,13 @@ use Rattle.rule_writer.proofs.rules.write_changes.Reads as reads
 use Rattle.rule_writer.proofs.rules.write_changes.Lts as lts
 use Rattle.rule_writer.proofs.rules.opposed.Reads as opposed-reads
 use native.Mathlib.Omega.{arith}
-use Rattle.rule_writer.proofs.Writing.{writes-both}
+use Rattle.rule_writer.proofs.Writing.{writes_both}
 
 cast-k-2 : tie.Need-overflow-cast-k-2
 cast-k-2 c = omega (arith, c.shared-slice-known2.given c.before.before.before.before.args.c.variable)
 
 returns : tie.Need-returns
-returns c = writes-both c.before.before.before.before.before.before.opposed.ensures c.before.before.opposed2.ensures
+returns c = writes_both c.before.before.before.before.before.before.opposed.ensures c.before.before.opposed2.ensures
 
 pub write-changes-spec : {M : Type 1} → statement M
 write-changes-spec =

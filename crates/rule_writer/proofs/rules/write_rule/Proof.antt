@@ -2,7 +2,7 @@
 use borrow.Author.Rules.{rules}
 use Rattle.rule_writer.proofs.rules.write_rule.Statement.{statement}
 use Rattle.rule_writer.proofs.rules.write_rule.Tie as tie
-use Rattle.rule_writer.proofs.Writing.{writes-filled, writes-none, writes_as, rule-absent, rule-there}
+use Rattle.rule_writer.proofs.Writing.{writes-filled, writes_none, writes_as, rule-absent, rule-there}
 
 returns : tie.Need-returns
 returns c = writes-filled c.before.before.requires c.if1.true
@@ -10,7 +10,7 @@ returns c = writes-filled c.before.before.requires c.if1.true
 returns-2 : tie.Need-returns-2
 returns-2 c =
     let s = c.before.before.before.before in
-    writes-none s.requires (rule-absent s.args.r c.if2.true)
+    writes_none s.requires (rule-absent s.args.r c.if2.true)
 
 returns-3 : tie.Need-returns-3
 returns-3 c =

@@ -2,7 +2,7 @@
 use native.Mathlib.Omega.{arith}
 use lib.ListN.{length}
 use Rattle.task.specs.Table.{lent}
-use Rattle.run_entry.proofs.RunWays.{result-room, run-free}
+use Rattle.run_entry.proofs.RunWays.{result_room, run_free}
 use borrow.Author.Rules.{rules}
 use Rattle.run_entry.proofs.call.run_lent.Statement.{statement}
 use Rattle.run_entry.proofs.call.run_lent.Tie as tie
@@ -21,14 +21,14 @@ part-run-end c =
 put-result-requires : tie.Need-put-result-requires
 put-result-requires c κs =
     let at_pre = c.before.before.before.before.before.before.before.before.before.before.before.before.before.before.before.before.before.before.before.before.before.before.before.before in
-    result-room at_pre.requires
+    result_room at_pre.requires
 
 returns : tie.Need-returns
 returns c =
     let at-run = c.before.before.before.before.before.before.before.before in
     let at-decode = at-run.before.before.before.before.before.before.before in
     let at-args = at-decode.before.before.before.before.before.before.before.before.before.before.before.before in
-    let a = at-args.args in run-free (lent a.head a.initial.now a.twins.now a.formulas.now a.effects.now a.operators.now)
+    let a = at-args.args in run_free (lent a.head a.initial.now a.twins.now a.formulas.now a.effects.now a.operators.now)
     a.state.now a.sequence.now a.numbers.now a.scratch.now (length a.result.now) _ at-args.requires at-decode.decode.ensures
     at-run.run.ensures c.before.before.put-result.ensures
 

@@ -2,7 +2,7 @@
 use mathlib.Core.Path.{sym, ◌∙◌}
 use lib.ListN.{length}
 use Rattle.task.specs.Table.{lent}
-use Rattle.run_entry.proofs.RunWays.{run-kept, run-refused}
+use Rattle.run_entry.proofs.RunWays.{run_kept, run_refused}
 use borrow.Author.Rules.{rules}
 use Rattle.run_entry.proofs.call.run_read.Statement.{statement}
 use Rattle.run_entry.proofs.call.run_read.Tie as tie
@@ -12,7 +12,7 @@ returns c =
     let at-if1 = c.before.before.before.before in
     let at-refused-run = at-if1.before in
     let at-args = at-refused-run.before.before.before.before.before.before.before.before.before.before.before in
-    let a = at-args.args in run-refused (lent a.head a.initial.now a.twins.now a.formulas.now a.effects.now a.operators.now)
+    let a = at-args.args in run_refused (lent a.head a.initial.now a.twins.now a.formulas.now a.effects.now a.operators.now)
     a.state.now a.sequence.now (length a.result.now) at-args.requires at-refused-run.refused-run.ensures at-if1.if1.true
     c.before.before.clear-bytes.ensures
 
@@ -28,9 +28,9 @@ returns-2 c =
     let at-if1 = at-run-free.before.before.before in
     let at-refused-run = at-if1.before in
     let at-args = at-refused-run.before.before.before.before.before.before.before.before.before.before.before in
-    let a = at-args.args in run-kept (lent a.head a.initial.now a.twins.now a.formulas.now a.effects.now a.operators.now)
+    let a = at-args.args in run_kept (lent a.head a.initial.now a.twins.now a.formulas.now a.effects.now a.operators.now)
     a.state.now a.sequence.now (length a.result.now) at-args.requires at-refused-run.refused-run.ensures at-if1.if1.false
-    at-run-free.run-free.ensures
+    at-run-free.run_free.ensures
 
 pub run-read-spec : {M : Type 1} → statement M
 run-read-spec =

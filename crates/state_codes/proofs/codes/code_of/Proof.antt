@@ -5,7 +5,7 @@ use Prim.Native.Nat.{◌+◌, ◌-◌, ◌≤◌}
 use mathlib.Core.Path.{◌≡◌, sym, ap, ◌∙◌}
 use lib.ListN.{length, drop}
 use Rattle.state_codes.specs.Inner.States.{code as state-code}
-use Rattle.state_codes.proofs.Coding.{code-none, code-more, code_fits}
+use Rattle.state_codes.proofs.Coding.{code_none, code_more, code_fits}
 use Rattle.state_codes.proofs.codes.code_of.Statement.{statement}
 use Rattle.state_codes.proofs.codes.code_of.Tie as tie
 use Rattle.state_codes.proofs.codes.code_of.Reads as reads
@@ -19,7 +19,7 @@ decreases-loop state code₀ v₀ code v = v
 
 -- src/codes.rt:14:5
 loop-holds : tie.Need-loop-init invariant-loop decreases-loop
-loop-holds c = (omega arith, code-none c.args.state.now)
+loop-holds c = (omega arith, code_none c.args.state.now)
 
 -- src/codes.rt:15:9
 sub-v : tie.Need-overflow-sub-v invariant-loop decreases-loop
@@ -41,8 +41,8 @@ cast-code c = omega (arith, c.shared-slice-known.given (c.before.before.loop.v -
 add-code : tie.Need-overflow-add-code invariant-loop decreases-loop
 add-code c =
     let at-loop = c.before.before in
-    let at-start = at-loop.before in
-    omega (arith, c.shared-slice-known.given (at-loop.loop.v - 1), at-loop.loop.invariant, code_fits at-start.requires.0 at-start.requires.1 at-loop.loop.v)
+    let at_start = at-loop.before in
+    omega (arith, c.shared-slice-known.given (at-loop.loop.v - 1), at-loop.loop.invariant, code_fits at_start.requires.0 at_start.requires.1 at-loop.loop.v)
 
 -- src/codes.rt:14:5
 loop-less : tie.Need-loop-smaller invariant-loop decreases-loop
@@ -52,9 +52,9 @@ loop-less c = omega arith
 loop-again : tie.Need-loop-preserved invariant-loop decreases-loop
 loop-again c =
     let at-loop = c.before.before in
-    let at-start = at-loop.before in
+    let at_start = at-loop.before in
     let inv = at-loop.loop.invariant in
-    (omega (arith, inv.0), code-more at-start.args.state.now at-loop.loop.v at-loop.loop.code (omega arith) inv.0 inv.1)
+    (omega (arith, inv.0), code_more at_start.args.state.now at-loop.loop.v at-loop.loop.code (omega arith) inv.0 inv.1)
 
 -- src/codes.rt:8:1
 returns : tie.Need-returns invariant-loop decreases-loop

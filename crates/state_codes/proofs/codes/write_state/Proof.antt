@@ -3,7 +3,7 @@ use native.Mathlib.Omega.{arith}
 use borrow.Author.Rules.{rules}
 use Prim.Native.Nat.{◌-◌}
 use lib.ListN.{length}
-use Rattle.state_codes.proofs.Coding.{Writing, writing-begin, writing_more, written}
+use Rattle.state_codes.proofs.Coding.{Writing, writing_begin, writing_more, written}
 use Rattle.state_codes.proofs.codes.write_state.Statement.{statement}
 use Rattle.state_codes.proofs.codes.write_state.Tie as tie
 use Rattle.state_codes.proofs.codes.write_state.Reads as reads
@@ -17,7 +17,7 @@ decreases-loop code state₀ v₀ state v = length state₀ - v
 
 -- src/codes.rt:27:5
 loop-holds : tie.Need-loop-init invariant-loop decreases-loop
-loop-holds c = writing-begin c.args.code c.args.state.now
+loop-holds c = writing_begin c.args.code c.args.state.now
 
 -- src/codes.rt:28:22
 shr-state : tie.Need-overflow-shr-state invariant-loop decreases-loop

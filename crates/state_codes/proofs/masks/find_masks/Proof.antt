@@ -3,7 +3,7 @@ use mathlib.Core.Path.{◌≡◌}
 use native.Mathlib.Omega.{arith}
 use borrow.Author.Rules.{rules}
 use Prim.Native.Nat.{◌-◌}
-use Rattle.state_codes.proofs.Masking.{Masking, masking-begin, row-ready, masking-more}
+use Rattle.state_codes.proofs.Masking.{Masking, masking_begin, row-ready, masking-more}
 use Rattle.state_codes.proofs.masks.find_masks.Statement.{statement}
 use Rattle.state_codes.proofs.masks.find_masks.Tie as tie
 use Rattle.state_codes.proofs.masks.find_masks.Reads as reads
@@ -19,8 +19,8 @@ decreases-loop effects rows values masks₀ i₀ masks i = rows - i
 -- src/masks.rt:29:5
 loop-holds : tie.Need-loop-init invariant-loop decreases-loop
 loop-holds c =
-    let at-start = c.before.before.before in
-    masking-begin at-start.args.effects.now at-start.args.values.now at-start.args.masks.now at-start.args.rows
+    let at_start = c.before.before.before in
+    masking_begin at_start.args.effects.now at_start.args.values.now at_start.args.masks.now at_start.args.rows
 
 -- src/masks.rt:30:13
 mask-of-requires : tie.Need-mask-of-requires invariant-loop decreases-loop

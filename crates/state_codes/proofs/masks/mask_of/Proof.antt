@@ -2,7 +2,7 @@
 use native.Mathlib.Omega.{arith}
 use Prim.Native.Nat.{◌+◌, ◌*◌}
 use Rattle.task.specs.Table.{row_at}
-use Rattle.state_codes.proofs.Masking.{empty-row, set-ref, set-row, clear-ref, clear-row, both-refs, both-row, under-refs, under-false, under-true}
+use Rattle.state_codes.proofs.Masking.{empty_row, set-ref, set_row, clear-ref, clear_row, both-refs, both_row, under-refs, under-false, under-true}
 use borrow.Author.Rules.{rules}
 use Rattle.state_codes.proofs.masks.mask_of.Statement.{statement}
 use Rattle.state_codes.proofs.masks.mask_of.Tie as tie
@@ -85,88 +85,88 @@ shl-result-2 c = omega (arith, clear-ref c.before.before.before.before.requires 
 mul-result : tie.Need-overflow-mul-result
 unfolding row_at
 mul-result c =
-    let at-start = c.before.before.before.before in
-    omega (arith, both-refs at-start.requires c.match.keys4, at-start.requires.room, at-start.well-formed)
+    let at_start = c.before.before.before.before in
+    omega (arith, both-refs at_start.requires c.match.keys4, at_start.requires.room, at_start.well-formed)
 
 -- src/masks.rt:18:14
 shared-slice-read-result : tie.Need-shared-slice-read-result
 unfolding row_at
 shared-slice-read-result c =
     let at-match = c.before in
-    let at-start = at-match.before.before.before.before in
-    omega (arith, both-refs at-start.requires at-match.match.keys4, at-start.requires.room)
+    let at_start = at-match.before.before.before.before in
+    omega (arith, both-refs at_start.requires at-match.match.keys4, at_start.requires.room)
 
 -- src/masks.rt:18:25
 mul-result-2 : tie.Need-overflow-mul-result-2
 unfolding row_at
 mul-result-2 c =
     let at-match = c.before in
-    let at-start = at-match.before.before.before.before in
-    omega (arith, both-refs at-start.requires at-match.match.keys4, at-start.requires.room, at-start.well-formed)
+    let at_start = at-match.before.before.before.before in
+    omega (arith, both-refs at_start.requires at-match.match.keys4, at_start.requires.room, at_start.well-formed)
 
 -- src/masks.rt:18:25
 shared-slice-read-result-2 : tie.Need-shared-slice-read-result-2
 unfolding row_at
 shared-slice-read-result-2 c =
     let at-match = c.before.before in
-    let at-start = at-match.before.before.before.before in
-    omega (arith, both-refs at-start.requires at-match.match.keys4, at-start.requires.room)
+    let at_start = at-match.before.before.before.before in
+    omega (arith, both-refs at_start.requires at-match.match.keys4, at_start.requires.room)
 
 -- src/masks.rt:19:17
 shared-slice-read-if1 : tie.Need-shared-slice-read-if1
 unfolding row_at
 shared-slice-read-if1 c =
     let at-match = c.before in
-    let at-start = at-match.before.before.before.before in
+    let at_start = at-match.before.before.before.before in
     let rest = at-match.match.rest in
-    omega (arith, under-refs at-start.requires rest.0.0.0.1 rest.0.0.1 rest.0.1 rest.1, at-start.requires.values-there)
+    omega (arith, under-refs at_start.requires rest.0.0.0.1 rest.0.0.1 rest.0.1 rest.1, at_start.requires.values_there)
 
 -- src/masks.rt:19:45
 mul-result-3 : tie.Need-overflow-mul-result-3
 unfolding row_at
 mul-result-3 c =
     let at-match = c.before.before in
-    let at-start = at-match.before.before.before.before in
+    let at_start = at-match.before.before.before.before in
     let rest = at-match.match.rest in
-    omega (arith, under-refs at-start.requires rest.0.0.0.1 rest.0.0.1 rest.0.1 rest.1, at-start.requires.room, at-start.well-formed)
+    omega (arith, under-refs at_start.requires rest.0.0.0.1 rest.0.0.1 rest.0.1 rest.1, at_start.requires.room, at_start.well-formed)
 
 -- src/masks.rt:19:45
 shared-slice-read-result-3 : tie.Need-shared-slice-read-result-3
 unfolding row_at
 shared-slice-read-result-3 c =
     let at-match = c.before.before.before in
-    let at-start = at-match.before.before.before.before in
+    let at_start = at-match.before.before.before.before in
     let rest = at-match.match.rest in
-    omega (arith, under-refs at-start.requires rest.0.0.0.1 rest.0.0.1 rest.0.1 rest.1, at-start.requires.room)
+    omega (arith, under-refs at_start.requires rest.0.0.0.1 rest.0.0.1 rest.0.1 rest.1, at_start.requires.room)
 
 -- src/masks.rt:7:1
 returns : tie.Need-returns
 unfolding row_at
-returns c = empty-row c.before.before.before.before.requires c.match.keys1
+returns c = empty_row c.before.before.before.before.requires c.match.keys1
 
 -- src/masks.rt:7:1
 returns-2 : tie.Need-returns-2
 unfolding row_at
-returns-2 c = set-row c.before.before.before.before.requires c.match.keys2
+returns-2 c = set_row c.before.before.before.before.requires c.match.keys2
 
 -- src/masks.rt:7:1
 returns-3 : tie.Need-returns-3
 unfolding row_at
-returns-3 c = clear-row c.before.before.before.before.requires c.match.keys3
+returns-3 c = clear_row c.before.before.before.before.requires c.match.keys3
 
 -- src/masks.rt:7:1
 returns-4 : tie.Need-returns-4
 unfolding row_at
-returns-4 c = both-row c.before.before.before.before.before.before.requires c.before.before.match.keys4
+returns-4 c = both_row c.before.before.before.before.before.before.requires c.before.before.match.keys4
 
 -- src/masks.rt:7:1
 returns-5 : tie.Need-returns-5
 unfolding row_at
 returns-5 c =
     let at-match = c.before.before in
-    let at-start = at-match.before.before.before.before in
+    let at_start = at-match.before.before.before.before in
     let rest = at-match.match.rest in
-    under-false at-start.requires rest.0.0.0.1 rest.0.0.1 rest.0.1 rest.1 c.if1.true
+    under-false at_start.requires rest.0.0.0.1 rest.0.0.1 rest.0.1 rest.1 c.if1.true
 
 -- src/masks.rt:7:1
 returns-6 : tie.Need-returns-6
@@ -174,9 +174,9 @@ unfolding row_at
 returns-6 c =
     let at-if1 = c.before in
     let at-match = at-if1.before.before in
-    let at-start = at-match.before.before.before.before in
+    let at_start = at-match.before.before.before.before in
     let rest = at-match.match.rest in
-    under-true at-start.requires rest.0.0.0.1 rest.0.0.1 rest.0.1 rest.1 at-if1.if1.false
+    under-true at_start.requires rest.0.0.0.1 rest.0.0.1 rest.0.1 rest.1 at-if1.if1.false
 
 pub mask-of-spec : {M : Type 1} → statement M
 mask-of-spec =

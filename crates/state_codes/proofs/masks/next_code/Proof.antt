@@ -1,6 +1,6 @@
 -- `next_code` meets its contract. Assumes nothing.
 use mathlib.Core.Path.{refl}
-use Rattle.state_codes.specs.Inner.Masks.{next-code}
+use Rattle.state_codes.specs.Inner.Masks.{next_code}
 use borrow.Author.Rules.{rules}
 use Rattle.state_codes.proofs.masks.next_code.Statement.{statement}
 use Rattle.state_codes.proofs.masks.next_code.Tie as tie
@@ -17,7 +17,7 @@ cast-sets c = search rules
 
 -- src/masks.rt:37:1
 returns : tie.Need-returns
-unfolding next-code
+unfolding next_code
 returns c = refl
 
 pub next-code-spec : {M : Type 1} → statement M

@@ -2,7 +2,7 @@
 use native.Mathlib.Omega.{arith}
 use Prim.Native.Nat.{◌≤◌, ◌<◌}
 use mathlib.Core.Path.{refl, sym, ◌∙◌}
-use Rattle.state_queue.specs.Inner.Queue.{key, named-already, named-now, other-stays}
+use Rattle.state_queue.specs.Inner.Queue.{key, named_already, named_now, other_stays}
 use borrow.Author.Rules.{rules}
 use Rattle.state_queue.proofs.nodes.climb.Statement.{statement}
 use Rattle.state_queue.proofs.nodes.climb.Tie as tie
@@ -21,7 +21,7 @@ same_length c = search rules
 
 -- src/nodes.rt:121:9
 returns : tie.Need-returns
-returns c = named-already (sym c.before.winner.ensures ∙ c.if1.true) refl
+returns c = named_already (sym c.before.winner.ensures ∙ c.if1.true) refl
 
 -- src/nodes.rt:123:14
 key-of-requires : tie.Need-key-of-requires
@@ -56,11 +56,11 @@ returns-2 : tie.Need-returns-2
 returns-2 c =
     let at-key-of = c.before in
     let at-winner = at-key-of.before.before.before in
-    let at-start = at-winner.before.before.before in
-    let a = at-start.args in
+    let at_start = at-winner.before.before.before in
+    let a = at_start.args in
     let l : key a.words.now a.n a.state < key a.words.now a.n at-winner.winner.result =
-    omega (arith, c.if2.true, at-key-of.key_of.ensures, at-start.requires.2) in
-    named-now (rw at-winner.winner.ensures at l) refl
+    omega (arith, c.if2.true, at-key-of.key_of.ensures, at_start.requires.2) in
+    named_now (rw at-winner.winner.ensures at l) refl
 
 -- src/nodes.rt:115:1
 same-length-3 : tie.Need-same-length-3
@@ -72,11 +72,11 @@ returns-3 c =
     let at-key-of = c.before in
     let at-if1 = at-key-of.before.before in
     let at-winner = at-if1.before in
-    let at-start = at-winner.before.before.before in
-    let a = at-start.args in
+    let at_start = at-winner.before.before.before in
+    let a = at_start.args in
     let l : key a.words.now a.n at-winner.winner.result ≤ key a.words.now a.n a.state =
-    omega (arith, c.if2.false, at-key-of.key_of.ensures, at-start.requires.2) in
-    other-stays (λ z. at-if1.if1.false (at-winner.winner.ensures ∙ z)) (rw at-winner.winner.ensures at l) refl
+    omega (arith, c.if2.false, at-key-of.key_of.ensures, at_start.requires.2) in
+    other_stays (λ z. at-if1.if1.false (at-winner.winner.ensures ∙ z)) (rw at-winner.winner.ensures at l) refl
 
 pub climb-spec : {M : Type 1} → statement M
 climb-spec =

@@ -1,6 +1,6 @@
 -- `is_queued` meets its contract. Assumes nothing.
 use borrow.Author.Rules.{rules}
-use Rattle.state_queue.proofs.Keys.{is-queued}
+use Rattle.state_queue.proofs.Keys.{is_queued}
 use Rattle.state_queue.proofs.nodes.is_queued.Statement.{statement}
 use Rattle.state_queue.proofs.nodes.is_queued.Tie as tie
 use Rattle.state_queue.proofs.nodes.is_queued.Reads as reads
@@ -17,7 +17,7 @@ sub-result c = search rules
 
 -- src/nodes.rt:18:1
 returns : tie.Need-returns
-returns c = is-queued c.before.args.word c.queue-cost.result c.queue-cost.ensures
+returns c = is_queued c.before.args.word c.queue_cost.result c.queue_cost.ensures
 
 pub is-queued-spec : {M : Type 1} → statement M
 is-queued-spec = tie.close (tie.spec queue-cost-requires sub-result returns)

@@ -1,7 +1,7 @@
 -- `key_of` meets its contract: the cost above the steps. Assumes nothing.
 use native.Mathlib.Omega.{arith}
 use Prim.Native.Nat.{◌+◌}
-use Rattle.state_queue.proofs.Keys.{key-made}
+use Rattle.state_queue.proofs.Keys.{key_made}
 use borrow.Author.Rules.{rules}
 use Rattle.state_queue.proofs.nodes.key_of.Statement.{statement}
 use Rattle.state_queue.proofs.nodes.key_of.Tie as tie
@@ -51,13 +51,13 @@ cast-result-2 c =
 add-result-2 : tie.Need-overflow-add-result-2
 add-result-2 c =
     let a = c.before.before.before.before.args in
-    omega (arith, c.shared-slice-known3.given (a.n + a.s), c.before.queue-cost.type-inv)
+    omega (arith, c.shared-slice-known3.given (a.n + a.s), c.before.queue_cost.type-inv)
 
 -- src/nodes.rt:27:1
 returns : tie.Need-returns
 returns c =
     let a = c.before.before.before.before.args in
-    key-made a.words.now a.n a.s c.before.queue-cost.ensures
+    key_made a.words.now a.n a.s c.before.queue_cost.ensures
 
 pub key-of-spec : {M : Type 1} → statement M
 key-of-spec =

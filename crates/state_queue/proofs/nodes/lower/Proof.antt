@@ -2,8 +2,8 @@
 use native.Mathlib.Omega.{arith}
 use Prim.Native.Nat.{◌<◌}
 use borrow.Author.Rules.{rules}
-use Rattle.state_queue.proofs.Playing.{roomy-on}
-use Rattle.state_queue.proofs.Lowering.{Lowering, lowering-begin, beside-bottom, lowering-other, lowering-named, lowering-on, lowered}
+use Rattle.state_queue.proofs.Playing.{roomy_on}
+use Rattle.state_queue.proofs.Lowering.{Lowering, lowering_begin, beside_bottom, lowering-other, lowering-named, lowering-on, lowered}
 use Rattle.state_queue.proofs.nodes.lower.Statement.{statement}
 use Rattle.state_queue.proofs.nodes.lower.Tie as tie
 use Rattle.state_queue.proofs.nodes.lower.Reads as reads
@@ -28,22 +28,22 @@ add-node c = search rules
 
 -- src/nodes.rt:100:5
 loop-holds : tie.Need-loop-init invariant-loop decreases-loop
-loop-holds c = lowering-begin c.before.before.before.requires.1 c.key_of.ensures
+loop-holds c = lowering_begin c.before.before.before.requires.1 c.key_of.ensures
 
 -- src/nodes.rt:101:13
 sibling-requires : tie.Need-sibling-requires invariant-loop decreases-loop
 sibling-requires c κs =
     let at-loop = c.before in
-    let at-start = at-loop.before.before.before.before in
-    (omega arith, omega (arith, at-loop.loop.invariant.bottom, at-start.requires.0.limit))
+    let at_start = at-loop.before.before.before.before in
+    (omega arith, omega (arith, at-loop.loop.invariant.bottom, at_start.requires.0.limit))
 
 -- src/nodes.rt:102:13
 winner-requires : tie.Need-winner-requires invariant-loop decreases-loop
 winner-requires c κs =
     let at-sibling = c.before in
     let at-loop = at-sibling.before.before in
-    let at-start = at-loop.before.before.before.before in
-    (roomy-on at-start.requires.0 at-loop.loop.invariant.playing.long, beside-bottom at-start.args.n at-sibling.sibling.ensures at-loop.loop.invariant.bottom)
+    let at_start = at-loop.before.before.before.before in
+    (roomy_on at_start.requires.0 at-loop.loop.invariant.playing.long, beside_bottom at_start.args.n at-sibling.sibling.ensures at-loop.loop.invariant.bottom)
 
 -- src/nodes.rt:103:13
 key-of-requires-2 : tie.Need-key-of-requires-2 invariant-loop decreases-loop
@@ -51,8 +51,8 @@ key-of-requires-2 c κs =
     let at-winner = c.before in
     let at-sibling = at-winner.before.before in
     let at-loop = at-sibling.before.before in
-    let at-start = at-loop.before.before.before.before in (
-      roomy-on at-start.requires.0 at-loop.loop.invariant.playing.long,
+    let at_start = at-loop.before.before.before.before in (
+      roomy_on at_start.requires.0 at-loop.loop.invariant.playing.long,
       lowering-other at-loop.loop.invariant (omega arith) at-sibling.sibling.ensures at-winner.winner.ensures,
     )
 
@@ -63,10 +63,10 @@ cast-words c =
     let at-winner = at-key-of2.before.before in
     let at-sibling = at-winner.before.before in
     let at-loop = at-sibling.before.before in
-    let at-start = at-loop.before.before.before.before in
-    let named : c.before.if1.first < at-start.args.n =
+    let at_start = at-loop.before.before.before.before in
+    let named : c.before.if1.first < at_start.args.n =
     lowering-named at-loop.loop.invariant (omega arith) at-sibling.sibling.ensures at-winner.winner.ensures (λ a. a.taken) (λ b. b.left) c.before.if1.branch in
-    omega (arith, named, at-start.requires.0.limit)
+    omega (arith, named, at_start.requires.0.limit)
 
 -- src/nodes.rt:109:15
 mul_words : tie.Need-overflow-mul-words invariant-loop decreases-loop
@@ -76,22 +76,22 @@ mul_words c = search rules
 add_words : tie.Need-overflow-add-words invariant-loop decreases-loop
 add_words c =
     let at-loop = c.before.before.before.before.before.before.before.before in
-    let at-start = at-loop.before.before.before.before in
-    omega (arith, at-loop.loop.invariant.bottom, at-start.requires.0.limit)
+    let at_start = at-loop.before.before.before.before in
+    omega (arith, at-loop.loop.invariant.bottom, at_start.requires.0.limit)
 
 -- src/nodes.rt:109:9
 mul-words-2 : tie.Need-overflow-mul-words-2 invariant-loop decreases-loop
 mul-words-2 c =
     let at-loop = c.before.before.before.before.before.before.before.before in
-    let at-start = at-loop.before.before.before.before in
-    omega (arith, at-loop.loop.invariant.bottom, at-start.requires.0.limit)
+    let at_start = at-loop.before.before.before.before in
+    omega (arith, at-loop.loop.invariant.bottom, at_start.requires.0.limit)
 
 -- src/nodes.rt:109:9
 slice-write-words : tie.Need-slice-write-words invariant-loop decreases-loop
 slice-write-words c =
     let at-loop = c.before.before.before.before.before.before.before.before in
-    let at-start = at-loop.before.before.before.before in
-    omega (arith, at-loop.loop.invariant.bottom, at-loop.loop.invariant.playing.long, at-start.requires.0.room)
+    let at_start = at-loop.before.before.before.before in
+    omega (arith, at-loop.loop.invariant.bottom, at-loop.loop.invariant.playing.long, at_start.requires.0.room)
 
 -- src/nodes.rt:100:5
 loop-less : tie.Need-loop-smaller invariant-loop decreases-loop
@@ -104,8 +104,8 @@ loop-again c =
     let at-winner = at-key-of2.before.before in
     let at-sibling = at-winner.before.before in
     let at-loop = at-sibling.before.before in
-    let at-start = at-loop.before.before.before.before in
-    let roomy = roomy-on at-start.requires.0 at-loop.loop.invariant.playing.long in
+    let at_start = at-loop.before.before.before.before in
+    let roomy = roomy_on at_start.requires.0 at-loop.loop.invariant.playing.long in
     lowering-on at-loop.loop.invariant (omega arith) at-sibling.sibling.ensures at-winner.winner.ensures (λ a. a.taken) (λ b. b.left) roomy
     at-key-of2.key-of2.ensures c.before.if1.branch
 

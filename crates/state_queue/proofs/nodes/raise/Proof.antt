@@ -3,9 +3,9 @@ use native.Mathlib.Omega.{arith}
 use mathlib.Core.Path.{sym, ◌∙◌}
 use borrow.Author.Rules.{rules}
 use borrow.Author.Tests.{not-true, not-false}
-use Rattle.state_queue.proofs.Keys.{key-front}
-use Rattle.state_queue.proofs.Playing.{roomy-on}
-use Rattle.state_queue.proofs.Raising.{Raising, raising-begin, raising-climbs, raising-climbed, raising-stopped, raised}
+use Rattle.state_queue.proofs.Keys.{key_front}
+use Rattle.state_queue.proofs.Playing.{roomy_on}
+use Rattle.state_queue.proofs.Raising.{Raising, raising_begin, raising_climbs, raising_climbed, raising_stopped, raised}
 use Rattle.state_queue.proofs.nodes.raise.Statement.{statement}
 use Rattle.state_queue.proofs.nodes.raise.Tie as tie
 use Rattle.state_queue.proofs.nodes.raise.Reads as reads
@@ -29,17 +29,17 @@ add-node c = search rules
 
 -- src/nodes.rt:137:5
 loop-holds : tie.Need-loop-init invariant-loop decreases-loop
-loop-holds c = raising-begin c.before.before.before.requires.1
+loop-holds c = raising_begin c.before.before.before.requires.1
 
 -- src/nodes.rt:138:13
 climb-requires : tie.Need-climb-requires invariant-loop decreases-loop
 climb-requires c κs =
     let at-loop = c.before.before in
     let at-key-of = at-loop.before in
-    let at-start = at-key-of.before.before.before in
+    let at_start = at-key-of.before.before.before in
     let inv = at-loop.loop.invariant in
-    let same = key-front at-start.args.words.now at-loop.loop.words inv.front at-start.args.state inv.there in
-    (roomy-on at-start.requires.0 inv.long, raising-climbs inv (omega arith), at-key-of.key_of.ensures ∙ sym same)
+    let same = key_front at_start.args.words.now at-loop.loop.words inv.front at_start.args.state inv.there in
+    (roomy_on at_start.requires.0 inv.long, raising_climbs inv (omega arith), at-key-of.key_of.ensures ∙ sym same)
 
 -- src/nodes.rt:139:13
 same_length : tie.Need-same-length invariant-loop decreases-loop
@@ -50,7 +50,7 @@ returns : tie.Need-returns invariant-loop decreases-loop
 returns c =
     let at-climb = c.before.before.before in
     let at-loop = at-climb.before.before.before in
-    raising-stopped at-loop.loop.invariant (omega arith) (rw (not-true at-climb.climb.result c.if1.true) at at-climb.climb.ensures)
+    raising_stopped at-loop.loop.invariant (omega arith) (rw (not-true at-climb.climb.result c.if1.true) at at-climb.climb.ensures)
 
 -- src/nodes.rt:137:5
 loop-less : tie.Need-loop-smaller invariant-loop decreases-loop
@@ -61,8 +61,8 @@ loop-again : tie.Need-loop-preserved invariant-loop decreases-loop
 loop-again c =
     let at-climb = c.before.before.before in
     let at-loop = at-climb.before.before.before in
-    let at-start = at-loop.before.before.before.before in
-    raising-climbed at-loop.loop.invariant (roomy-on at-start.requires.0 at-loop.loop.invariant.long) (omega arith)
+    let at_start = at-loop.before.before.before.before in
+    raising_climbed at-loop.loop.invariant (roomy_on at_start.requires.0 at-loop.loop.invariant.long) (omega arith)
     (rw (not-false at-climb.climb.result c.if1.false) at at-climb.climb.ensures)
 
 -- src/nodes.rt:131:1

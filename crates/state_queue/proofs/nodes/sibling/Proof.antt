@@ -1,7 +1,7 @@
 -- `sibling` meets its contract: the other child of the node above. Assumes nothing.
 use native.Mathlib.Omega.{arith}
 use Prim.Native.Nat.{◌+◌, ◌-◌}
-use Rattle.state_queue.specs.Inner.Queue.{right_of, left-of}
+use Rattle.state_queue.specs.Inner.Queue.{right_of, left_of}
 use borrow.Author.Rules.{rules}
 use Rattle.state_queue.proofs.nodes.sibling.Statement.{statement}
 use Rattle.state_queue.proofs.nodes.sibling.Tie as tie
@@ -22,7 +22,7 @@ sub-result c = search rules
 
 -- src/nodes.rt:81:1
 returns-2 : tie.Need-returns-2
-returns-2 c = left-of (c.before.args.node - 1) (omega (arith, c.if1.false)) (omega (arith, c.if1.false))
+returns-2 c = left_of (c.before.args.node - 1) (omega (arith, c.if1.false)) (omega (arith, c.if1.false))
 
 pub sibling-spec : {M : Type 1} → statement M
 sibling-spec = tie.close (tie.spec add-result returns sub-result returns-2)

@@ -2,7 +2,7 @@
 use borrow.Author.Rules.{rules}
 use native.Mathlib.Omega.{arith}
 use Prim.Native.Nat.{◌+◌, ◌*◌}
-use Rattle.state_queue.proofs.Keys.{winner-state, winner-node}
+use Rattle.state_queue.proofs.Keys.{winner_state, winner_node}
 use Rattle.state_queue.proofs.nodes.winner.Statement.{statement}
 use Rattle.state_queue.proofs.nodes.winner.Tie as tie
 use Rattle.state_queue.proofs.nodes.winner.Reads as reads
@@ -10,7 +10,7 @@ use Rattle.state_queue.proofs.nodes.winner.Lts as lts
 
 -- src/nodes.rt:43:9
 returns : tie.Need-returns
-returns c = winner-state c.before.args.words.now c.before.args.n c.before.args.node c.if1.true
+returns c = winner_state c.before.args.words.now c.before.args.n c.before.args.node c.if1.true
 
 -- src/nodes.rt:45:11
 mul-result : tie.Need-overflow-mul-result
@@ -38,7 +38,7 @@ cast-result c =
 returns-2 : tie.Need-returns-2
 returns-2 c =
     let s = c.before.before in
-    winner-node s.args.words.now s.args.n s.args.node (omega arith)
+    winner_node s.args.words.now s.args.n s.args.node (omega arith)
 
 pub winner-spec : {M : Type 1} → statement M
 winner-spec =

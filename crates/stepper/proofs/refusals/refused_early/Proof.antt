@@ -3,7 +3,7 @@ use borrow.Author.Rules.{rules}
 use Rattle.stepper.proofs.refusals.refused_early.Statement.{statement}
 use Rattle.stepper.proofs.refusals.refused_early.Tie as tie
 use borrow.Author.Tests.{not-true, not-false}
-use Rattle.stepper.proofs.Refusing.{refused-tables, refused-length, refused-bits, refused-room, not-refused}
+use Rattle.stepper.proofs.Refusing.{refused-tables, refused-length, refused-bits, refused-room, not_refused}
 
 returns : tie.Need-returns
 returns c = refused-tables _ _ _ _ c.before.check.ensures c.if1.true
@@ -35,7 +35,7 @@ returns-5 c =
     let at-if2 = at_bits.before in
     let at-if1 = at-if2.before.before in
     let at-check = at-if1.before in
-    not-refused _ _ _ _ at-check.check.ensures at-if1.if1.false at-if2.if2.false _ at_bits.bits.ensures
+    not_refused _ _ _ _ at-check.check.ensures at-if1.if1.false at-if2.if2.false _ at_bits.bits.ensures
     (not-false at_bits.bits.result at-if3.if3.false) c.if4.false
 
 pub refused-early-spec : {M : Type 1} → statement M

@@ -3,8 +3,8 @@ use borrow.Author.Rules.{rules}
 use Rattle.stepper.proofs.single.step_ready.Statement.{statement}
 use Rattle.stepper.proofs.single.step_ready.Tie as tie
 use mathlib.Core.Path.{◌∙◌}
-use Rattle.operator_step.proofs.Taking.{valuable, goal-told, ready-again}
-use Rattle.operator_step.proofs.Going.{taken-ready}
+use Rattle.operator_step.proofs.Taking.{valuable, goal_told, ready_again}
+use Rattle.operator_step.proofs.Going.{taken_ready}
 use Rattle.stepper.proofs.Calls.{step-stopped, step-finished}
 
 returns : tie.Need-returns
@@ -14,7 +14,7 @@ holds-requires : tie.Need-holds-requires
 holds-requires c κs =
     let at_take = c.before.before.before.before.before.before.before.before.before in
     let at_pre = at_take.before.before.before.before.before.before.before.before in
-    valuable (ready-again at_pre.requires (taken-ready at_take.take.ensures.0 at_pre.requires.state) at_take.take.auto.1.1.1.1.1.1.0)
+    valuable (ready_again at_pre.requires (taken_ready at_take.take.ensures.0 at_pre.requires.state) at_take.take.auto.1.1.1.1.1.1.0)
     at_pre.requires.tables.goal
 
 returns-2 : tie.Need-returns-2
@@ -23,7 +23,7 @@ returns-2 c =
     let at_take = at-if1.before.before.before.before.before.before in
     let at_pre = at_take.before.before.before.before.before.before.before.before in
     step-finished at_take.take.ensures.0 at-if1.if1.false
-    (c.before.before.holds.ensures.0 ∙ goal-told at_pre.requires (taken-ready at_take.take.ensures.0 at_pre.requires.state))
+    (c.before.before.holds.ensures.0 ∙ goal_told at_pre.requires (taken_ready at_take.take.ensures.0 at_pre.requires.state))
 
 pub step-ready-spec : {M : Type 1} → statement M
 step-ready-spec =

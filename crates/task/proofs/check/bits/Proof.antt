@@ -7,7 +7,7 @@ use lib.ListN.{length, get_or}
 use lib.Dec.{leb}
 use borrow.Author.Tests.{le-leb, lt-leb}
 use Rattle.task.specs.Bounded.{every}
-use Rattle.task.proofs.Bounded.{every-none, every_more, every-stops, every-ends}
+use Rattle.task.proofs.Bounded.{every_none, every_more, every_stops, every_ends}
 use Rattle.task.proofs.check.bits.Statement.{statement}
 use Rattle.task.proofs.check.bits.Tie as tie
 
@@ -18,16 +18,16 @@ abbrev decreases-loop : tie.decreases-loop
 decreases-loop bytes v₀ v = length bytes - v
 
 loop-holds : tie.Need-loop-init invariant-loop decreases-loop
-loop-holds c = (omega arith, every-none _)
+loop-holds c = (omega arith, every_none _)
 
 returns : tie.Need-returns invariant-loop decreases-loop
-returns c = every-stops _ _ _ c.before.before.loop-test.true (lt-leb _ _ c.if1.true)
+returns c = every_stops _ _ _ c.before.before.loop-test.true (lt-leb _ _ c.if1.true)
 
 loop-again : tie.Need-loop-preserved invariant-loop decreases-loop
 loop-again c = (omega arith, every_more _ _ c.before.before.before.loop.invariant.1 (le-leb _ _ c.if1.false))
 
 returns-2 : tie.Need-returns-2 invariant-loop decreases-loop
-returns-2 c = every-ends _ _ _ c.before.loop.invariant.0 c.loop-test.false c.before.loop.invariant.1
+returns-2 c = every_ends _ _ _ c.before.loop.invariant.0 c.loop-test.false c.before.loop.invariant.1
 
 pub bits-spec : {M : Type 1} → statement M
 bits-spec =

@@ -1,7 +1,7 @@
 -- `row_number` meets its contract: the number of the rule which a row breaks. Assumes nothing.
 use mathlib.Core.Path.{◌≡◌, ap, ◌∙◌}
 use mathlib.Core.Bool.{Bool}
-use Rattle.task.specs.Check.{unless, formula-kept, effect-kept}
+use Rattle.task.specs.Check.{unless, formula_kept, effect_kept}
 use borrow.Author.Rules.{rules}
 use Rattle.task.proofs.check.row_number.Statement.{statement}
 use Rattle.task.proofs.check.row_number.Tie as tie
@@ -58,17 +58,17 @@ operator-number-requires c κs = search rules
 
 -- src/check.rt:70:1
 returns : tie.Need-returns
-unfolding formula-kept
-returns c = rw c.before.before.enum_told.given.1 (c.unless.ensures ∙ ap (λ (b : Bool). unless b 10 0) c.before.formula-kept.ensures)
+unfolding formula_kept
+returns c = rw c.before.before.enum_told.given.1 (c.unless.ensures ∙ ap (λ (b : Bool). unless b 10 0) c.before.formula_kept.ensures)
 
 -- src/check.rt:70:1
 returns-2 : tie.Need-returns-2
-unfolding effect-kept
-returns-2 c = rw c.before.before.enum-told2.given.1 (c.unless2.ensures ∙ ap (λ (b : Bool). unless b 11 0) c.before.effect-kept.ensures)
+unfolding effect_kept
+returns-2 c = rw c.before.before.enum-told2.given.1 (c.unless2.ensures ∙ ap (λ (b : Bool). unless b 11 0) c.before.effect_kept.ensures)
 
 -- src/check.rt:70:1
 returns-3 : tie.Need-returns-3
-returns-3 c = rw c.before.before.enum-told3.given.1 c.operator-number.ensures
+returns-3 c = rw c.before.before.enum-told3.given.1 c.operator_number.ensures
 
 pub row-number-spec : {M : Type 1} → statement M
 row-number-spec =

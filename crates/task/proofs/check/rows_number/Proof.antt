@@ -2,11 +2,11 @@
 use Prim.Native.Nat.{◌≤◌, ◌-◌}
 use native.Mathlib.Omega.{arith}
 use mathlib.Core.Path.{◌≡◌, ◌∙◌}
-use Rattle.task.specs.Bounded.{first-number}
+use Rattle.task.specs.Bounded.{first_number}
 use Rattle.task.specs.Inner.Tables.{row_number}
-use Rattle.task.proofs.Bounded.{first-none, first_more, first_stops, first_ends}
-use Rattle.task.proofs.Refusals.{row-tested}
-use Rattle.task.proofs.Stores.{row-there}
+use Rattle.task.proofs.Bounded.{first_none, first_more, first_stops, first_ends}
+use Rattle.task.proofs.Refusals.{row_tested}
+use Rattle.task.proofs.Stores.{row_there}
 use borrow.Author.Rules.{rules}
 use Rattle.task.proofs.check.rows_number.Statement.{statement}
 use Rattle.task.proofs.check.rows_number.Tie as tie
@@ -16,21 +16,21 @@ use Rattle.task.proofs.check.row_number.Reads as row-number-reads
 use Rattle.task.proofs.table_rows.row_at.Reads as row-at-reads
 
 abbrev invariant-loop : tie.invariant-loop
-invariant-loop table head words count i₀ i = (i ≤ count) × (first-number i (row_number table head words) ≡ 0)
+invariant-loop table head words count i₀ i = (i ≤ count) × (first_number i (row_number table head words) ≡ 0)
 
 abbrev decreases-loop : tie.decreases-loop
 decreases-loop table head words count i₀ i = count - i
 
 -- src/check.rt:101:5
 loop-holds : tie.Need-loop-init invariant-loop decreases-loop
-loop-holds c = (omega arith, first-none _)
+loop-holds c = (omega arith, first_none _)
 
 -- src/check.rt:102:13
 row-at-requires : tie.Need-row-at-requires invariant-loop decreases-loop
 row-at-requires c κs =
     let at-loop-test = c in
-    let at-start = at-loop-test.before.before.before in
-    row-there at-start.args.table at-loop-test.loop-test.true at-start.requires
+    let at_start = at-loop-test.before.before.before in
+    row_there at_start.args.table at-loop-test.loop-test.true at_start.requires
 
 -- src/check.rt:103:13
 row-number-requires : tie.Need-row-number-requires invariant-loop decreases-loop
@@ -43,9 +43,9 @@ returns c =
     let at-row-at = at-row-number.before in
     let at-loop-test = at-row-at.before in
     let at-loop = at-loop-test.before in
-    let at-start = at-loop.before.before in
-    let a = at-start.args in
-    let told = row-tested a.table a.head a.words.now at-loop.loop.i at-row-at.row_at.ensures at-row-number.row_number.ensures in
+    let at_start = at-loop.before.before in
+    let a = at_start.args in
+    let told = row_tested a.table a.head a.words.now at-loop.loop.i at-row-at.row_at.ensures at-row-number.row_number.ensures in
     first_stops _ _ _ _ at-loop.loop.invariant.1 at-loop-test.loop-test.true told c.if1.true
 
 -- src/check.rt:107:9
@@ -63,9 +63,9 @@ loop-again c =
     let at-row-number = at-if1.before in
     let at-row-at = at-row-number.before in
     let at-loop = at-row-at.before.before in
-    let at-start = at-loop.before.before in
-    let a = at-start.args in
-    let told = row-tested a.table a.head a.words.now at-loop.loop.i at-row-at.row_at.ensures at-row-number.row_number.ensures in
+    let at_start = at-loop.before.before in
+    let a = at_start.args in
+    let told = row_tested a.table a.head a.words.now at-loop.loop.i at-row-at.row_at.ensures at-row-number.row_number.ensures in
     (omega arith, first_more _ _ at-loop.loop.invariant.1 (told ∙ at-if1.if1.false))
 
 -- src/check.rt:96:1

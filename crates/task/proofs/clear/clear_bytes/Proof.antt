@@ -4,7 +4,7 @@ use Rattle.task.proofs.clear.clear_bytes.Tie as tie
 use Prim.Native.Nat.{◌-◌}
 use native.Mathlib.Omega.{arith}
 use lib.ListN.{length}
-use Rattle.task.proofs.Cleared.{Cleared, cleared-none, cleared_more, cleared-all}
+use Rattle.task.proofs.Cleared.{Cleared, cleared_none, cleared_more, cleared-all}
 
 abbrev invariant-loop : tie.invariant-loop
 invariant-loop bytes₀ i₀ bytes i = Cleared bytes₀ bytes i
@@ -13,7 +13,7 @@ abbrev decreases-loop : tie.decreases-loop
 decreases-loop bytes₀ i₀ bytes i = length bytes₀ - i
 
 loop-holds : tie.Need-loop-init invariant-loop decreases-loop
-loop-holds c = cleared-none c.args.bytes.now
+loop-holds c = cleared_none c.args.bytes.now
 
 add-i : tie.Need-overflow-add-i invariant-loop decreases-loop
 add-i c = omega (arith, c.before.loop.invariant)

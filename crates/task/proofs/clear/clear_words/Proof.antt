@@ -4,7 +4,7 @@ use Rattle.task.proofs.clear.clear_words.Tie as tie
 use Prim.Native.Nat.{◌-◌}
 use native.Mathlib.Omega.{arith}
 use lib.ListN.{length}
-use Rattle.task.proofs.Cleared.{Cleared, cleared-none, cleared_more, cleared-all}
+use Rattle.task.proofs.Cleared.{Cleared, cleared_none, cleared_more, cleared-all}
 
 abbrev invariant-loop : tie.invariant-loop
 invariant-loop words₀ i₀ words i = Cleared words₀ words i
@@ -13,7 +13,7 @@ abbrev decreases-loop : tie.decreases-loop
 decreases-loop words₀ i₀ words i = length words₀ - i
 
 loop-holds : tie.Need-loop-init invariant-loop decreases-loop
-loop-holds c = cleared-none c.args.words.now
+loop-holds c = cleared_none c.args.words.now
 
 mul_words : tie.Need-overflow-mul-words invariant-loop decreases-loop
 mul_words c = omega (arith, c.before.before.well-formed)

@@ -1,35 +1,35 @@
 -- `long_enough` meets its contract: constant time: only the lengths are looked at. Assumes nothing.
-use Rattle.task.proofs.Refusals.{lengths-last}
+use Rattle.task.proofs.Refusals.{lengths_last}
 use mathlib.Core.Path.{refl}
-use mathlib.Core.Bool.{and-false}
+use mathlib.Core.Bool.{and_false}
 use borrow.Author.Tests.{lt-leb, le-leb}
-use Rattle.task.specs.Check.{long-enough, room}
+use Rattle.task.specs.Check.{long_enough, room}
 use borrow.Author.Rules.{rules}
 use Rattle.task.proofs.lengths.long_enough.Statement.{statement}
 use Rattle.task.proofs.lengths.long_enough.Tie as tie
 
 returns : tie.Need-returns
-unfolding long-enough room
+unfolding long_enough room
 returns c = simp (lt-leb _ _ c.if1.true)
 
 returns-2 : tie.Need-returns-2
-unfolding long-enough room
-returns-2 c = simp (lt-leb _ _ c.if2.true, and-false)
+unfolding long_enough room
+returns-2 c = simp (lt-leb _ _ c.if2.true, and_false)
 
 returns-3 : tie.Need-returns-3
-unfolding long-enough room
-returns-3 c = simp (lt-leb _ _ c.if3.true, and-false)
+unfolding long_enough room
+returns-3 c = simp (lt-leb _ _ c.if3.true, and_false)
 
 returns-4 : tie.Need-returns-4
-unfolding long-enough room
-returns-4 c = simp (lt-leb _ _ c.if4.true, and-false)
+unfolding long_enough room
+returns-4 c = simp (lt-leb _ _ c.if4.true, and_false)
 
 returns-5 : tie.Need-returns-5
 returns-5 c =
     let at-if3 = c.before.before.before in
     let at-if2 = at-if3.before.before in
     let at-if1 = at-if2.before.before in
-    lengths-last _ at-if1.if1.false at-if2.if2.false at-if3.if3.false c.before.if4.false
+    lengths_last _ at-if1.if1.false at-if2.if2.false at-if3.if3.false c.before.if4.false
 
 pub long-enough-spec : {M : Type 1} → statement M
 long-enough-spec =

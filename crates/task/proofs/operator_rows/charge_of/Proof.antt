@@ -3,7 +3,7 @@ use Prim.Native.Nat.{◌*◌, ◌≤◌}
 use native.Mathlib.Nat.{mul-le-mul}
 use native.Mathlib.Omega.{arith}
 use mathlib.Core.Path.{refl}
-use Rattle.task.specs.Run.{charge-of}
+use Rattle.task.specs.Run.{charge_of}
 use borrow.Author.Rules.{rules}
 use Rattle.task.proofs.operator_rows.charge_of.Statement.{statement}
 use Rattle.task.proofs.operator_rows.charge_of.Tie as tie
@@ -33,7 +33,7 @@ mul-result : tie.Need-overflow-mul-result
 mul-result c =
     let at-percent-of = c in
     let at-cost-of = at-percent-of.before in
-    let low : at-cost-of.cost-of.result * at-percent-of.percent-of.result ≤ 65535 * 65535 = mul-le-mul {n₂ = 65535} {m₂ = 65535} (omega arith) (omega arith) in
+    let low : at-cost-of.cost_of.result * at-percent-of.percent-of.result ≤ 65535 * 65535 = mul-le-mul {n₂ = 65535} {m₂ = 65535} (omega arith) (omega arith) in
     omega arith
 
 -- src/operator_rows.rt:53:6
@@ -41,16 +41,16 @@ add-result : tie.Need-overflow-add-result
 add-result c =
     let at-percent-of = c in
     let at-cost-of = at-percent-of.before in
-    let low : at-cost-of.cost-of.result * at-percent-of.percent-of.result ≤ 65535 * 65535 = mul-le-mul {n₂ = 65535} {m₂ = 65535} (omega arith) (omega arith) in
+    let low : at-cost-of.cost_of.result * at-percent-of.percent-of.result ≤ 65535 * 65535 = mul-le-mul {n₂ = 65535} {m₂ = 65535} (omega arith) (omega arith) in
     omega arith
 
 -- src/operator_rows.rt:47:1
 returns : tie.Need-returns
-unfolding charge-of
+unfolding charge_of
 returns c =
     let at-percent-of = c in
     let at-cost-of = at-percent-of.before in
-    rw (at-cost-of.cost-of.ensures, at-percent-of.percent-of.ensures) refl
+    rw (at-cost-of.cost_of.ensures, at-percent-of.percent-of.ensures) refl
 
 pub charge-of-spec : {M : Type 1} → statement M
 charge-of-spec =

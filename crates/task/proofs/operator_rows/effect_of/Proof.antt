@@ -1,12 +1,12 @@
 -- `effect_of` meets its contract: the effect of operator o. Assumes nothing.
 use mathlib.Core.Path.{refl}
-use Rattle.task.specs.Table.{operator-at}
+use Rattle.task.specs.Table.{operator_at}
 use borrow.Author.Rules.{rules}
 use Rattle.task.proofs.operator_rows.effect_of.Statement.{statement}
 use Rattle.task.proofs.operator_rows.effect_of.Tie as tie
 
 returns : tie.Need-returns
-unfolding operator-at
+unfolding operator_at
 returns c = refl
 
 pub effect-of-spec : {M : Type 1} → statement M

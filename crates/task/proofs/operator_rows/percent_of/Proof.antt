@@ -1,6 +1,6 @@
 -- `percent_of` meets its contract: the percent of operator o. Assumes nothing.
 use mathlib.Core.Path.{refl}
-use Rattle.task.specs.Table.{operator-at}
+use Rattle.task.specs.Table.{operator_at}
 use borrow.Author.Rules.{rules}
 use Rattle.task.proofs.operator_rows.percent_of.Statement.{statement}
 use Rattle.task.proofs.operator_rows.percent_of.Tie as tie
@@ -25,7 +25,7 @@ shared-slice-read-result c = search rules
 
 -- src/operator_rows.rt:39:1
 returns : tie.Need-returns
-unfolding operator-at
+unfolding operator_at
 returns c = refl
 
 pub percent-of-spec : {M : Type 1} → statement M

@@ -1,7 +1,7 @@
 -- `store_with_parts` meets its contract: stores operator o of another table with this precondition and this effect. Assumes nothing.
 use mathlib.Core.Path.{◌∙◌}
 use Rattle.task.specs.Table.{operator}
-use Rattle.task.specs.Inner.Stored.{operator-stored}
+use Rattle.task.specs.Inner.Stored.{operator_stored}
 use borrow.Author.Rules.{rules}
 use Rattle.task.proofs.operator_rows.store_with_parts.Statement.{statement}
 use Rattle.task.proofs.operator_rows.store_with_parts.Tie as tie
@@ -33,10 +33,10 @@ returns c =
     let at-store-operator = c.before.before in
     let at-percent-of = at-store-operator.before.before in
     let at-cost-of = at-percent-of.before in
-    let at-start = at-cost-of.before.before.before in
-    let a = at-start.args in
+    let at_start = at-cost-of.before.before.before in
+    let a = at_start.args in
     at-store-operator.store-operator.ensures
-    ∙ (λ j. operator-stored a.operators.now a.o (operator a.precondition a.effect (at-cost-of.cost-of.ensures j) (at-percent-of.percent-of.ensures j)))
+    ∙ (λ j. operator_stored a.operators.now a.o (operator a.precondition a.effect (at-cost-of.cost_of.ensures j) (at-percent-of.percent-of.ensures j)))
 
 pub store-with-parts-spec : {M : Type 1} → statement M
 store-with-parts-spec =

@@ -1,6 +1,6 @@
 -- `part` meets its contract: a row, or the empty part where the table does not hold all of it. Assumes nothing.
 use native.Mathlib.Omega.{arith}
-use Rattle.task.proofs.Refusals.{row_fits, row-past, row_inside, row-outside}
+use Rattle.task.proofs.Refusals.{row_fits, row_past, row_inside, row_outside}
 use borrow.Author.Rules.{rules}
 use Rattle.task.proofs.rows.part.Statement.{statement}
 use Rattle.task.proofs.rows.part.Tie as tie
@@ -15,22 +15,22 @@ div-if1 c = search rules
 mul-start : tie.Need-overflow-mul-start
 mul-start c =
     let at-if1 = c in
-    let at-start = at-if1.before in
-    omega (arith, row_fits at-start.args.width _ at-start.args.number at-if1.if1.true)
+    let at_start = at-if1.before in
+    omega (arith, row_fits at_start.args.width _ at_start.args.number at-if1.if1.true)
 
 -- src/rows.rt:18:19
 add-end : tie.Need-overflow-add-end
 add-end c =
     let at-if1 = c in
-    let at-start = at-if1.before in
-    omega (arith, row_fits at-start.args.width _ at-start.args.number at-if1.if1.true)
+    let at_start = at-if1.before in
+    omega (arith, row_fits at_start.args.width _ at_start.args.number at-if1.if1.true)
 
 -- src/rows.rt:19:9
 mul-result : tie.Need-overflow-mul-result
 mul-result c =
     let at-if1 = c in
-    let at-start = at-if1.before in
-    omega (arith, row_fits at-start.args.width _ at-start.args.number at-if1.if1.true)
+    let at_start = at-if1.before in
+    omega (arith, row_fits at_start.args.width _ at_start.args.number at-if1.if1.true)
 
 -- src/rows.rt:19:9
 sub-result : tie.Need-overflow-sub-result
@@ -44,8 +44,8 @@ part-result-start c = search rules
 part-result-end : tie.Need-slice-bounds-result-end
 part-result-end c =
     let at-if1 = c in
-    let at-start = at-if1.before in
-    omega (arith, row_fits at-start.args.width _ at-start.args.number at-if1.if1.true)
+    let at_start = at-if1.before in
+    omega (arith, row_fits at_start.args.width _ at_start.args.number at-if1.if1.true)
 
 -- src/rows.rt:21:9
 sub-result-2 : tie.Need-overflow-sub-result-2
@@ -63,15 +63,15 @@ part-result-end-2 c = search rules
 returns : tie.Need-returns
 returns c =
     let at-if1 = c.before in
-    let at-start = at-if1.before in
-    row_inside _ _ _ (row_fits at-start.args.width _ at-start.args.number at-if1.if1.true)
+    let at_start = at-if1.before in
+    row_inside _ _ _ (row_fits at_start.args.width _ at_start.args.number at-if1.if1.true)
 
 -- src/rows.rt:12:1
 returns-2 : tie.Need-returns-2
 returns-2 c =
     let at-if1 = c.before in
-    let at-start = at-if1.before in
-    row-outside _ _ _ (row-past at-start.args.width _ at-start.args.number at-start.requires at-if1.if1.false)
+    let at_start = at-if1.before in
+    row_outside _ _ _ (row_past at_start.args.width _ at_start.args.number at_start.requires at-if1.if1.false)
 
 pub part-spec : {M : Type 1} → statement M
 part-spec =

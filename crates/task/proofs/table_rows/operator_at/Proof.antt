@@ -7,9 +7,9 @@ returns : tie.Need-returns
 returns c =
     λ j.
     record {
-      first = c.before.before.before.precondition-of.ensures j;
+      first = c.before.before.before.precondition_of.ensures j;
       second = c.before.before.effect_of.ensures j;
-      third = c.before.cost-of.ensures j;
+      third = c.before.cost_of.ensures j;
       fourth = c.percent-of.ensures j;
     }
 

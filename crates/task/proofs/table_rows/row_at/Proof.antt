@@ -19,7 +19,7 @@ returns-2 : tie.Need-returns-2
 returns-2 c = rw c.before.enum-told2.given.1 c.three-at2.ensures
 
 returns-3 : tie.Need-returns-3
-returns-3 c = rw c.before.enum-told3.given.1 c.operator-at.ensures
+returns-3 c = rw c.before.enum-told3.given.1 c.operator_at.ensures
 
 pub row-at-spec : {M : Type 1} → statement M
 row-at-spec =

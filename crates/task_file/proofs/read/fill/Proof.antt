@@ -1,9 +1,9 @@
 -- `fill` meets its contract: A file into the front of the tables. Assumes nothing.
 use mathlib.Core.Path.{◌≡◌, refl, sym, ap, ◌∙◌}
 use lib.ListN.{length}
-use Rattle.task_file.specs.Inner.Answers.{head-told, no-task, lost-place}
+use Rattle.task_file.specs.Inner.Answers.{head_told, no_task, lost_place}
 use Rattle.task_file.specs.Outcome.{lengths}
-use Rattle.task_file.proofs.ReadWays.{bytes-from, head-room, head-lost, table-lost, bytes_left, task-held, room-kept}
+use Rattle.task_file.proofs.ReadWays.{bytes_from, head-room, head-lost, table-lost, bytes_left, task-held, room_kept}
 use borrow.Author.Rules.{rules}
 use Rattle.task_file.proofs.read.fill.Statement.{statement}
 use Rattle.task_file.proofs.read.fill.Tie as tie
@@ -21,8 +21,8 @@ returns c =
     let at-args = at-read-kept-head.before.before.before.before.before.before.before in
     let a = at-args.args in let file = a.file.now in let l =
     (lengths (length a.initial.now) (length a.twins.now) (length a.formulas.now) (length a.effects.now) (length a.operators.now)) in
-    head-lost l file (sym at-read-kept-head.read-kept-head.ensures ∙ ap (head-told file) c.before.enum_told.given.1)
-    (c.no-head.ensures ∙ ap no-task c.before.enum_told.given.1)
+    head-lost l file (sym at-read-kept-head.read-kept-head.ensures ∙ ap (head_told file) c.before.enum_told.given.1)
+    (c.no_head.ensures ∙ ap no_task c.before.enum_told.given.1)
 
 -- src/read.rt:45:9
 fill-tables-requires : tie.Need-fill-tables-requires
@@ -32,7 +32,7 @@ fill-tables-requires c κs =
     let at-args = at-read-kept-head.before.before.before.before.before.before.before in
     let a = at-args.args in let file = a.file.now in let l =
     (lengths (length a.initial.now) (length a.twins.now) (length a.formulas.now) (length a.effects.now) (length a.operators.now)) in
-    head-room l file (sym at-read-kept-head.read-kept-head.ensures ∙ ap (head-told file) at-h.h.given.1) refl
+    head-room l file (sym at-read-kept-head.read-kept-head.ensures ∙ ap (head_told file) at-h.h.given.1) refl
 
 -- src/read.rt:47:9
 same_length : tie.Need-same-length
@@ -73,8 +73,8 @@ returns-2 c =
     let at-args = at-read-kept-head.before.before.before.before.before.before.before in
     let a = at-args.args in let file = a.file.now in let l =
     (lengths (length a.initial.now) (length a.twins.now) (length a.formulas.now) (length a.effects.now) (length a.operators.now)) in
-    table-lost l file (sym at-read-kept-head.read-kept-head.ensures ∙ ap (head-told file) at-h.h.given.1) at-fill-tables.fill-tables.ensures
-    c.before.enum-told2.given.1 (c.lost.ensures ∙ ap lost-place c.before.enum-told2.given.1)
+    table-lost l file (sym at-read-kept-head.read-kept-head.ensures ∙ ap (head_told file) at-h.h.given.1) at-fill-tables.fill-tables.ensures
+    c.before.enum-told2.given.1 (c.lost.ensures ∙ ap lost_place c.before.enum-told2.given.1)
 
 -- src/read.rt:50:9
 same-length-6 : tie.Need-same-length-6
@@ -115,7 +115,7 @@ returns-3 c =
     let at-args = at-read-kept-head.before.before.before.before.before.before.before in
     let a = at-args.args in let file = a.file.now in let l =
     (lengths (length a.initial.now) (length a.twins.now) (length a.formulas.now) (length a.effects.now) (length a.operators.now)) in
-    bytes_left l file (sym at-read-kept-head.read-kept-head.ensures ∙ ap (head-told file) at-h.h.given.1) at-fill-tables.fill-tables.ensures
+    bytes_left l file (sym at-read-kept-head.read-kept-head.ensures ∙ ap (head_told file) at-h.h.given.1) at-fill-tables.fill-tables.ensures
     c.before.before.p.given.1 c.if1.true
 
 -- src/read.rt:31:1
@@ -158,14 +158,14 @@ returns-4 c =
     let at-args = at-shared-slice-known.before in
     let a = at-args.args in let file = a.file.now in let l =
     (lengths (length a.initial.now) (length a.twins.now) (length a.formulas.now) (length a.effects.now) (length a.operators.now)) in
-    task-held l file (sym at-read-kept-head.read-kept-head.ensures ∙ ap (head-told file) at-h.h.given.1) at-fill-tables.fill-tables.ensures
-    c.before.before.p.given.1 c.if1.false (bytes-from file (λ i. (at-shared-slice-known.shared-slice-known.given i).fits))
-    (room-kept a.initial.now a.twins.now a.formulas.now a.effects.now a.operators.now at-fill-tables.fill-tables.new.1.1.1.0
+    task-held l file (sym at-read-kept-head.read-kept-head.ensures ∙ ap (head_told file) at-h.h.given.1) at-fill-tables.fill-tables.ensures
+    c.before.before.p.given.1 c.if1.false (bytes_from file (λ i. (at-shared-slice-known.shared-slice-known.given i).fits))
+    (room_kept a.initial.now a.twins.now a.formulas.now a.effects.now a.operators.now at-fill-tables.fill-tables.new.1.1.1.0
     at-fill-tables.fill-tables.new.1.1.1.1.0 at-fill-tables.fill-tables.new.1.1.1.1.1.0
     at-fill-tables.fill-tables.new.1.1.1.1.1.1.0 at-fill-tables.fill-tables.new.1.1.1.1.1.1.1.0
     at-fill-tables.fill-tables.auto.1.1.1.0 at-fill-tables.fill-tables.auto.1.1.1.1.0 at-fill-tables.fill-tables.auto.1.1.1.1.1.0
     at-fill-tables.fill-tables.auto.1.1.1.1.1.1.0 at-fill-tables.fill-tables.auto.1.1.1.1.1.1.1.0
-    (head-room l file (sym at-read-kept-head.read-kept-head.ensures ∙ ap (head-told file) at-h.h.given.1) refl))
+    (head-room l file (sym at-read-kept-head.read-kept-head.ensures ∙ ap (head_told file) at-h.h.given.1) refl))
 
 pub fill_spec : {M : Type 1} → statement M
 fill_spec =

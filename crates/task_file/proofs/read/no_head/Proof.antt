@@ -1,6 +1,6 @@
 -- `no_head` meets its contract: the head's refusal, as the answer. Assumes nothing.
 use mathlib.Core.Path.{◌≡◌, refl, sym, ap, ◌∙◌}
-use Rattle.task_file.specs.Inner.Answers.{no-task}
+use Rattle.task_file.specs.Inner.Answers.{no_task}
 use borrow.Author.Rules.{rules}
 use Rattle.task_file.proofs.read.no_head.Statement.{statement}
 use Rattle.task_file.proofs.read.no_head.Tie as tie
@@ -9,7 +9,7 @@ use Rattle.task_file.proofs.read.no_head.Lts as lts
 
 -- src/read.rt:11:1
 returns : tie.Need-returns
-returns c = sym (ap no-task c.before.h.given.1)
+returns c = sym (ap no_task c.before.h.given.1)
 
 pub no-head-spec : {M : Type 1} → statement M
 no-head-spec = tie.close (tie.spec (λ c. search rules) (λ c. search rules) returns (λ c. search rules))

@@ -1,6 +1,6 @@
 -- `room` meets its contract: whether tables of these lengths hold what the head counts. Assumes nothing.
 use Rattle.task_file.specs.Outcome.{lengths}
-use Rattle.task_file.proofs.HeadWays.{room-last}
+use Rattle.task_file.proofs.HeadWays.{room_last}
 use mathlib.Core.Path.{◌≡◌, refl, sym, ap, ◌∙◌}
 use borrow.Author.Tests.{lt-leb, le-leb}
 use Rattle.file_format.specs.Reading.{room}
@@ -40,7 +40,7 @@ returns-5 c =
     let at-if2 = at-if3.before.before in
     let at-if1 = at-if2.before.before in
     let at-args = at-if1.before.before in
-    let a = at-args.args in room-last (lengths a.initial a.twins a.formulas a.effects a.operators) a.head at-if1.if1.false
+    let a = at-args.args in room_last (lengths a.initial a.twins a.formulas a.effects a.operators) a.head at-if1.if1.false
     at-if2.if2.false at-if3.if3.false c.before.if4.false
 
 pub room-spec : {M : Type 1} → statement M

@@ -1,6 +1,6 @@
 -- `no_field` meets its contract: the refusal of a field, as that of its row. Assumes nothing.
 use mathlib.Core.Path.{sym, ap}
-use Rattle.task_file.specs.Inner.Answers.{lost-field}
+use Rattle.task_file.specs.Inner.Answers.{lost_field}
 use borrow.Author.Rules.{rules}
 use Rattle.task_file.proofs.read_row.no_field.Statement.{statement}
 use Rattle.task_file.proofs.read_row.no_field.Tie as tie
@@ -17,7 +17,7 @@ enum_told c = search rules
 
 -- src/read_row.rt:36:1
 returns : tie.Need-returns
-returns c = sym (ap lost-field c.before.f.given.1)
+returns c = sym (ap lost_field c.before.f.given.1)
 
 -- src/read_row.rt:36:1
 returns-2 : tie.Need-returns-2

@@ -3,7 +3,7 @@ use mathlib.Core.Path.{sym, ap, ◌∙◌}
 use lib.ListN.{drop}
 use borrow.Author.Tests.{not-true, not-false}
 use Rattle.task.specs.declared.Table.TheVariants.{Formulas}
-use Rattle.task.specs.Check.{formula-kept}
+use Rattle.task.specs.Check.{formula_kept}
 use Rattle.task_file.specs.Inner.Answers.{row_told}
 use Rattle.task_file.proofs.RowWords.{kept-refused, formula-broken, formula-there}
 use borrow.Author.Rules.{rules}
@@ -31,8 +31,8 @@ returns : tie.Need-returns
 returns c =
     let at-enum-told = c in
     let at-read-kind = at-enum-told.before.before in
-    let at-start = at-read-kind.before.before in
-    let a = at-start.args in
+    let at_start = at-read-kind.before.before in
+    let a = at_start.args in
     let f = a.file.now in
     let told = at-enum-told.enum_told.given.1 in
     ap (row_told Formulas f) told
@@ -48,31 +48,31 @@ formula-kept-requires c κs = search rules
 
 -- src/read_row.rt:126:9
 returns-2 : tie.Need-returns-2
-unfolding formula-kept
+unfolding formula_kept
 returns-2 c =
     let at-formula-kept = c.before in
     let at-r = at-formula-kept.before.before.before in
     let at-read-kind = at-r.before.before in
-    let at-start = at-read-kind.before.before in
-    let a = at-start.args in
+    let at_start = at-read-kind.before.before in
+    let a = at_start.args in
     let f = a.file.now in
     sym
     (formula-broken a.head a.i (drop a.at f) (sym at-read-kind.read-kind.ensures ∙ ap (row_told Formulas f) at-r.r.given.1)
-    (sym at-formula-kept.formula-kept.ensures ∙ not-true _ c.if1.true))
+    (sym at-formula-kept.formula_kept.ensures ∙ not-true _ c.if1.true))
 
 -- src/read_row.rt:110:1
 returns-3 : tie.Need-returns-3
-unfolding formula-kept
+unfolding formula_kept
 returns-3 c =
     let at-formula-kept = c.before in
     let at-r = at-formula-kept.before.before.before in
     let at-read-kind = at-r.before.before in
-    let at-start = at-read-kind.before.before in
-    let a = at-start.args in
+    let at_start = at-read-kind.before.before in
+    let a = at_start.args in
     let f = a.file.now in
     sym
     (formula-there a.head a.i (drop a.at f) (sym at-read-kind.read-kind.ensures ∙ ap (row_told Formulas f) at-r.r.given.1)
-    (sym at-formula-kept.formula-kept.ensures ∙ not-false _ c.if1.false))
+    (sym at-formula-kept.formula_kept.ensures ∙ not-false _ c.if1.false))
 
 pub read-formula-spec : {M : Type 1} → statement M
 read-formula-spec =

@@ -3,9 +3,9 @@ use native.Mathlib.Omega.{arith}
 use mathlib.Core.Path.{sym, ap, ◌∙◌}
 use lib.ListN.{drop}
 use Rattle.task.specs.declared.Table.TheVariants.{Operators}
-use Rattle.task_file.specs.Inner.Answers.{field_told, fields_told, row_told, lost-field, lost-fields}
-use Rattle.task_file.proofs.Places.{byte-ends, byte-here}
-use Rattle.task_file.proofs.RowWords.{four-refused, percent-refused, four-there, four-ends, four-unclear, row-refused, row-there}
+use Rattle.task_file.specs.Inner.Answers.{field_told, fields_told, row_told, lost_field, lost_fields}
+use Rattle.task_file.proofs.Places.{byte_ends, byte_here}
+use Rattle.task_file.proofs.RowWords.{four-refused, percent-refused, four-there, four-ends, four-unclear, row-refused, row_there}
 use borrow.Author.Rules.{rules}
 use Rattle.task_file.proofs.read_row.read_four.Statement.{statement}
 use Rattle.task_file.proofs.read_row.read_four.Tie as tie
@@ -19,10 +19,10 @@ use Rattle.task_file.proofs.word.read_three.Reads as read-three-reads
 -- src/read_row.rt:80:9
 returns : tie.Need-returns
 returns c =
-    let at-start = c.before.before in
-    let f = at-start.args.file.now in
-    let at = at-start.args.at in
-    sym (four-ends (drop at f) (byte-ends f at c.if1.true))
+    let at_start = c.before.before in
+    let f = at_start.args.file.now in
+    let at = at_start.args.at in
+    sym (four-ends (drop at f) (byte_ends f at c.if1.true))
 
 -- src/read_row.rt:82:15
 shared-slice-read-map : tie.Need-shared-slice-read-map
@@ -31,10 +31,10 @@ shared-slice-read-map c = search rules
 -- src/read_row.rt:84:9
 returns-2 : tie.Need-returns-2
 returns-2 c =
-    let at-start = c.before.before.before.before in
-    let f = at-start.args.file.now in
-    let at = at-start.args.at in
-    sym (four-unclear (drop at f) (byte-here f at (omega arith)) c.if2.true)
+    let at_start = c.before.before.before.before in
+    let f = at_start.args.file.now in
+    let at = at_start.args.at in
+    sym (four-unclear (drop at f) (byte_here f at (omega arith)) c.if2.true)
 
 -- src/read_row.rt:86:30
 add-read-three : tie.Need-overflow-add-read-three
@@ -63,13 +63,13 @@ returns-3 c =
     let at-enum-told = at-refused.before in
     let at-read-three = at-enum-told.before.before in
     let at-if2 = at-read-three.before in
-    let at-start = at-if2.before.before.before.before in
-    let f = at-start.args.file.now in
-    let at = at-start.args.at in
+    let at_start = at-if2.before.before.before.before in
+    let f = at_start.args.file.now in
+    let at = at_start.args.at in
     let told = at-enum-told.enum_told.given.1 in
-    ap (row_told Operators f) (at-refused.refused.ensures ∙ ap lost-fields told)
+    ap (row_told Operators f) (at-refused.refused.ensures ∙ ap lost_fields told)
     ∙ sym
-    (row-refused (drop at f) (byte-here f at (omega arith)) (omega (arith, at-if2.if2.false))
+    (row-refused (drop at f) (byte_here f at (omega arith)) (omega (arith, at-if2.if2.false))
     (four-refused _ _ (sym at-read-three.read-three.ensures ∙ ap (fields_told f) told)))
 
 -- src/read_row.rt:96:9
@@ -97,14 +97,14 @@ returns-4 c =
     let at_f = at-read-field.before.before in
     let at-read-three = at_f.before.before in
     let at-if2 = at-read-three.before in
-    let at-start = at-if2.before.before.before.before in
-    let file = at-start.args.file.now in
-    let at = at-start.args.at in
+    let at_start = at-if2.before.before.before.before in
+    let file = at_start.args.file.now in
+    let at = at_start.args.at in
     let told = at-enum-told2.enum-told2.given.1 in
     let three = sym at-read-three.read-three.ensures ∙ ap (fields_told file) at_f.f.given.1 in
-    ap (row_told Operators file) (at-no-field.no_field.ensures ∙ ap lost-field told)
+    ap (row_told Operators file) (at-no-field.no_field.ensures ∙ ap lost_field told)
     ∙ sym
-    (row-refused (drop at file) (byte-here file at (omega arith)) (omega (arith, at-if2.if2.false))
+    (row-refused (drop at file) (byte_here file at (omega arith)) (omega (arith, at-if2.if2.false))
     (percent-refused _ _ (omega (arith, at-if2.if2.false)) three (sym at-read-field.read-field.ensures ∙ ap (field_told file) told)))
 
 -- src/read_row.rt:76:1
@@ -115,12 +115,12 @@ returns-5 c =
     let at_f = at-read-field.before.before in
     let at-read-three = at_f.before.before in
     let at-if2 = at-read-three.before in
-    let at-start = at-if2.before.before.before.before in
-    let file = at-start.args.file.now in
-    let at = at-start.args.at in
+    let at_start = at-if2.before.before.before.before in
+    let file = at_start.args.file.now in
+    let at = at_start.args.at in
     let three = sym at-read-three.read-three.ensures ∙ ap (fields_told file) at_f.f.given.1 in
     sym
-    (row-there (drop at file) (byte-here file at (omega arith)) (omega (arith, at-if2.if2.false))
+    (row_there (drop at file) (byte_here file at (omega arith)) (omega (arith, at-if2.if2.false))
     (four-there _ _ (omega (arith, at-if2.if2.false)) three (sym at-read-field.read-field.ensures ∙ ap (field_told file) at_p.p.given.1)))
 
 pub read-four-spec : {M : Type 1} → statement M

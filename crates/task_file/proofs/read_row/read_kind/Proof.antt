@@ -3,8 +3,8 @@ use native.Mathlib.Omega.{arith}
 use mathlib.Core.Path.{sym, ap, ◌∙◌}
 use lib.ListN.{drop}
 use Rattle.task.specs.declared.Table.TheVariants.{Formulas}
-use Rattle.task_file.specs.Inner.Answers.{fields_told, row_told, lost-fields}
-use Rattle.task_file.proofs.Places.{byte-ends, byte-here}
+use Rattle.task_file.specs.Inner.Answers.{fields_told, row_told, lost_fields}
+use Rattle.task_file.proofs.Places.{byte_ends, byte_here}
 use Rattle.task_file.proofs.RowWords.{kind-ends, kind-unclear, kind-refused, kind-there}
 use borrow.Author.Rules.{rules}
 use Rattle.task_file.proofs.read_row.read_kind.Statement.{statement}
@@ -17,10 +17,10 @@ use Rattle.task_file.proofs.word.read_three.Reads as read-three-reads
 -- src/read_row.rt:50:9
 returns : tie.Need-returns
 returns c =
-    let at-start = c.before.before in
-    let f = at-start.args.file.now in
-    let at = at-start.args.at in
-    sym (kind-ends (drop at f) (byte-ends f at c.if1.true))
+    let at_start = c.before.before in
+    let f = at_start.args.file.now in
+    let at = at_start.args.at in
+    sym (kind-ends (drop at f) (byte_ends f at c.if1.true))
 
 -- src/read_row.rt:52:15
 shared-slice-read-map : tie.Need-shared-slice-read-map
@@ -29,10 +29,10 @@ shared-slice-read-map c = search rules
 -- src/read_row.rt:54:9
 returns-2 : tie.Need-returns-2
 returns-2 c =
-    let at-start = c.before.before.before.before in
-    let f = at-start.args.file.now in
-    let at = at-start.args.at in
-    sym (kind-unclear (drop at f) (byte-here f at (omega arith)) c.if2.true)
+    let at_start = c.before.before.before.before in
+    let f = at_start.args.file.now in
+    let at = at_start.args.at in
+    sym (kind-unclear (drop at f) (byte_here f at (omega arith)) c.if2.true)
 
 -- src/read_row.rt:56:30
 add-read-three : tie.Need-overflow-add-read-three
@@ -61,19 +61,19 @@ returns-3 c =
     let at-enum-told = at-refused.before in
     let at-read-three = at-enum-told.before.before in
     let at-if2 = at-read-three.before in
-    let at-start = at-if2.before.before.before.before in
-    let f = at-start.args.file.now in
-    let at = at-start.args.at in
+    let at_start = at-if2.before.before.before.before in
+    let f = at_start.args.file.now in
+    let at = at_start.args.at in
     let told = at-enum-told.enum_told.given.1 in
-    ap (row_told Formulas f) (at-refused.refused.ensures ∙ ap lost-fields told)
-    ∙ sym (kind-refused (drop at f) (byte-here f at (omega arith)) at-if2.if2.false (sym at-read-three.read-three.ensures ∙ ap (fields_told f) told))
+    ap (row_told Formulas f) (at-refused.refused.ensures ∙ ap lost_fields told)
+    ∙ sym (kind-refused (drop at f) (byte_here f at (omega arith)) at-if2.if2.false (sym at-read-three.read-three.ensures ∙ ap (fields_told f) told))
 
 -- src/read_row.rt:67:16
 cast-t13 : tie.Need-overflow-cast-t13
 cast-t13 c =
     let at-shared-slice-known = c.before.before.before.before.before.before.before in
-    let at-start = at-shared-slice-known.before in
-    omega (arith, at-shared-slice-known.shared-slice-known.given at-start.args.at)
+    let at_start = at-shared-slice-known.before in
+    omega (arith, at-shared-slice-known.shared-slice-known.given at_start.args.at)
 
 -- src/read_row.rt:46:1
 returns-4 : tie.Need-returns-4
@@ -81,11 +81,11 @@ returns-4 c =
     let at_f = c.before in
     let at-read-three = at_f.before.before in
     let at-if2 = at-read-three.before in
-    let at-start = at-if2.before.before.before.before in
-    let file = at-start.args.file.now in
-    let at = at-start.args.at in
+    let at_start = at-if2.before.before.before.before in
+    let file = at_start.args.file.now in
+    let at = at_start.args.at in
     sym
-    (kind-there (drop at file) (byte-here file at (omega arith)) at-if2.if2.false
+    (kind-there (drop at file) (byte_here file at (omega arith)) at-if2.if2.false
     (sym at-read-three.read-three.ensures ∙ ap (fields_told file) at_f.f.given.1))
 
 pub read-kind-spec : {M : Type 1} → statement M

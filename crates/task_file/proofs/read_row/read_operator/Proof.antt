@@ -29,8 +29,8 @@ returns : tie.Need-returns
 returns c =
     let at-enum-told = c in
     let at-read-four = at-enum-told.before.before in
-    let at-start = at-read-four.before.before in
-    let a = at-start.args in
+    let at_start = at-read-four.before.before in
+    let a = at_start.args in
     let f = a.file.now in
     let told = at-enum-told.enum_told.given.1 in
     ap (row_told Operators f) told
@@ -54,12 +54,12 @@ returns-2 c =
     let at-operator-number = c.before in
     let at-r = at-operator-number.before.before.before.before in
     let at-read-four = at-r.before.before in
-    let at-start = at-read-four.before.before in
-    let a = at-start.args in
+    let at_start = at-read-four.before.before in
+    let a = at_start.args in
     let f = a.file.now in
     sym
     (operator-broken a.head a.i (drop a.at f) (sym at-read-four.read-four.ensures ∙ ap (row_told Operators f) at-r.r.given.1)
-    at-operator-number.operator-number.ensures c.if1.true)
+    at-operator-number.operator_number.ensures c.if1.true)
 
 -- src/read_row.rt:167:1
 returns-3 : tie.Need-returns-3
@@ -67,12 +67,12 @@ returns-3 c =
     let at-operator-number = c.before in
     let at-r = at-operator-number.before.before.before.before in
     let at-read-four = at-r.before.before in
-    let at-start = at-read-four.before.before in
-    let a = at-start.args in
+    let at_start = at-read-four.before.before in
+    let a = at_start.args in
     let f = a.file.now in
     sym
     (operator-there a.head a.i (drop a.at f) (sym at-read-four.read-four.ensures ∙ ap (row_told Operators f) at-r.r.given.1)
-    at-operator-number.operator-number.ensures c.if1.false)
+    at-operator-number.operator_number.ensures c.if1.false)
 
 pub read-operator-spec : {M : Type 1} → statement M
 read-operator-spec =

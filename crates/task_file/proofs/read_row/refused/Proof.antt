@@ -1,6 +1,6 @@
 -- `refused` meets its contract: the refusal of three fields, as that of their row. Assumes nothing.
 use mathlib.Core.Path.{sym, ap}
-use Rattle.task_file.specs.Inner.Answers.{lost-fields}
+use Rattle.task_file.specs.Inner.Answers.{lost_fields}
 use borrow.Author.Rules.{rules}
 use Rattle.task_file.proofs.read_row.refused.Statement.{statement}
 use Rattle.task_file.proofs.read_row.refused.Tie as tie
@@ -17,7 +17,7 @@ enum_told c = search rules
 
 -- src/read_row.rt:21:1
 returns : tie.Need-returns
-returns c = sym (ap lost-fields c.before.f.given.1)
+returns c = sym (ap lost_fields c.before.f.given.1)
 
 -- src/read_row.rt:21:1
 returns-2 : tie.Need-returns-2

@@ -3,8 +3,8 @@ use mathlib.Core.Path.{sym, ap, ◌∙◌}
 use Prim.Native.Nat.{◌-◌}
 use native.Mathlib.Omega.{arith}
 use borrow.Author.Rules.{rules}
-use Rattle.task.proofs.Stores.{row-there}
-use Rattle.task_file.specs.Inner.Answers.{row_told, lost-row}
+use Rattle.task.proofs.Stores.{row_there}
+use Rattle.task_file.specs.Inner.Answers.{row_told, lost_row}
 use Rattle.task_file.proofs.Loops.{RowsDone, rows-begin, rows-refused, rows_more, rows_end}
 use Rattle.task_file.proofs.read_rows.read_rows.Statement.{statement}
 use Rattle.task_file.proofs.read_rows.read_rows.Tie as tie
@@ -33,20 +33,20 @@ returns c =
     let told = c.before.enum_told.given.1 in
     rows-refused a.table a.head a.count a.file.now a.at a.words.now at.words at.i at.place at.invariant
     at-loop-test.loop-test.true
-    (sym at-read-kept.read_kept.ensures ∙ ap (row_told a.table a.file.now) told) (c.refused.ensures ∙ ap lost-row told)
+    (sym at-read-kept.read_kept.ensures ∙ ap (row_told a.table a.file.now) told) (c.refused.ensures ∙ ap lost_row told)
 
 store-row-requires : tie.Need-store-row-requires invariant-loop decreases-loop
 store-row-requires c κs =
     let at-loop-test = c.before.before.before.before.before in
     let at-loop = at-loop-test.before in
     let at-args = at-loop.before.before.before in
-    omega (arith, row-there at-args.args.table at-loop-test.loop-test.true at-args.requires, at-loop.loop.invariant.size)
+    omega (arith, row_there at-args.args.table at-loop-test.loop-test.true at-args.requires, at-loop.loop.invariant.size)
 
 add-i : tie.Need-overflow-add-i invariant-loop decreases-loop
 add-i c =
     let at-loop-test = c.before.before.before.before.before.before.before.before in
     let at-args = at-loop-test.before.before.before.before in
-    omega (arith, row-there at-args.args.table at-loop-test.loop-test.true at-args.requires, at-args.well-formed)
+    omega (arith, row_there at-args.args.table at-loop-test.loop-test.true at-args.requires, at-args.well-formed)
 
 loop-again : tie.Need-loop-preserved invariant-loop decreases-loop
 loop-again c =

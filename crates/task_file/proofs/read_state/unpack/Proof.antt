@@ -1,7 +1,7 @@
 -- `unpack` meets its contract: variable v of a packed state, from bit v mod 8 of byte v / 8, for each of `count` variables. Assumes nothing.
 use mathlib.Core.Path.{◌≡◌, refl, sym, ap, ◌∙◌}
 use lib.ListN.{length, drop, length-set}
-use Rattle.file_format.specs.Bytes.{bytes-for}
+use Rattle.file_format.specs.Bytes.{bytes_for}
 use Prim.Native.Nat.{◌-◌}
 use native.Mathlib.Omega.{arith}
 use Rattle.task_file.proofs.StateLoop.{UnpackDone, unpack-begin, unpack-more, unpack-end}
@@ -22,12 +22,12 @@ loop-holds c = let a = c.args in unpack-begin a.count a.file.now a.at a.initial.
 
 -- src/read_state.rt:37:25
 add-byte : tie.Need-overflow-add-byte invariant-loop decreases-loop
-unfolding bytes-for
+unfolding bytes_for
 add-byte c = omega (arith, c.before.before.requires, c.before.before.well-formed, c.before.loop.invariant.size, c.before.loop.invariant.within)
 
 -- src/read_state.rt:37:20
 shared-slice-read-byte : tie.Need-shared-slice-read-byte invariant-loop decreases-loop
-unfolding bytes-for
+unfolding bytes_for
 shared-slice-read-byte c =
     let at_pre = c.before.before.before in
     omega (arith, at_pre.requires, at_pre.well-formed, c.before.before.loop.invariant.size, c.before.before.loop.invariant.within)

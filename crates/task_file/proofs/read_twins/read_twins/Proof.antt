@@ -5,7 +5,7 @@ use Prim.Native.Nat.{◌-◌, ◌<◌}
 use native.Mathlib.Omega.{arith}
 use borrow.Author.Rules.{rules}
 use Rattle.task.proofs.Named.{NamedBy, named_none}
-use Rattle.task_file.specs.Inner.Answers.{field_told, lost-word}
+use Rattle.task_file.specs.Inner.Answers.{field_told, lost_word}
 use Rattle.task_file.proofs.TwinRows.{twin-high, twin-before, twin-now, twin-marked, TwinsDone, twins-begin, twins-ended, twins-broken, twins-more, twins-end}
 use Rattle.task_file.proofs.read_twins.read_twins.Statement.{statement}
 use Rattle.task_file.proofs.read_twins.read_twins.Tie as tie
@@ -34,7 +34,7 @@ returns c =
     let at-args = at-loop.before.before.before in
     let a = at-args.args in let l = at-loop.loop in twins-ended a.bound a.count a.file.now a.at a.twins.now l.twins l.k l.place
     l.invariant.0 at-loop-test.loop-test.true (sym at-read-word.read_word.ensures ∙ ap (field_told a.file.now) c.before.enum_told.given.1)
-    (c.refused.ensures ∙ ap lost-word c.before.enum_told.given.1)
+    (c.refused.ensures ∙ ap lost_word c.before.enum_told.given.1)
 
 mul-twins : tie.Need-overflow-mul-twins invariant-loop decreases-loop
 mul-twins c =

@@ -3,7 +3,7 @@ use mathlib.Core.Path.{◌≡◌, sym, ap, ◌∙◌}
 use lib.ListN.{drop}
 use borrow.Author.Rules.{rules}
 use Rattle.task_file.specs.Inner.Answers.{field_told}
-use Rattle.task_file.proofs.Places.{field-absent, field-refused, field-needless, field-there}
+use Rattle.task_file.proofs.Places.{field_absent, field-refused, field-needless, field-there}
 use Rattle.task_file.proofs.word.read_field.Statement.{statement}
 use Rattle.task_file.proofs.word.read_field.Tie as tie
 use Rattle.task_file.proofs.word.read_field.Reads as reads
@@ -12,7 +12,7 @@ use Rattle.task_file.proofs.word.read_word.Reads as read-word-reads
 
 -- src/word.rt:28:9
 returns : tie.Need-returns
-returns c = sym (field-absent c.before.before.args.default c.before.before.args.bit (drop c.before.before.args.at c.before.before.args.file.now) c.if1.true)
+returns c = sym (field_absent c.before.before.args.default c.before.before.args.bit (drop c.before.before.args.at c.before.before.args.file.now) c.if1.true)
 
 -- src/word.rt:32:9
 returns-2 : tie.Need-returns-2

@@ -3,7 +3,7 @@ use Prim.Native.Nat.{◌+◌}
 use native.Mathlib.Omega.{arith}
 use mathlib.Core.Path.{◌≡◌, sym, ap, ◌∙◌}
 use borrow.Author.Rules.{rules}
-use Rattle.task_file.proofs.Places.{word-ends, word-here}
+use Rattle.task_file.proofs.Places.{word_ends, word_here}
 use Rattle.task_file.proofs.word.read_word.Statement.{statement}
 use Rattle.task_file.proofs.word.read_word.Tie as tie
 use Rattle.task_file.proofs.word.read_word.Reads as reads
@@ -11,11 +11,11 @@ use Rattle.task_file.proofs.word.read_word.Lts as lts
 
 -- src/word.rt:13:9
 returns : tie.Need-returns
-returns c = sym (word-ends c.before.args.file.now c.before.args.at (omega arith))
+returns c = sym (word_ends c.before.args.file.now c.before.args.at (omega arith))
 
 -- src/word.rt:16:9
 returns-2 : tie.Need-returns-2
-returns-2 c = sym (word-ends c.before.before.args.file.now c.before.before.args.at (omega arith))
+returns-2 c = sym (word_ends c.before.before.args.file.now c.before.before.args.at (omega arith))
 
 -- src/word.rt:18:15
 cast-low : tie.Need-overflow-cast-low
@@ -39,7 +39,7 @@ add-t12 c =
 
 -- src/word.rt:9:1
 returns-3 : tie.Need-returns-3
-returns-3 c = sym (word-here c.before.before.before.before.args.file.now c.before.before.before.before.args.at (omega arith))
+returns-3 c = sym (word_here c.before.before.before.before.args.file.now c.before.before.before.before.args.at (omega arith))
 
 pub read-word-spec : {M : Type 1} → statement M
 read-word-spec =

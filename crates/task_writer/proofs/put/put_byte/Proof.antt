@@ -1,5 +1,5 @@
 -- `put_byte` meets its contract: one byte. Assumes nothing.
-use Rattle.task_writer.proofs.Puts.{byte_put, byte-counted}
+use Rattle.task_writer.proofs.Puts.{byte_put, byte_counted}
 use borrow.Author.Rules.{rules}
 use Rattle.task_writer.proofs.put.put_byte.Statement.{statement}
 use Rattle.task_writer.proofs.put.put_byte.Tie as tie
@@ -12,7 +12,7 @@ returns c = byte_put c.before.args.out.now c.before.args.at c.before.args.x
 
 -- src/put.rt:10:1
 returns-2 : tie.Need-returns-2
-returns-2 c = byte-counted c.before.args.out.now c.before.args.at c.before.args.x c.if1.false
+returns-2 c = byte_counted c.before.args.out.now c.before.args.at c.before.args.x c.if1.false
 
 pub put-byte-spec : {M : Type 1} → statement M
 put-byte-spec =

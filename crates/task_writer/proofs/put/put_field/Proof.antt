@@ -1,5 +1,5 @@
 -- `put_field` meets its contract: A field: nothing for 0. Assumes nothing.
-use Rattle.task_writer.proofs.Puts.{field-none, field_put}
+use Rattle.task_writer.proofs.Puts.{field_none, field_put}
 use borrow.Author.Rules.{rules}
 use Rattle.task_writer.proofs.put.put_field.Statement.{statement}
 use Rattle.task_writer.proofs.put.put_field.Tie as tie
@@ -9,7 +9,7 @@ use Rattle.task_writer.proofs.put.put_word.Reads as put-word-reads
 
 -- src/put.rt:36:9
 returns : tie.Need-returns
-returns c = field-none c.before.before.args.default c.before.before.args.w c.before.before.args.at c.before.before.args.out.now c.if1.true
+returns c = field_none c.before.before.args.default c.before.before.args.w c.before.before.args.at c.before.before.args.out.now c.if1.true
 
 -- src/put.rt:31:1
 returns-2 : tie.Need-returns-2

@@ -1,6 +1,6 @@
 -- `put_three` meets its contract: three fields. Assumes nothing.
 use native.Mathlib.Omega.{arith}
-use Rattle.task_writer.proofs.Puts.{field_next, three-put}
+use Rattle.task_writer.proofs.Puts.{field_next, three_put}
 use borrow.Author.Rules.{rules}
 use Rattle.task_writer.proofs.put.put_three.Statement.{statement}
 use Rattle.task_writer.proofs.put.put_three.Tie as tie
@@ -30,7 +30,7 @@ returns c =
     let at-put-field2 = c.before.before.before.before.before.before in
     let at-put-field = at-put-field2.before.before.before.before in
     let at-args = at-put-field.before.before.before in
-    three-put at-args.args.a at-args.args.b at-args.args.c at-put-field.put-field.ensures at-put-field2.put-field2.ensures
+    three_put at-args.args.a at-args.args.b at-args.args.c at-put-field.put-field.ensures at-put-field2.put-field2.ensures
     c.before.before.put-field3.ensures
 
 pub put-three-spec : {M : Type 1} → statement M

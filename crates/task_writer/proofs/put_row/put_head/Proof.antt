@@ -1,6 +1,6 @@
 -- `put_head` meets its contract: the head's bytes, at the front. Assumes nothing.
 use native.Mathlib.Omega.{arith}
-use Rattle.task_writer.proofs.Puts.{mapped_next, head-put}
+use Rattle.task_writer.proofs.Puts.{mapped_next, head_put}
 use borrow.Author.Rules.{rules}
 use Rattle.task_writer.proofs.put_row.put_head.Statement.{statement}
 use Rattle.task_writer.proofs.put_row.put_head.Tie as tie
@@ -29,7 +29,7 @@ returns c =
     let at-bit2 = at-bit3.before in
     let at-bit = at-bit2.before in
     let at-args = at-bit.before.before in
-    head-put at-args.args.head at-put-mapped.put-mapped.ensures c.before.before.put_three.ensures
+    head_put at-args.args.head at-put-mapped.put-mapped.ensures c.before.before.put_three.ensures
     (omega (
       arith,
       at-bit.bit.ensures.0,

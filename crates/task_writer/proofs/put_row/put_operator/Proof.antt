@@ -1,6 +1,6 @@
 -- `put_operator` meets its contract: an operator's row. Assumes nothing.
 use native.Mathlib.Omega.{arith}
-use Rattle.task_writer.proofs.Puts.{mapped_next, operator-put}
+use Rattle.task_writer.proofs.Puts.{mapped_next, operator_put}
 use borrow.Author.Rules.{rules}
 use Rattle.task_writer.proofs.put_row.put_operator.Statement.{statement}
 use Rattle.task_writer.proofs.put_row.put_operator.Tie as tie
@@ -58,9 +58,9 @@ put-mapped-requires c κs = search rules
 put-field-requires : tie.Need-put-field-requires
 put-field-requires c κs =
     let at-put-mapped = c.before.before.before in
-    let at-start = at-put-mapped.before.before.before.before.before.before.before in
-    let a = at-start.args in
-    omega (arith, at-start.requires, mapped_next a.precondition a.effect a.cost at-put-mapped.put-mapped.ensures)
+    let at_start = at-put-mapped.before.before.before.before.before.before.before in
+    let a = at_start.args in
+    omega (arith, at_start.requires, mapped_next a.precondition a.effect a.cost at-put-mapped.put-mapped.ensures)
 
 -- src/put_row.rt:32:1
 same_length : tie.Need-same-length
@@ -75,9 +75,9 @@ returns c =
     let at-bit3 = at-bit4.before in
     let at-bit2 = at-bit3.before in
     let at-bit = at-bit2.before in
-    let at-start = at-bit.before.before in
-    let a = at-start.args in
-    operator-put a.precondition a.effect a.cost a.percent at-put-mapped.put-mapped.ensures at-put-field.put-field.ensures
+    let at_start = at-bit.before.before in
+    let a = at_start.args in
+    operator_put a.precondition a.effect a.cost a.percent at-put-mapped.put-mapped.ensures at-put-field.put-field.ensures
     (omega (arith, at-bit.bit.ensures.0, at-bit2.bit2.ensures.0, at-bit3.bit3.ensures.0, at-bit4.bit4.ensures.0))
 
 pub put-operator-spec : {M : Type 1} → statement M

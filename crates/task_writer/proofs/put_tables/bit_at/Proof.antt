@@ -1,5 +1,5 @@
 -- `bit_at` meets its contract: variable v, and 0 past the last. Assumes nothing.
-use Rattle.task_writer.proofs.PutLoops.{bit-there, bit_past}
+use Rattle.task_writer.proofs.PutLoops.{bit_there, bit_past}
 use borrow.Author.Rules.{rules}
 use Rattle.task_writer.proofs.put_tables.bit_at.Statement.{statement}
 use Rattle.task_writer.proofs.put_tables.bit_at.Tie as tie
@@ -8,7 +8,7 @@ use Rattle.task_writer.proofs.put_tables.bit_at.Lts as lts
 
 -- src/put_tables.rt:45:9
 returns : tie.Need-returns
-returns c = let a = c.before.before.args in bit-there a.initial.now a.count a.v c.before.before.requires c.before.if1.true
+returns c = let a = c.before.before.args in bit_there a.initial.now a.count a.v c.before.before.requires c.before.if1.true
 
 -- src/put_tables.rt:40:1
 returns-2 : tie.Need-returns-2

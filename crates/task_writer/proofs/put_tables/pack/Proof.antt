@@ -2,7 +2,7 @@
 use mathlib.Core.Path.{◌≡◌, refl, sym, ap, ◌∙◌}
 use native.Mathlib.Omega.{arith}
 use lib.ListN.{length, get_or, take}
-use Rattle.task_writer.proofs.PutLoops.{byte-of-bits}
+use Rattle.task_writer.proofs.PutLoops.{byte_of_bits}
 use borrow.Author.Rules.{rules}
 use Rattle.task_writer.proofs.put_tables.pack.Statement.{statement}
 use Rattle.task_writer.proofs.put_tables.pack.Tie as tie
@@ -19,7 +19,7 @@ returns c =
     let at-bit-at2 = at-bit-at3.before in
     let at-bit-at = at-bit-at2.before in
     let at-args = at-bit-at.before.before in
-    let a = at-args.args in byte-of-bits (take a.count a.initial.now) a.j at-bit-at.bit_at.ensures.0 at-bit-at2.bit-at2.ensures.0
+    let a = at-args.args in byte_of_bits (take a.count a.initial.now) a.j at-bit-at.bit_at.ensures.0 at-bit-at2.bit-at2.ensures.0
     at-bit-at3.bit-at3.ensures.0 at-bit-at4.bit-at4.ensures.0 at-bit-at5.bit-at5.ensures.0 c.before.before.bit-at6.ensures.0
     c.before.bit-at7.ensures.0 c.bit-at8.ensures.0
 

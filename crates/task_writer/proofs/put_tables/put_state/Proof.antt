@@ -4,9 +4,9 @@ use native.Mathlib.Omega.{arith}
 use borrow.Author.Rules.{rules}
 use Prim.Native.Nat.{◌+◌, ◌-◌, ◌*◌, ◌/◌}
 use lib.ListN.{length, get_or, take}
-use Rattle.task_writer.specs.Inner.Putting.{Put, rows-bytes, byte-number}
-use Rattle.task_writer.proofs.Puts.{put-size, put_same}
-use Rattle.task_writer.proofs.PutLoops.{PutDone, put-begin, put-more, put-end, state-bytes, state-none-put, state-more-put, state-all}
+use Rattle.task_writer.specs.Inner.Putting.{Put, rows_bytes, byte_number}
+use Rattle.task_writer.proofs.Puts.{put_size, put_same}
+use Rattle.task_writer.proofs.PutLoops.{PutDone, put-begin, put-more, put-end, state_bytes, state_none_put, state_more_put, state_all}
 use Rattle.task_writer.proofs.put_tables.put_state.Statement.{statement}
 use Rattle.task_writer.proofs.put_tables.put_state.Tie as tie
 use Rattle.task_writer.proofs.put_tables.put_state.Reads as reads
@@ -15,7 +15,7 @@ use Rattle.task_writer.proofs.put.put_byte.Reads as put-byte-reads
 use Rattle.task_writer.proofs.put_tables.pack.Reads as pack-reads
 
 abbrev invariant-loop : tie.invariant-loop
-invariant-loop initial count out₀ at bytes j₀ place₀ out j place = PutDone (state-bytes (take count initial)) ((count + 7) / 8) at out₀ out j place
+invariant-loop initial count out₀ at bytes j₀ place₀ out j place = PutDone (state_bytes (take count initial)) ((count + 7) / 8) at out₀ out j place
 
 abbrev decreases-loop : tie.decreases-loop
 decreases-loop initial count out₀ at bytes j₀ place₀ out j place = (count + 7) / 8 - j
@@ -27,8 +27,8 @@ add-bytes c = omega (arith, c.before.before.requires.1)
 -- src/put_tables.rt:69:5
 loop-holds : tie.Need-loop-init invariant-loop decreases-loop
 loop-holds c =
-    let a = c.before.before.args in put-begin (state-bytes (take a.count a.initial.now)) ((a.count + 7) / 8) a.at a.out.now
-    (state-none-put (take a.count a.initial.now))
+    let a = c.before.before.args in put-begin (state_bytes (take a.count a.initial.now)) ((a.count + 7) / 8) a.at a.out.now
+    (state_none_put (take a.count a.initial.now))
 
 -- src/put_tables.rt:70:50
 pack-requires : tie.Need-pack-requires invariant-loop decreases-loop
@@ -72,20 +72,20 @@ loop-again c =
     let at-loop-test = at-pack.before.before in
     let at-loop = at-loop-test.before in
     let at-args = at-loop.before.before.before in
-    let a = at-args.args in put-more (state-bytes (take a.count a.initial.now)) ((a.count + 7) / 8) a.at a.out.now at-loop.loop.out
+    let a = at-args.args in put-more (state_bytes (take a.count a.initial.now)) ((a.count + 7) / 8) a.at a.out.now at-loop.loop.out
     at-loop.loop.j at-loop.loop.place at-loop.loop.invariant at-loop-test.loop-test.true c.before.before.put_byte.ensures (omega arith)
-    (state-more-put (take a.count a.initial.now) at-loop.loop.j at-pack.pack.ensures)
+    (state_more_put (take a.count a.initial.now) at-loop.loop.j at-pack.pack.ensures)
 
 -- src/put_tables.rt:62:1
 same_length : tie.Need-same-length invariant-loop decreases-loop
-same_length c = put-size c.before.loop.invariant.done
+same_length c = put_size c.before.loop.invariant.done
 
 -- src/put_tables.rt:62:1
 returns : tie.Need-returns invariant-loop decreases-loop
 returns c =
     let at-args = c.before.before.before.before in
-    let a = at-args.args in put_same (state-all a.initial.now a.count at-args.requires.0.fit)
-    (put-end (state-bytes (take a.count a.initial.now)) ((a.count + 7) / 8) a.at a.out.now c.before.loop.out c.before.loop.j
+    let a = at-args.args in put_same (state_all a.initial.now a.count at-args.requires.0.fit)
+    (put-end (state_bytes (take a.count a.initial.now)) ((a.count + 7) / 8) a.at a.out.now c.before.loop.out c.before.loop.j
     c.before.loop.place c.before.loop.invariant c.loop-test.false)
 
 pub put-state-spec : {M : Type 1} → statement M

@@ -4,9 +4,9 @@ use native.Mathlib.Omega.{arith}
 use borrow.Author.Rules.{rules}
 use Prim.Native.Nat.{◌+◌, ◌-◌, ◌*◌, ◌/◌}
 use lib.ListN.{length, get_or, take}
-use Rattle.task_writer.specs.Inner.Putting.{Put, rows-bytes, byte-number}
-use Rattle.task_writer.proofs.Puts.{put-size}
-use Rattle.task_writer.proofs.PutLoops.{PutDone, put-begin, put-more, put-end, words-bytes, words-none-put, words-more-put, word-length}
+use Rattle.task_writer.specs.Inner.Putting.{Put, rows_bytes, byte_number}
+use Rattle.task_writer.proofs.Puts.{put_size}
+use Rattle.task_writer.proofs.PutLoops.{PutDone, put-begin, put-more, put-end, words_bytes, words_none_put, words_more_put, word_length}
 use Rattle.task_writer.proofs.put_tables.put_words.Statement.{statement}
 use Rattle.task_writer.proofs.put_tables.put_words.Tie as tie
 use Rattle.task_writer.proofs.put_tables.put_words.Reads as reads
@@ -14,14 +14,14 @@ use Rattle.task_writer.proofs.put_tables.put_words.Lts as lts
 use Rattle.task_writer.proofs.put.put_word.Reads as put-word-reads
 
 abbrev invariant-loop : tie.invariant-loop
-invariant-loop words count out₀ at k₀ place₀ out k place = PutDone (words-bytes words) count at out₀ out k place
+invariant-loop words count out₀ at k₀ place₀ out k place = PutDone (words_bytes words) count at out₀ out k place
 
 abbrev decreases-loop : tie.decreases-loop
 decreases-loop words count out₀ at k₀ place₀ out k place = count - k
 
 -- src/put_tables.rt:32:5
 loop-holds : tie.Need-loop-init invariant-loop decreases-loop
-loop-holds c = let a = c.before.before.args in put-begin (words-bytes a.words.now) a.count a.at a.out.now (words-none-put a.words.now)
+loop-holds c = let a = c.before.before.args in put-begin (words_bytes a.words.now) a.count a.at a.out.now (words_none_put a.words.now)
 
 -- src/put_tables.rt:33:50
 mul-put-word : tie.Need-overflow-mul-put-word invariant-loop decreases-loop
@@ -62,20 +62,20 @@ loop-again c =
     let at-loop-test = c.before.before.before.before.before in
     let at-loop = at-loop-test.before in
     let at-args = at-loop.before.before.before in
-    let a = at-args.args in put-more (words-bytes a.words.now) a.count a.at a.out.now at-loop.loop.out at-loop.loop.k
+    let a = at-args.args in put-more (words_bytes a.words.now) a.count a.at a.out.now at-loop.loop.out at-loop.loop.k
     at-loop.loop.place at-loop.loop.invariant at-loop-test.loop-test.true c.before.before.put_word.ensures
-    (word-length (get_or a.words.now at-loop.loop.k 0))
-    (words-more-put a.words.now at-loop.loop.k (omega (arith, at-args.requires.0, at-loop-test.loop-test.true)))
+    (word_length (get_or a.words.now at-loop.loop.k 0))
+    (words_more_put a.words.now at-loop.loop.k (omega (arith, at-args.requires.0, at-loop-test.loop-test.true)))
 
 -- src/put_tables.rt:26:1
 same_length : tie.Need-same-length invariant-loop decreases-loop
-same_length c = put-size c.before.loop.invariant.done
+same_length c = put_size c.before.loop.invariant.done
 
 -- src/put_tables.rt:26:1
 returns : tie.Need-returns invariant-loop decreases-loop
 returns c =
     let at-args = c.before.before.before.before in
-    let a = at-args.args in put-end (words-bytes a.words.now) a.count a.at a.out.now c.before.loop.out c.before.loop.k
+    let a = at-args.args in put-end (words_bytes a.words.now) a.count a.at a.out.now c.before.loop.out c.before.loop.k
     c.before.loop.place c.before.loop.invariant c.loop-test.false
 
 pub put-words-spec : {M : Type 1} → statement M

@@ -2,9 +2,9 @@
 use mathlib.Core.Path.{◌≡◌, refl, sym, ap, ◌∙◌}
 use native.Mathlib.Omega.{arith}
 use Rattle.task.specs.declared.Table.TheVariants.{Formulas, Effects, Operators}
-use Rattle.task.specs.Table.{lent, task-of}
-use Rattle.task_writer.proofs.Puts.{put-size}
-use Rattle.task_writer.proofs.WriteWays.{head-size, state-size, words_size, rows-size, task-put}
+use Rattle.task.specs.Table.{lent, task_of}
+use Rattle.task_writer.proofs.Puts.{put_size}
+use Rattle.task_writer.proofs.WriteWays.{head_size, state_size, words_size, rows_size, task_put}
 use borrow.Author.Rules.{rules}
 use Rattle.task_writer.proofs.write.put_task.Statement.{statement}
 use Rattle.task_writer.proofs.write.put_task.Tie as tie
@@ -21,7 +21,7 @@ put-state-requires c κs =
     let at-put-head = c.before.before.before.before in
     let at-args = at-put-head.before.before.before.before.before.before.before.before in
     let a = at-args.args in let p = at-args.requires in
-    (p.state, omega (arith, p.variables, p.twins, p.formulas, p.effects, p.operators, at-put-head.put-head.ensures.next, head-size a.head))
+    (p.state, omega (arith, p.variables, p.twins, p.formulas, p.effects, p.operators, at-put-head.put-head.ensures.next, head_size a.head))
 
 -- src/write.rt:27:9
 put-words-requires : tie.Need-put-words-requires
@@ -39,9 +39,9 @@ put-words-requires c κs =
         p.effects,
         p.operators,
         at-put-head.put-head.ensures.next,
-        head-size a.head,
+        head_size a.head,
         at-put-state.put-state.ensures.next,
-        state-size a.initial.now a.head.variables p.long.initial,
+        state_size a.initial.now a.head.variables p.long.initial,
       ),
     )
 
@@ -64,13 +64,13 @@ put-rows-requires c κs =
             p.effects,
             p.operators,
             at-put-head.put-head.ensures.next,
-            head-size a.head,
+            head_size a.head,
             at-put-state.put-state.ensures.next,
-            state-size a.initial.now a.head.variables p.long.initial,
+            state_size a.initial.now a.head.variables p.long.initial,
             at-put-words.put-words.ensures.next,
             words_size a.twins.now a.head.twins p.long.twins,
           );
-      maps = p.formula-maps;
+      maps = p.formula_maps;
     }
 
 -- src/write.rt:29:9
@@ -93,15 +93,15 @@ put-rows-requires-2 c κs =
             p.effects,
             p.operators,
             at-put-head.put-head.ensures.next,
-            head-size a.head,
+            head_size a.head,
             at-put-state.put-state.ensures.next,
-            state-size a.initial.now a.head.variables p.long.initial,
+            state_size a.initial.now a.head.variables p.long.initial,
             at-put-words.put-words.ensures.next,
             words_size a.twins.now a.head.twins p.long.twins,
             at-put-rows.put-rows.ensures.next,
-            rows-size Formulas a.formulas.now a.head.formulas,
+            rows_size Formulas a.formulas.now a.head.formulas,
           );
-      maps = p.effect-maps;
+      maps = p.effect_maps;
     }
 
 -- src/write.rt:30:5
@@ -125,15 +125,15 @@ put-rows-requires-3 c κs =
             p.effects,
             p.operators,
             at-put-head.put-head.ensures.next,
-            head-size a.head,
+            head_size a.head,
             at-put-state.put-state.ensures.next,
-            state-size a.initial.now a.head.variables p.long.initial,
+            state_size a.initial.now a.head.variables p.long.initial,
             at-put-words.put-words.ensures.next,
             words_size a.twins.now a.head.twins p.long.twins,
             at-put-rows.put-rows.ensures.next,
-            rows-size Formulas a.formulas.now a.head.formulas,
+            rows_size Formulas a.formulas.now a.head.formulas,
             at-put-rows2.put-rows2.ensures.next,
-            rows-size Effects a.effects.now a.head.effects,
+            rows_size Effects a.effects.now a.head.effects,
           );
       maps = λ i h. tt;
     }
@@ -146,8 +146,8 @@ same_length c =
     let at-put-words = at-put-rows.before.before.before.before.before in
     let at-put-state = at-put-words.before.before.before.before.before in
     let at-put-head = at-put-state.before.before.before.before.before in
-    put-size c.before.before.put-rows3.ensures ∙ put-size at-put-rows2.put-rows2.ensures ∙ put-size at-put-rows.put-rows.ensures ∙ put-size
-    at-put-words.put-words.ensures ∙ put-size at-put-state.put-state.ensures ∙ put-size at-put-head.put-head.ensures
+    put_size c.before.before.put-rows3.ensures ∙ put_size at-put-rows2.put-rows2.ensures ∙ put_size at-put-rows.put-rows.ensures ∙ put_size
+    at-put-words.put-words.ensures ∙ put_size at-put-state.put-state.ensures ∙ put_size at-put-head.put-head.ensures
 
 -- src/write.rt:13:1
 returns : tie.Need-returns
@@ -158,7 +158,7 @@ returns c =
     let at-put-state = at-put-words.before.before.before.before.before in
     let at-put-head = at-put-state.before.before.before.before.before in
     let at-args = at-put-head.before.before.before.before.before.before.before.before in
-    let a = at-args.args in let p = at-args.requires in task-put
+    let a = at-args.args in let p = at-args.requires in task_put
     (lent a.head a.initial.now a.twins.now a.formulas.now a.effects.now a.operators.now) p at-put-head.put-head.ensures
     at-put-state.put-state.ensures at-put-words.put-words.ensures at-put-rows.put-rows.ensures at-put-rows2.put-rows2.ensures
     c.before.before.put-rows3.ensures

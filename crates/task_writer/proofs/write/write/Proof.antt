@@ -1,8 +1,8 @@
 -- `write` meets its contract: writes the file of lent tables. Assumes nothing.
 use mathlib.Core.Path.{◌≡◌, refl, sym, ap, ◌∙◌}
 use native.Mathlib.Omega.{arith}
-use Rattle.task.specs.Table.{lent, task-of}
-use Rattle.task_writer.proofs.WriteWays.{write-in, not-checked, too_long, fits}
+use Rattle.task.specs.Table.{lent, task_of}
+use Rattle.task_writer.proofs.WriteWays.{write_in, not-checked, too_long, fits}
 use borrow.Author.Rules.{rules}
 use Rattle.task_writer.proofs.write.write.Statement.{statement}
 use Rattle.task_writer.proofs.write.write.Tie as tie
@@ -24,7 +24,7 @@ returns c =
 put-task-requires : tie.Need-put-task-requires
 put-task-requires c κs =
     let at-args = c.before.before.before.before.before.before.before.before.before.before.before.before.before in
-    let a = at-args.args in write-in (lent a.head a.initial.now a.twins.now a.formulas.now a.effects.now a.operators.now)
+    let a = at-args.args in write_in (lent a.head a.initial.now a.twins.now a.formulas.now a.effects.now a.operators.now)
     (sym c.before.before.check.ensures ∙ c.before.if1.false)
 
 -- src/write.rt:53:9

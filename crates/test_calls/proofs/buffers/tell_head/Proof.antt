@@ -1,8 +1,8 @@
 -- `tell_head` meets its contract: A head's six words, V W F E O goal, if the buffer has just six. Assumes nothing.
-use Rattle.test_calls.specs.Buffers.{head-words}
+use Rattle.test_calls.specs.Buffers.{head_words}
 use native.Mathlib.Omega.{arith}
 use lib.ListN.{length-set}
-use Rattle.test_calls.proofs.Told.{told-left, told-stored}
+use Rattle.test_calls.proofs.Told.{told_left, told_stored}
 use borrow.Author.Rules.{rules}
 use Rattle.test_calls.proofs.buffers.tell_head.Statement.{statement}
 use Rattle.test_calls.proofs.buffers.tell_head.Tie as tie
@@ -11,8 +11,8 @@ use Rattle.test_calls.proofs.buffers.tell_head.Lts as lts
 
 -- src/buffers.rt:37:9
 returns : tie.Need-returns
-unfolding head-words
-returns c = told-left _ _ c.if1.true
+unfolding head_words
+returns c = told_left _ _ c.if1.true
 
 -- src/buffers.rt:40:5
 slice-write-buffer-2 : tie.Need-slice-write-buffer-2
@@ -36,8 +36,8 @@ slice-write-buffer-6 c = simp length-set (omega arith)
 
 -- src/buffers.rt:25:1
 returns-2 : tie.Need-returns-2
-unfolding head-words
-returns-2 c = told-stored _ _ (omega arith)
+unfolding head_words
+returns-2 c = told_stored _ _ (omega arith)
 
 pub tell-head-spec : {M : Type 1} → statement M
 tell-head-spec =

@@ -1,7 +1,7 @@
 -- `tell_six` meets its contract: six words, if the buffer has just six. Assumes nothing.
 use native.Mathlib.Omega.{arith}
 use lib.ListN.{length-set}
-use Rattle.test_calls.proofs.Told.{told-left, told-stored}
+use Rattle.test_calls.proofs.Told.{told_left, told_stored}
 use borrow.Author.Rules.{rules}
 use Rattle.test_calls.proofs.buffers.tell_six.Statement.{statement}
 use Rattle.test_calls.proofs.buffers.tell_six.Tie as tie
@@ -10,7 +10,7 @@ use Rattle.test_calls.proofs.buffers.tell_six.Lts as lts
 
 -- src/buffers.rt:37:9
 returns : tie.Need-returns
-returns c = told-left _ _ c.if1.true
+returns c = told_left _ _ c.if1.true
 
 -- src/buffers.rt:40:5
 slice-write-buffer-2 : tie.Need-slice-write-buffer-2
@@ -34,7 +34,7 @@ slice-write-buffer-6 c = simp length-set (omega arith)
 
 -- src/buffers.rt:25:1
 returns-2 : tie.Need-returns-2
-returns-2 c = told-stored _ _ (omega arith)
+returns-2 c = told_stored _ _ (omega arith)
 
 pub tell-six-spec : {M : Type 1} → statement M
 tell-six-spec =

@@ -1,6 +1,6 @@
 -- `test_cheapest` meets its contract: `cheapest_plan::call::cheapest`, with the head as six numbers; its steps and cost go to a result of two words. Assumes
 -- nothing.
-use Rattle.test_calls.proofs.PlansLeave.{plan-leaves}
+use Rattle.test_calls.proofs.PlansLeave.{plan_leaves}
 use borrow.Author.Rules.{rules}
 use Rattle.test_calls.proofs.planning.test_cheapest.Statement.{statement}
 use Rattle.test_calls.proofs.planning.test_cheapest.Tie as tie
@@ -43,7 +43,7 @@ returns : tie.Need-returns
 returns c =
     let at_wide = c.before.before.before in
     let at-cheapest = at_wide.before.before.before.before.before.before.before.before in
-    plan-leaves at-cheapest.cheapest.ensures at_wide.wide.ensures c.before.before.tell-two.ensures
+    plan_leaves at-cheapest.cheapest.ensures at_wide.wide.ensures c.before.before.tell-two.ensures
 
 pub test-cheapest-spec : {M : Type 1} → statement M
 test-cheapest-spec =

@@ -1,5 +1,5 @@
 -- `test_read` meets its contract: `task_file::read`; the head goes to a buffer of six words, all 0 after a refusal. Assumes nothing.
-use Rattle.test_calls.proofs.FilesLeave.{read-leaves}
+use Rattle.test_calls.proofs.FilesLeave.{read_leaves}
 use borrow.Author.Rules.{rules}
 use Rattle.test_calls.proofs.reading.test_read.Statement.{statement}
 use Rattle.test_calls.proofs.reading.test_read.Tie as tie
@@ -16,7 +16,7 @@ returns c =
     let at-tell-head = c.before.before.before in
     let at-read-head = at-tell-head.before in
     let at_read = at-read-head.before.before.before.before.before.before.before.before.before.before.before.before in
-    read-leaves _ _ _ _ _ _ _ _ _ _ _ at_read.read.ensures at-read-head.read_head.ensures at-tell-head.tell-head.ensures c.read_number.ensures
+    read_leaves _ _ _ _ _ _ _ _ _ _ _ at_read.read.ensures at-read-head.read_head.ensures at-tell-head.tell-head.ensures c.read_number.ensures
 
 pub test-read-spec : {M : Type 1} → statement M
 test-read-spec =

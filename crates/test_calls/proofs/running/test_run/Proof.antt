@@ -1,5 +1,5 @@
 -- `test_run` meets its contract: `plan::run`, likewise; the result has six words. Assumes nothing.
-use Rattle.test_calls.proofs.RunsLeave.{run-leaves}
+use Rattle.test_calls.proofs.RunsLeave.{run_leaves}
 use borrow.Author.Rules.{rules}
 use Rattle.test_calls.proofs.running.test_run.Statement.{statement}
 use Rattle.test_calls.proofs.running.test_run.Tie as tie
@@ -24,8 +24,8 @@ returns c =
     let at_flag = at-stop-number.before in
     let at_wide = at_flag.before in
     let at-run = at_wide.before.before.before.before.before.before in
-    run-leaves at-run.run.ensures at_wide.wide.ensures at_flag.flag.ensures at-stop-number.stop-number.ensures
-    at-stop-step.stop_step.ensures at-ended-goal.ended-goal.ensures at-tell-six.tell-six.ensures c.refusal-of.ensures
+    run_leaves at-run.run.ensures at_wide.wide.ensures at_flag.flag.ensures at-stop-number.stop_number.ensures
+    at-stop-step.stop_step.ensures at-ended-goal.ended_goal.ensures at-tell-six.tell-six.ensures c.refusal_of.ensures
 
 pub test-run-spec : {M : Type 1} → statement M
 test-run-spec =

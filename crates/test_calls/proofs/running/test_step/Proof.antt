@@ -1,6 +1,6 @@
 -- `test_step` meets its contract: `plan::step`, with the head as six numbers; its steps, cost and goal go to a result of three words. Assumes
 -- nothing.
-use Rattle.test_calls.proofs.RunsLeave.{step-leaves}
+use Rattle.test_calls.proofs.RunsLeave.{step_leaves}
 use borrow.Author.Rules.{rules}
 use Rattle.test_calls.proofs.running.test_step.Statement.{statement}
 use Rattle.test_calls.proofs.running.test_step.Tie as tie
@@ -17,7 +17,7 @@ returns c =
     let at_flag = c.before.before.before in
     let at_wide = at_flag.before in
     let at-step = at_wide.before.before.before.before.before.before in
-    step-leaves at-step.step.ensures at_wide.wide.ensures at_flag.flag.ensures c.before.before.tell-three.ensures
+    step_leaves at-step.step.ensures at_wide.wide.ensures at_flag.flag.ensures c.before.before.tell-three.ensures
 
 pub test-step-spec : {M : Type 1} → statement M
 test-step-spec =

@@ -2,7 +2,7 @@
 -- and all 0. Assumes nothing.
 use native.Mathlib.Omega.{arith}
 use lib.ListN.{length}
-use Rattle.translate_entry.proofs.WordWays.{no-head, with-head}
+use Rattle.translate_entry.proofs.WordWays.{no_head, with-head}
 use borrow.Author.Rules.{rules}
 use Rattle.translate_entry.proofs.call.translate.Statement.{statement}
 use Rattle.translate_entry.proofs.call.translate.Tie as tie
@@ -12,7 +12,7 @@ returns c =
     let at-refuse = c.before.before.before.before in
     let at-if1 = at-refuse.before.before.before in
     let a = at-if1.before.before.before.before.args in
-    no-head a.tables.now (length a.out.now) (length a.result.now) at-if1.if1.true at-refuse.refuse.ensures
+    no_head a.tables.now (length a.out.now) (length a.result.now) at-if1.if1.true at-refuse.refuse.ensures
 
 returns-2 : tie.Need-returns-2
 returns-2 c =

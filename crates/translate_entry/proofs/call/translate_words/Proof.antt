@@ -1,6 +1,6 @@
 -- `translate_words` meets its contract: tables that come as words: the head says where each part begins. Assumes nothing.
 use lib.ListN.{length}
-use Rattle.translate_entry.proofs.WordWays.{words-given}
+use Rattle.translate_entry.proofs.WordWays.{words_given}
 use borrow.Author.Rules.{rules}
 use Rattle.translate_entry.proofs.call.translate_words.Statement.{statement}
 use Rattle.translate_entry.proofs.call.translate_words.Tie as tie
@@ -13,9 +13,9 @@ returns c =
     let at-head-at = at-part-from.before.before.before.before.before in
     let at-args = at-head-at.before.before.before.before in
     let a = at-args.args in
-    words-given a.words.now (length a.out.now) (length a.result.now) at-head-at.head_at.ensures
+    words_given a.words.now (length a.out.now) (length a.result.now) at-head-at.head_at.ensures
     at-part-from.part-from.ensures at-part-from5.before.before.before.part-from2.ensures at-part-from5.before.before.part-from3.ensures
-    at-part-from5.before.part-from4.ensures at-part-from5.part-from5.ensures at-translate-tables.translate-tables.ensures
+    at-part-from5.before.part-from4.ensures at-part-from5.part-from5.ensures at-translate-tables.translate_tables.ensures
 
 pub translate-words-spec : {M : Type 1} → statement M
 translate-words-spec =

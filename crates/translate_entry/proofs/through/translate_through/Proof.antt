@@ -1,10 +1,10 @@
 -- `translate_through` meets its contract: translates through tables that are lent. Assumes nothing.
 use mathlib.Core.Path.{ap, ◌∙◌}
 use lib.ListN.{length}
-use Rattle.finite_domain.specs.Table.{finite-lent}
+use Rattle.finite_domain.specs.Table.{finite_lent}
 use Rattle.translator.specs.declared.TranslateAnswer.{TranslateAnswer}
-use Rattle.translator.specs.Left.{answer-of}
-use Rattle.entry_tables.specs.Inner.Answers.{refused-compile}
+use Rattle.translator.specs.Left.{answer_of}
+use Rattle.entry_tables.specs.Inner.Answers.{refused_compile}
 use Rattle.translate_entry.specs.Inner.Giving.{room_for}
 use Rattle.translate_entry.proofs.Ways.{no-task-translated, translated-kept, translated-given}
 use borrow.Author.Rules.{rules}
@@ -18,10 +18,10 @@ returns c =
     let at-enum-told = at-refused.before in
     let at-translate = at-enum-told.before.before.before.before.before.before.before.before.before.before.before.before in
     let a = at-translate.before.before.before.before.before.before.before.before.before.before.before.before.before.before.before.before.before.before.args in
-    no-task-translated (finite-lent a.head a.counts.now a.initial.now a.formulas.now a.effects.now a.operators.now)
+    no-task-translated (finite_lent a.head a.counts.now a.initial.now a.formulas.now a.effects.now a.operators.now)
     (room_for (length a.values.now) (length a.table.now) (length a.rules.now) (length a.written.now) (length a.scratch.now))
-    at-translate.translate.ensures (length a.out.now) (length a.result.now) (ap answer-of at-enum-told.enum_told.given.1)
-    (at-refused.refused.ensures ∙ ap (λ (x : TranslateAnswer). refused-compile (answer-of x)) at-enum-told.enum_told.given.1)
+    at-translate.translate.ensures (length a.out.now) (length a.result.now) (ap answer_of at-enum-told.enum_told.given.1)
+    (at-refused.refused.ensures ∙ ap (λ (x : TranslateAnswer). refused_compile (answer_of x)) at-enum-told.enum_told.given.1)
     at-refuse.refuse.ensures
 
 give-file-requires : tie.Need-give-file-requires
@@ -29,9 +29,9 @@ give-file-requires c κs =
     let at-r = c.before.before.before.before.before.before.before.before in
     let at-translate = at-r.before.before.before.before.before.before.before.before.before.before.before.before in
     let a = at-translate.before.before.before.before.before.before.before.before.before.before.before.before.before.before.before.before.before.before.args in
-    translated-kept (finite-lent a.head a.counts.now a.initial.now a.formulas.now a.effects.now a.operators.now)
+    translated-kept (finite_lent a.head a.counts.now a.initial.now a.formulas.now a.effects.now a.operators.now)
     (room_for (length a.values.now) (length a.table.now) (length a.rules.now) (length a.written.now) (length a.scratch.now))
-    at-translate.translate.ensures (ap answer-of at-r.r.given.1)
+    at-translate.translate.ensures (ap answer_of at-r.r.given.1)
 
 returns-2 : tie.Need-returns-2
 returns-2 c =
@@ -39,9 +39,9 @@ returns-2 c =
     let at-r = at-give-file.before.before.before.before.before.before.before.before.before in
     let at-translate = at-r.before.before.before.before.before.before.before.before.before.before.before.before in
     let a = at-translate.before.before.before.before.before.before.before.before.before.before.before.before.before.before.before.before.before.before.args in
-    translated-given (finite-lent a.head a.counts.now a.initial.now a.formulas.now a.effects.now a.operators.now)
+    translated-given (finite_lent a.head a.counts.now a.initial.now a.formulas.now a.effects.now a.operators.now)
     (room_for (length a.values.now) (length a.table.now) (length a.rules.now) (length a.written.now) (length a.scratch.now))
-    at-translate.translate.ensures (ap answer-of at-r.r.given.1) (length a.out.now) (length a.result.now)
+    at-translate.translate.ensures (ap answer_of at-r.r.given.1) (length a.out.now) (length a.result.now)
     at-give-file.give-file.ensures
 
 pub translate-through-spec : {M : Type 1} → statement M

@@ -14,11 +14,11 @@ use Prim.Native.Nat.{ℕ}
 use native.Mathlib.Omega.{arith}
 use mathlib.Core.Path.{ap, ◌∙◌}
 use lib.ListN.{replicate, length-replicate}
-use Rattle.finite_domain.specs.Table.{finite-lent}
+use Rattle.finite_domain.specs.Table.{finite_lent}
 use Rattle.translation.specs.Translating.{translating}
 use Rattle.translator.specs.Left.{tables}
-use Rattle.translator.proofs.Cleared.{blanked-self, same-room}
-use Rattle.translator.proofs.Ways.{refuses-first, head_few, roomy, flags-fit, filled-over, filled-done}
+use Rattle.translator.proofs.Cleared.{blanked_self, same_room}
+use Rattle.translator.proofs.Ways.{refuses_first, head_few, roomy, flags-fit, filled-over, filled-done}
 
 same_length : tie.Need-same-length
 same_length c =
@@ -51,8 +51,8 @@ returns c =
     let at-clear-all = at-first-number.before.before.before.before.before.before.before.before.before.before.before.before in
     let at-args = at-clear-all.before.before.before.before.before.before.before.before.before.before.before.before.before.before.before.before in
     let a = at-args.args in
-    let l = finite-lent a.head a.counts.now a.initial.now a.formulas.now a.effects.now a.operators.now in
-    refuses-first l at-first-number.first-number.result (at-first-number.first-number.ensures.refuses c.if1.true) at-clear-all.clear-all.ensures
+    let l = finite_lent a.head a.counts.now a.initial.now a.formulas.now a.effects.now a.operators.now in
+    refuses_first l at-first-number.first_number.result (at-first-number.first_number.ensures.refuses c.if1.true) at-clear-all.clear-all.ensures
 
 sizes-of-requires : tie.Need-sizes-of-requires
 sizes-of-requires c κs =
@@ -61,11 +61,11 @@ sizes-of-requires c κs =
     let at-clear-all = at-first-number.before.before.before.before.before.before.before.before.before.before.before.before in
     let at-args = at-clear-all.before.before.before.before.before.before.before.before.before.before.before.before.before.before.before.before in
     let a = at-args.args in
-    let l = finite-lent a.head a.counts.now a.initial.now a.formulas.now a.effects.now a.operators.now in
+    let l = finite_lent a.head a.counts.now a.initial.now a.formulas.now a.effects.now a.operators.now in
     let y = at-clear-all.clear-all.new in
     let x = tables y.0 y.1.0 y.1.1.0 y.1.1.1.0 y.1.1.1.1.0 in
-    let passed = at-first-number.first-number.ensures.passed at-if1.if1.false in
-    omega (arith, head_few l x passed, at-first-number.first-number.auto.1.1.1.1.1.1.1.0, length-replicate {A = ℕ} 65 0)
+    let passed = at-first-number.first_number.ensures.passed at-if1.if1.false in
+    omega (arith, head_few l x passed, at-first-number.first_number.auto.1.1.1.1.1.1.1.0, length-replicate {A = ℕ} 65 0)
 
 fill-requires : tie.Need-fill-requires
 fill-requires c κs =
@@ -75,12 +75,12 @@ fill-requires c κs =
     let at-clear-all = at-first-number.before.before.before.before.before.before.before.before.before.before.before.before in
     let at-args = at-clear-all.before.before.before.before.before.before.before.before.before.before.before.before.before.before.before.before in
     let a = at-args.args in
-    let l = finite-lent a.head a.counts.now a.initial.now a.formulas.now a.effects.now a.operators.now in
+    let l = finite_lent a.head a.counts.now a.initial.now a.formulas.now a.effects.now a.operators.now in
     let y = at-clear-all.clear-all.new in
     let x = tables y.0 y.1.0 y.1.1.0 y.1.1.1.0 y.1.1.1.1.0 in
-    let passed = at-first-number.first-number.ensures.passed at-if1.if1.false in
-    let words = at-first-number.first-number.auto.1.1.1.1.1.1.1.0 ∙ length-replicate {A = ℕ} 65 0 in
-    roomy l x passed at-sizes-of.sizes-of.ensures words (blanked-self at-clear-all.clear-all.ensures)
+    let passed = at-first-number.first_number.ensures.passed at-if1.if1.false in
+    let words = at-first-number.first_number.auto.1.1.1.1.1.1.1.0 ∙ length-replicate {A = ℕ} 65 0 in
+    roomy l x passed at-sizes-of.sizes-of.ensures words (blanked_self at-clear-all.clear-all.ensures)
 
 same-length-6 : tie.Need-same-length-6
 same-length-6 c =
@@ -121,12 +121,12 @@ returns-2 c =
     let at-clear-all = at-first-number.before.before.before.before.before.before.before.before.before.before.before.before in
     let at-args = at-clear-all.before.before.before.before.before.before.before.before.before.before.before.before.before.before.before.before in
     let a = at-args.args in
-    let l = finite-lent a.head a.counts.now a.initial.now a.formulas.now a.effects.now a.operators.now in
+    let l = finite_lent a.head a.counts.now a.initial.now a.formulas.now a.effects.now a.operators.now in
     let y = at-clear-all.clear-all.new in
     let x = tables y.0 y.1.0 y.1.1.0 y.1.1.1.0 y.1.1.1.1.0 in
-    let passed = at-first-number.first-number.ensures.passed at-if1.if1.false in
-    filled-over l x passed at-sizes-of.sizes-of.ensures at_fill_lem.fill.ensures (blanked-self at-clear-all.clear-all.ensures) c.if2.true
-    ∙ ap (translating l) (same-room at-clear-all.clear-all.ensures)
+    let passed = at-first-number.first_number.ensures.passed at-if1.if1.false in
+    filled-over l x passed at-sizes-of.sizes-of.ensures at_fill_lem.fill.ensures (blanked_self at-clear-all.clear-all.ensures) c.if2.true
+    ∙ ap (translating l) (same_room at-clear-all.clear-all.ensures)
 
 translated-head-requires : tie.Need-translated-head-requires
 translated-head-requires c κs =
@@ -136,10 +136,10 @@ translated-head-requires c κs =
     let at-clear-all = at-first-number.before.before.before.before.before.before.before.before.before.before.before.before in
     let at-args = at-clear-all.before.before.before.before.before.before.before.before.before.before.before.before.before.before.before.before in
     let a = at-args.args in
-    let l = finite-lent a.head a.counts.now a.initial.now a.formulas.now a.effects.now a.operators.now in
+    let l = finite_lent a.head a.counts.now a.initial.now a.formulas.now a.effects.now a.operators.now in
     let y = at-clear-all.clear-all.new in
     let x = tables y.0 y.1.0 y.1.1.0 y.1.1.1.0 y.1.1.1.1.0 in
-    let passed = at-first-number.first-number.ensures.passed at-if1.if1.false in
+    let passed = at-first-number.first_number.ensures.passed at-if1.if1.false in
     flags-fit l x passed at-sizes-of.sizes-of.ensures
 
 same-length-11 : tie.Need-same-length-11
@@ -184,13 +184,13 @@ returns-3 c =
     let at-clear-all = at-first-number.before.before.before.before.before.before.before.before.before.before.before.before in
     let at-args = at-clear-all.before.before.before.before.before.before.before.before.before.before.before.before.before.before.before.before in
     let a = at-args.args in
-    let l = finite-lent a.head a.counts.now a.initial.now a.formulas.now a.effects.now a.operators.now in
+    let l = finite_lent a.head a.counts.now a.initial.now a.formulas.now a.effects.now a.operators.now in
     let y = at-clear-all.clear-all.new in
     let x = tables y.0 y.1.0 y.1.1.0 y.1.1.1.0 y.1.1.1.1.0 in
-    let passed = at-first-number.first-number.ensures.passed at-if1.if1.false in
+    let passed = at-first-number.first_number.ensures.passed at-if1.if1.false in
     let zero = at-clear-words.clear-words.ensures ∙ ap (λ (m : ℕ). replicate m 0) at_fill_lem.fill.auto.1.1.1.1.1.1.1.1.1.1.1.0 in
     filled-done l x passed at-sizes-of.sizes-of.ensures at_fill_lem.fill.ensures at-if2.if2.false c.translated-head.ensures zero
-    ∙ ap (translating l) (same-room at-clear-all.clear-all.ensures)
+    ∙ ap (translating l) (same_room at-clear-all.clear-all.ensures)
 
 pub translate-spec : {M : Type 1} → statement M
 translate-spec =

@@ -7,7 +7,7 @@ use mathlib.Core.Path.{◌∙◌}
 use Rattle.translator.specs.Left.{tables}
 use Rattle.translator.specs.Inner.Fills.{counted}
 use Rattle.translator.proofs.Cleared.{as_long}
-use Rattle.translator.proofs.Owned.{few-effects, owns-large, finish-asks, tried-done, tried-over, misfits}
+use Rattle.translator.proofs.Owned.{few_effects, owns-large, finish-asks, tried-done, tried-over, misfits}
 
 build-requires : tie.Need-build-requires
 build-requires c κs =
@@ -28,7 +28,7 @@ finish-requires c κs =
     let x = tables a.values.now a.table.now a.out.now a.written.now a.scratch.now in
     let stood = at-build.build.ensures a.ranges.now a.initial.now b.begins.source in
     let same = at-build.build.kept.1.1.1.1.1.1.1.1.1.0 in
-    finish-asks g x b.begins stood same 37376 (omega (arith, b.begins.spaced.rows-limit)) (omega (arith, few-effects g x b.begins))
+    finish-asks g x b.begins stood same 37376 (omega (arith, b.begins.spaced.rows_limit)) (omega (arith, few_effects g x b.begins))
     at-build.build.kept.1.1.1.1.1.1.1.1.0 at-build.build.kept.1.1.1.1.1.1.1.1.1.1.0
 
 same-length-5 : tie.Need-same-length-5

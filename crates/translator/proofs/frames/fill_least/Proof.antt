@@ -28,7 +28,7 @@ finish-requires c κs =
     let x = tables a.values.now a.table.now a.out.now a.written.now a.scratch.now in
     let stood = at-build.build.ensures a.ranges.now a.initial.now b.begins.source in
     let same = at-build.build.kept.1.1.1.1.1.1.1.1.1.0 in
-    finish-asks g x b.begins stood same 1184 (omega (arith, b.few-rows)) (omega (arith, b.few-effects))
+    finish-asks g x b.begins stood same 1184 (omega (arith, b.few_rows)) (omega (arith, b.few_effects))
     at-build.build.kept.1.1.1.1.1.1.1.1.0 at-build.build.kept.1.1.1.1.1.1.1.1.1.1.0
 
 same-length-5 : tie.Need-same-length-5

@@ -7,16 +7,16 @@ use Rattle.translator.proofs.numbers.first_number.Lts as lts
 use Rattle.finite_domain.proofs.check.check.Reads as check-reads
 use Rattle.flag_tables.proofs.first_flags.Reads as first-flags-reads
 use mathlib.Core.Path.{sym, ◌∙◌}
-use Rattle.finite_domain.specs.Table.{finite-lent}
+use Rattle.finite_domain.specs.Table.{finite_lent}
 use Rattle.translator.specs.Inner.Sizes.{room_by}
-use Rattle.translator.proofs.Refusing.{flags-asked, by-the-check, short-scratch, short-operators, many-flags, short-initial, no_number}
+use Rattle.translator.proofs.Refusing.{flags_asked, by-the-check, short-scratch, short-operators, many-flags, short-initial, no_number}
 
 returns : tie.Need-returns
 returns c =
     let at-check = c.before in
     let at-args = at-check.before.before.before.before.before.before.before in
     let a = at-args.args in
-    let l = finite-lent a.head a.counts.now a.initial.now a.formulas.now a.effects.now a.operators.now in
+    let l = finite_lent a.head a.counts.now a.initial.now a.formulas.now a.effects.now a.operators.now in
     by-the-check l (room_by a.lengths) a.firsts.now at-check.check.result at-check.check.ensures c.if1.true
 
 returns-2 : tie.Need-returns-2
@@ -25,7 +25,7 @@ returns-2 c =
     let at-check = at-if1.before in
     let at-args = at-check.before.before.before.before.before.before.before in
     let a = at-args.args in
-    let l = finite-lent a.head a.counts.now a.initial.now a.formulas.now a.effects.now a.operators.now in
+    let l = finite_lent a.head a.counts.now a.initial.now a.formulas.now a.effects.now a.operators.now in
     let passes = sym at-check.check.ensures ∙ at-if1.if1.false in
     short-scratch l (room_by a.lengths) a.firsts.now passes c.if2.true
 
@@ -36,7 +36,7 @@ returns-3 c =
     let at-check = at-if1.before in
     let at-args = at-check.before.before.before.before.before.before.before in
     let a = at-args.args in
-    let l = finite-lent a.head a.counts.now a.initial.now a.formulas.now a.effects.now a.operators.now in
+    let l = finite_lent a.head a.counts.now a.initial.now a.formulas.now a.effects.now a.operators.now in
     let passes = sym at-check.check.ensures ∙ at-if1.if1.false in
     short-operators l (room_by a.lengths) a.firsts.now passes at-if2.if2.false c.if3.true
 
@@ -46,9 +46,9 @@ first-flags-requires c κs =
     let at-check = at-if1.before in
     let at-args = at-check.before.before.before.before.before.before.before in
     let a = at-args.args in
-    let l = finite-lent a.head a.counts.now a.initial.now a.formulas.now a.effects.now a.operators.now in
+    let l = finite_lent a.head a.counts.now a.initial.now a.formulas.now a.effects.now a.operators.now in
     let passes = sym at-check.check.ensures ∙ at-if1.if1.false in
-    flags-asked l a.firsts.now passes at-args.requires
+    flags_asked l a.firsts.now passes at-args.requires
 
 returns-4 : tie.Need-returns-4
 returns-4 c =
@@ -58,7 +58,7 @@ returns-4 c =
     let at-check = at-if1.before in
     let at-args = at-check.before.before.before.before.before.before.before in
     let a = at-args.args in
-    let l = finite-lent a.head a.counts.now a.initial.now a.formulas.now a.effects.now a.operators.now in
+    let l = finite_lent a.head a.counts.now a.initial.now a.formulas.now a.effects.now a.operators.now in
     let passes = sym at-check.check.ensures ∙ at-if1.if1.false in
     many-flags l (room_by a.lengths) at-first-flags.first-flags.new.1.1.0 passes at-if2.if2.false at-first-flags.first-flags.ensures c.if4.true
 
@@ -70,7 +70,7 @@ returns-5 c =
     let at-check = at-if1.before in
     let at-args = at-check.before.before.before.before.before.before.before in
     let a = at-args.args in
-    let l = finite-lent a.head a.counts.now a.initial.now a.formulas.now a.effects.now a.operators.now in
+    let l = finite_lent a.head a.counts.now a.initial.now a.formulas.now a.effects.now a.operators.now in
     let passes = sym at-check.check.ensures ∙ at-if1.if1.false in
     short-initial l (room_by a.lengths) at-first-flags.first-flags.new.1.1.0 passes at-if2.if2.false at-first-flags.first-flags.ensures c.if5.true
 
@@ -84,7 +84,7 @@ returns-6 c =
     let at-check = at-if1.before in
     let at-args = at-check.before.before.before.before.before.before.before in
     let a = at-args.args in
-    let l = finite-lent a.head a.counts.now a.initial.now a.formulas.now a.effects.now a.operators.now in
+    let l = finite_lent a.head a.counts.now a.initial.now a.formulas.now a.effects.now a.operators.now in
     let passes = sym at-check.check.ensures ∙ at-if1.if1.false in
     no_number l (room_by a.lengths) at-first-flags.first-flags.new.1.1.0 passes at-if2.if2.false at-first-flags.first-flags.ensures at-if3.if3.false at-if4.if4.false c.if5.false
 

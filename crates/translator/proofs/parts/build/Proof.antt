@@ -6,7 +6,7 @@ use Rattle.translator.proofs.parts.build.Reads as reads
 use Rattle.translator.proofs.parts.build.Lts as lts
 use Rattle.flag_tables.proofs.flag_rows.Reads as flag-rows-reads
 use Rattle.operator_guards.proofs.build_guards.Reads as build-guards-reads
-use Rattle.compile_parts.proofs.Asked.{zero-at}
+use Rattle.compile_parts.proofs.Asked.{zero_at}
 use Rattle.translator.proofs.Built.{formulas-over-asked, effects-over-asked, guards-asked, all-built}
 
 flag-rows-requires : tie.Need-flag-rows-requires
@@ -24,7 +24,7 @@ build-guards-requires c κs =
     let at-flag-rows2 = c.before.before.before.before.before.before.before.before.before in
     let at-flag-rows = at-flag-rows2.before.before.before.before in
     let at-args = at-flag-rows.before.before.before.before.before.before.before.before.before.before.before.before.before in
-    guards-asked at-args.requires at-flag-rows.flag-rows.ensures at-flag-rows2.flag-rows2.ensures at-flag-rows.flag-rows.auto.1.1.1.1.1.0 at-flag-rows2.flag-rows2.auto.1.1.1.1.1.0 _ (zero-at 1)
+    guards-asked at-args.requires at-flag-rows.flag-rows.ensures at-flag-rows2.flag-rows2.ensures at-flag-rows.flag-rows.auto.1.1.1.1.1.0 at-flag-rows2.flag-rows2.auto.1.1.1.1.1.0 _ (zero_at 1)
 
 returns : tie.Need-returns
 returns c =

@@ -6,7 +6,7 @@ use native.Mathlib.Omega.{arith}
 use mathlib.Core.Path.{refl}
 use Rattle.translator.specs.Left.{tables}
 use Rattle.translator.specs.Inner.Fills.{counted}
-use Rattle.translator.proofs.Finished.{spaced-any, nothing-built, goal-there, goal-some, rows-small, rows-there, rows-space, effects-ready, effects-over, operators-ready, values-ready, effects-small, all_done}
+use Rattle.translator.proofs.Finished.{spaced_any, nothing-built, goal-there, goal-some, rows_small, rows-there, rows_space, effects-ready, effects-over, operators-ready, values-ready, effects-small, all_done}
 
 returns : tie.Need-returns
 returns c =
@@ -17,8 +17,8 @@ returns c =
     let g = counted a.sizes a.ranges.now a.initial.now in
     let x = tables a.values.now a.table.now a.out.now a.written.now a.scratch.now in
     λ formulas s stood.
-    nothing-built (g formulas a.effects.now a.operators.now a.firsts.now) s x (spaced-any formulas p.spaced)
-    a.preconditions.now a.built.now a.rows p.preconditions-space p.built-space p.places-space stood at-if1.if1.taken c.no_room.ensures
+    nothing-built (g formulas a.effects.now a.operators.now a.firsts.now) s x (spaced_any formulas p.spaced)
+    a.preconditions.now a.built.now a.rows p.preconditions_space p.built_space p.places_space stood at-if1.if1.taken c.no_room.ensures
 
 mul-copy-words : tie.Need-mul-copy-words
 mul-copy-words c =
@@ -28,8 +28,8 @@ mul-copy-words c =
     let p = at_entry_lem.pre in
     let g = counted a.sizes a.ranges.now a.initial.now p.formulas a.effects.now a.operators.now a.firsts.now in
     let x = tables a.values.now a.table.now a.out.now a.written.now a.scratch.now in
-    let few = rows-small g p.source x p.spaced
-    a.preconditions.now a.built.now a.rows p.preconditions-space p.built-space p.places-space p.stood at-if1.if1.left in
+    let few = rows_small g p.source x p.spaced
+    a.preconditions.now a.built.now a.rows p.preconditions_space p.built_space p.places_space p.stood at-if1.if1.left in
     omega (arith, few)
 
 copy-words-requires : tie.Need-copy-words-requires
@@ -41,9 +41,9 @@ copy-words-requires c κs =
     let g = counted a.sizes a.ranges.now a.initial.now p.formulas a.effects.now a.operators.now a.firsts.now in
     let x = tables a.values.now a.table.now a.out.now a.written.now a.scratch.now in
     let there = rows-there g p.source x p.spaced
-    a.preconditions.now a.built.now a.rows p.preconditions-space p.built-space p.places-space p.stood at-if1.if1.left in
-    let space = rows-space g p.source x p.spaced
-    a.preconditions.now a.built.now a.rows p.preconditions-space p.built-space p.places-space p.stood at-if1.if1.left in
+    a.preconditions.now a.built.now a.rows p.preconditions_space p.built_space p.places_space p.stood at-if1.if1.left in
+    let space = rows_space g p.source x p.spaced
+    a.preconditions.now a.built.now a.rows p.preconditions_space p.built_space p.places_space p.stood at-if1.if1.left in
     (there, space)
 
 write-effects-requires : tie.Need-write-effects-requires
@@ -55,7 +55,7 @@ write-effects-requires c κs =
     let g = counted a.sizes a.ranges.now a.initial.now p.formulas a.effects.now a.operators.now a.firsts.now in
     let x = tables a.values.now a.table.now a.out.now a.written.now a.scratch.now in
     effects-ready g p.source x p.spaced
-    a.preconditions.now a.built.now a.rows p.preconditions-space p.built-space p.places-space p.stood at-if1.if1.left
+    a.preconditions.now a.built.now a.rows p.preconditions_space p.built_space p.places_space p.stood at-if1.if1.left
 
 returns-2 : tie.Need-returns-2
 returns-2 c =
@@ -68,8 +68,8 @@ returns-2 c =
     let g = counted a.sizes a.ranges.now a.initial.now in
     let x = tables a.values.now a.table.now a.out.now a.written.now a.scratch.now in
     λ formulas s stood.
-    effects-over (g formulas a.effects.now a.operators.now a.firsts.now) s x (spaced-any formulas p.spaced)
-    a.preconditions.now a.built.now a.rows p.preconditions-space p.built-space p.places-space stood at-if1.if1.left
+    effects-over (g formulas a.effects.now a.operators.now a.firsts.now) s x (spaced_any formulas p.spaced)
+    a.preconditions.now a.built.now a.rows p.preconditions_space p.built_space p.places_space stood at-if1.if1.left
     at-write-effects.write-effects.ensures at-write-effects.write-effects.kept.1.1.1.1.1.0 at-if2.if2.taken c.no-room2.ensures
 
 write-operators-requires : tie.Need-write-operators-requires
@@ -82,7 +82,7 @@ write-operators-requires c κs =
     let g = counted a.sizes a.ranges.now a.initial.now p.formulas a.effects.now a.operators.now a.firsts.now in
     let x = tables a.values.now a.table.now a.out.now a.written.now a.scratch.now in
     operators-ready g p.source x p.spaced
-    a.preconditions.now a.built.now a.rows p.preconditions-space p.built-space p.places-space p.stood at-if1.if1.left
+    a.preconditions.now a.built.now a.rows p.preconditions_space p.built_space p.places_space p.stood at-if1.if1.left
     at-write-effects.write-effects.ensures at-write-effects.write-effects.kept.1.1.1.1.1.0
 
 write-flags-requires : tie.Need-write-flags-requires
@@ -95,7 +95,7 @@ write-flags-requires c κs =
     let g = counted a.sizes a.ranges.now a.initial.now p.formulas a.effects.now a.operators.now a.firsts.now in
     let x = tables a.values.now a.table.now a.out.now a.written.now a.scratch.now in
     values-ready g p.source x p.spaced
-    a.preconditions.now a.built.now a.rows p.preconditions-space p.built-space p.places-space p.stood at-if1.if1.left
+    a.preconditions.now a.built.now a.rows p.preconditions_space p.built_space p.places_space p.stood at-if1.if1.left
     at-write-effects.write-effects.ensures at-write-effects.write-effects.kept.1.1.1.1.1.0
 
 cast-t35 : tie.Need-cast-t35
@@ -107,8 +107,8 @@ cast-t35 c =
     let p = at_entry_lem.pre in
     let g = counted a.sizes a.ranges.now a.initial.now p.formulas a.effects.now a.operators.now a.firsts.now in
     let x = tables a.values.now a.table.now a.out.now a.written.now a.scratch.now in
-    let few = rows-small g p.source x p.spaced
-    a.preconditions.now a.built.now a.rows p.preconditions-space p.built-space p.places-space p.stood at-if1.if1.left in
+    let few = rows_small g p.source x p.spaced
+    a.preconditions.now a.built.now a.rows p.preconditions_space p.built_space p.places_space p.stood at-if1.if1.left in
     omega (arith, few)
 
 cast-t36 : tie.Need-cast-t36
@@ -122,7 +122,7 @@ cast-t36 c =
     let g = counted a.sizes a.ranges.now a.initial.now p.formulas a.effects.now a.operators.now a.firsts.now in
     let x = tables a.values.now a.table.now a.out.now a.written.now a.scratch.now in
     let few = effects-small g p.source x p.spaced
-    a.preconditions.now a.built.now a.rows p.preconditions-space p.built-space p.places-space p.stood at-if1.if1.left
+    a.preconditions.now a.built.now a.rows p.preconditions_space p.built_space p.places_space p.stood at-if1.if1.left
     at-write-effects.write-effects.ensures at-write-effects.write-effects.kept.1.1.1.1.1.0 at-if2.if2.left in
     omega (arith, few)
 
@@ -136,7 +136,7 @@ mul-t24 c =
     let g = counted a.sizes a.ranges.now a.initial.now p.formulas a.effects.now a.operators.now a.firsts.now in
     let x = tables a.values.now a.table.now a.out.now a.written.now a.scratch.now in
     let there = goal-there g p.source x p.spaced
-    a.preconditions.now a.built.now a.rows p.preconditions-space p.built-space p.places-space p.stood at-if1.if1.left in
+    a.preconditions.now a.built.now a.rows p.preconditions_space p.built_space p.places_space p.stood at-if1.if1.left in
     omega (arith, there, at_entry_lem.good, at_entry_lem.fits)
 
 shared-slice-read-t38 : tie.Need-shared-slice-read-t38
@@ -149,7 +149,7 @@ shared-slice-read-t38 c =
     let g = counted a.sizes a.ranges.now a.initial.now p.formulas a.effects.now a.operators.now a.firsts.now in
     let x = tables a.values.now a.table.now a.out.now a.written.now a.scratch.now in
     goal-there g p.source x p.spaced
-    a.preconditions.now a.built.now a.rows p.preconditions-space p.built-space p.places-space p.stood at-if1.if1.left
+    a.preconditions.now a.built.now a.rows p.preconditions_space p.built_space p.places_space p.stood at-if1.if1.left
 
 sub-t39 : tie.Need-sub-t39
 sub-t39 c =
@@ -161,7 +161,7 @@ sub-t39 c =
     let g = counted a.sizes a.ranges.now a.initial.now p.formulas a.effects.now a.operators.now a.firsts.now in
     let x = tables a.values.now a.table.now a.out.now a.written.now a.scratch.now in
     goal-some g p.source x p.spaced
-    a.preconditions.now a.built.now a.rows p.preconditions-space p.built-space p.places-space p.stood at-if1.if1.left
+    a.preconditions.now a.built.now a.rows p.preconditions_space p.built_space p.places_space p.stood at-if1.if1.left
 
 returns-3 : tie.Need-returns-3
 returns-3 c =
@@ -177,11 +177,11 @@ returns-3 c =
     let g = counted a.sizes a.ranges.now a.initial.now in
     let x = tables a.values.now a.table.now a.out.now a.written.now a.scratch.now in
     λ formulas s stood.
-    all_done (g formulas a.effects.now a.operators.now a.firsts.now) s x (spaced-any formulas p.spaced)
-    a.preconditions.now a.built.now a.rows p.preconditions-space p.built-space p.places-space stood at-if1.if1.left
+    all_done (g formulas a.effects.now a.operators.now a.firsts.now) s x (spaced_any formulas p.spaced)
+    a.preconditions.now a.built.now a.rows p.preconditions_space p.built_space p.places_space stood at-if1.if1.left
     at-write-effects.write-effects.ensures at-write-effects.write-effects.kept.1.1.1.1.1.0 at-if2.if2.left
-    at-write-operators.write-operators.ensures at-write-flags.write-flags.ensures at-copy-words.copy-words.ensures refl p.blank-initial p.blank-formulas p.blank-effects
-    p.blank-operators
+    at-write-operators.write-operators.ensures at-write-flags.write-flags.ensures at-copy-words.copy-words.ensures refl p.blank_initial p.blank_formulas p.blank_effects
+    p.blank_operators
 
 pub finish_spec : {M : Type 1} → statement M
 finish_spec =

@@ -7,8 +7,8 @@ use Rattle.variable_changes.proofs.conflict.deletes.Lts as lts
 use Rattle.conditions.proofs.condition.Reads as condition-reads
 use Rattle.formula_builder.proofs.join.Reads as join-reads
 use Rattle.formula_builder.specs.Inner.Held.{store, framed}
-use Rattle.conditions.specs.Inner.Conditions.{condition-at}
-use Rattle.variable_changes.proofs.Standing.{asks-condition, never-set, never-cleared, negated-full, negated-join-asks, negated-joined}
+use Rattle.conditions.specs.Inner.Conditions.{condition_at}
+use Rattle.variable_changes.proofs.Standing.{asks_condition, never-set, never-cleared, negated-full, negated-join-asks, negated-joined}
 use borrow.Author.Tests.{eq-eqb, ne_eqb}
 use Rattle.formula_builder.specs.Inner.Held.{sized}
 use mathlib.Core.Path.{refl}
@@ -31,10 +31,10 @@ returns-2 c =
 condition-requires : tie.Need-condition-requires
 condition-requires c κs =
     let at_pre = c.before.before.before.before.before.before.before.before.before.before.before.before.before.before.before.before in
-    asks-condition _ at_pre.requires.stands at_pre.requires.variable
+    asks_condition _ at_pre.requires.stands at_pre.requires.variable
 
 returns-3 : tie.Need-returns-3
-unfolding condition-at
+unfolding condition_at
 returns-3 c =
     let at-condition = c.before.before.before.before.before.before.before.before.before in
     let at-if2 = at-condition.before.before.before.before.before.before.before in
@@ -46,7 +46,7 @@ returns-3 c =
     at-if2.if2.false at-condition.condition.ensures (eq-eqb _ 65535 c.if3.true)
 
 join-requires : tie.Need-join-requires
-unfolding condition-at
+unfolding condition_at
 join-requires c κs =
     let at-if3 = c.before.before.before in
     let at-condition = at-if3.before.before.before.before.before.before.before.before.before in
@@ -59,7 +59,7 @@ join-requires c κs =
     at-if2.if2.false at-condition.condition.ensures (ne_eqb _ 65535 at-if3.if3.false)
 
 returns-4 : tie.Need-returns-4
-unfolding condition-at
+unfolding condition_at
 returns-4 c =
     let at-if3 = c.before.before.before.before.before.before in
     let at-condition = at-if3.before.before.before.before.before.before.before.before.before in

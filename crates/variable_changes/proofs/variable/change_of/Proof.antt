@@ -8,51 +8,51 @@ use Rattle.variable_changes.proofs.conflict.deletes.Reads as deletes-reads
 use Rattle.conditions.proofs.condition_if.Reads as condition-if-reads
 use mathlib.Core.Path.{◌∙◌}
 use Rattle.images.specs.Inner.Images.{becoming}
-use Rattle.images.proofs.Memos.{steady-becoming}
-use Rattle.conditions.specs.Inner.Conditions.{effect-tree, condition-at}
-use Rattle.variable_changes.proofs.Standing.{asks-condition, leaves-full, set_full, clear-full, change-made, stands-at-next}
+use Rattle.images.proofs.Memos.{steady_becoming}
+use Rattle.conditions.specs.Inner.Conditions.{effect_tree, condition_at}
+use Rattle.variable_changes.proofs.Standing.{asks_condition, leaves_full, set_full, clear-full, change-made, stands_at_next}
 use borrow.Author.Tests.{eq-eqb, ne_eqb}
 use Rattle.formula_builder.specs.Inner.Held.{framed}
 
 returns : tie.Need-returns
-unfolding condition-at
+unfolding condition_at
 returns c =
     let at-condition-if = c.before.before.before.before.before.before.before.before.before.before in
     let at-args = at-condition-if.before.before.before.before.before.before.before.before.before.before.before.before.before in
     rw c.no_room.ensures (
-      set_full (becoming (framed at-args.args.frame.now)) (steady-becoming (framed at-args.args.frame.now)) at-args.args.v
-          (effect-tree (framed at-args.args.frame.now) at-args.args.formulas.now at-args.args.effects.now at-args.args.e)
+      set_full (becoming (framed at-args.args.frame.now)) (steady_becoming (framed at-args.args.frame.now)) at-args.args.v
+          (effect_tree (framed at-args.args.frame.now) at-args.args.formulas.now at-args.args.effects.now at-args.args.e)
           at-condition-if.condition-if.ensures (eq-eqb _ 65535 c.before.if1.true),
-      leaves-full,
+      leaves_full,
     )
 
 condition-if-requires : tie.Need-condition-if-requires
 condition-if-requires c κs =
     let at_pre = c.before.before.before.before.before.before.before.before.before.before.before.before in
-    asks-condition _ at_pre.requires.0 at_pre.requires.1
+    asks_condition _ at_pre.requires.0 at_pre.requires.1
 
 condition-if-requires-2 : tie.Need-condition-if-requires-2
 condition-if-requires-2 c κs =
     let at-if1 = c.before.before.before.before.before.before in
     let at-condition-if = at-if1.before.before.before.before.before.before.before.before.before in
     let at_pre = at-condition-if.before.before.before.before.before.before.before.before.before.before.before.before.before in
-    asks-condition _
-    (stands-at-next at_pre.requires.0 at-condition-if.condition-if.ensures (ne_eqb _ 65535 at-if1.if1.false)
+    asks_condition _
+    (stands_at_next at_pre.requires.0 at-condition-if.condition-if.ensures (ne_eqb _ 65535 at-if1.if1.false)
     at-condition-if.condition-if.auto.1.1.1.1.1.1.1.1.1.1.0)
     at_pre.requires.1
 
 returns-2 : tie.Need-returns-2
-unfolding condition-at
+unfolding condition_at
 returns-2 c =
     let at-condition-if2 = c.before.before.before.before.before.before.before.before.before.before in
     let at-if1 = at-condition-if2.before.before.before.before.before.before.before in
     let at-condition-if = at-if1.before.before.before.before.before.before.before.before.before in
     let at-args = at-condition-if.before.before.before.before.before.before.before.before.before.before.before.before.before in
     rw c.no-room2.ensures (
-      clear-full (becoming (framed at-args.args.frame.now)) (steady-becoming (framed at-args.args.frame.now)) at-args.args.v
-          (effect-tree (framed at-args.args.frame.now) at-args.args.formulas.now at-args.args.effects.now at-args.args.e)
+      clear-full (becoming (framed at-args.args.frame.now)) (steady_becoming (framed at-args.args.frame.now)) at-args.args.v
+          (effect_tree (framed at-args.args.frame.now) at-args.args.formulas.now at-args.args.effects.now at-args.args.e)
           at-condition-if.condition-if.ensures (ne_eqb _ 65535 at-if1.if1.false) at-condition-if2.condition-if2.ensures (eq-eqb _ 65535 c.before.if2.true),
-      leaves-full,
+      leaves_full,
     )
 
 deletes-requires : tie.Need-deletes-requires
@@ -64,8 +64,8 @@ deletes-requires c κs =
     let at_pre = at-condition-if.before.before.before.before.before.before.before.before.before.before.before.before.before in
     record {
       stands =
-          stands-at-next
-          (stands-at-next at_pre.requires.0 at-condition-if.condition-if.ensures (ne_eqb _ 65535 at-if1.if1.false)
+          stands_at_next
+          (stands_at_next at_pre.requires.0 at-condition-if.condition-if.ensures (ne_eqb _ 65535 at-if1.if1.false)
           at-condition-if.condition-if.auto.1.1.1.1.1.1.1.1.1.1.0)
           at-condition-if2.condition-if2.ensures (ne_eqb _ 65535 at-if2.if2.false)
           at-condition-if2.condition-if2.auto.1.1.1.1.1.1.1.1.1.1.0;
@@ -105,7 +105,7 @@ same-length-12 c =
     at-condition-if.condition-if.auto.1.1.1.1.1.1.1.1.1.1.0
 
 returns-3 : tie.Need-returns-3
-unfolding condition-at
+unfolding condition_at
 returns-3 c =
     let at-deletes = c.before.before.before.before.before.before.before.before in
     let at-if2 = at-deletes.before.before.before.before.before.before.before in
@@ -113,8 +113,8 @@ returns-3 c =
     let at-if1 = at-condition-if2.before.before.before.before.before.before.before in
     let at-condition-if = at-if1.before.before.before.before.before.before.before.before.before in
     let at-args = at-condition-if.before.before.before.before.before.before.before.before.before.before.before.before.before in (
-      change-made (becoming (framed at-args.args.frame.now)) (steady-becoming (framed at-args.args.frame.now)) at-args.args.v
-          (effect-tree (framed at-args.args.frame.now) at-args.args.formulas.now at-args.args.effects.now at-args.args.e)
+      change-made (becoming (framed at-args.args.frame.now)) (steady_becoming (framed at-args.args.frame.now)) at-args.args.v
+          (effect_tree (framed at-args.args.frame.now) at-args.args.formulas.now at-args.args.effects.now at-args.args.e)
           at-condition-if.condition-if.ensures (ne_eqb _ 65535 at-if1.if1.false) at-condition-if2.condition-if2.ensures
           (ne_eqb _ 65535 at-if2.if2.false) at-deletes.deletes.ensures,
       record { noted = at-deletes.deletes.ensures.noted },
